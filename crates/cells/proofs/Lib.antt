@@ -1,0 +1,7 @@
+-- The laws of cells, in the order of the definitions.
+pub mod Places
+pub mod Bytes
+pub mod Setting
+pub mod Levels
+pub mod Raising
+pub mod Climbs

@@ -1,0 +1,27 @@
+-- Lists, sums and numbers, made place by place.
+--   listOf n f   the list f 0, f 1, .. f (n - 1)
+--   sumOf n f    their sum
+--   number n f   the number whose bit i is f i
+--   Each P l     every element of a list has the property P
+use mathlib.Core.List.{List, [], _∷_}
+use Prim.Native.Nat.{ℕ, zero, suc, _+_, _*_}
+
+-- f 0, f 1, .. f (n - 1)
+unfoldable pub listOf : {A : Type 0} → ℕ → (ℕ → A) → List A
+listOf zero f = []
+listOf (suc n) f = f 0 ∷ listOf n (λ i. f (suc i))
+
+-- f 0 + f 1 + .. + f (n - 1)
+unfoldable pub sumOf : ℕ → (ℕ → ℕ) → ℕ
+sumOf zero f = 0
+sumOf (suc n) f = f 0 + sumOf n (λ i. f (suc i))
+
+-- f 0 · 1 + f 1 · 2 + .. + f (n - 1) · 2 ^ (n - 1): the number of these n bits, 'bit 0 being worth 1'
+unfoldable pub number : ℕ → (ℕ → ℕ) → ℕ
+number zero f = 0
+number (suc n) f = f 0 + 2 * number n (λ i. f (suc i))
+
+-- every element of a list has the property P
+pub data Each {G : Type 0} (P : G → Type 0) : List G → Type 0 where
+  no-more : Each P []
+  and-each : {g : G} {gs : List G} → P g → Each P gs → Each P (g ∷ gs)

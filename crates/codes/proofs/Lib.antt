@@ -1,0 +1,9 @@
+-- The laws of the codes: the algebra of convolution, then what the paper's sums and the program's taps have to do with it.
+pub mod Sequences
+pub mod Registers
+pub mod Coset
+pub mod Sums
+pub mod Encoders
+pub mod Numbers
+pub mod Parities
+pub mod Digits

@@ -1,0 +1,219 @@
+-- What the taps and the windows of the program mean: parities are the paper's sums.
+use mathlib.Core.Path.{_≡_, sym, _∙_, ap, ap₂}
+use mathlib.Core.List.{List}
+use Prim.Native.Nat.{ℕ, zero, suc, _<_, _≤_, _+_, _*_, _-_, _/_, _%_, _^_, min, compare·suc-suc}
+use native.Mathlib.Omega.{arith}
+use native.Mathlib.Nat.{div-div-eq-div-mul, mul-assoc, mul-comm, mod-lt, pow-suc, zero-lt-suc, zero-div}
+use lib.Bits.{bitAnd, and-step, and-zero-l}
+use lib.Count.{ones, ones-step}
+use borrow.Author.Tests.{lt-ltb, le-ltb}
+use lib.Pow.{pow-pos, pow-mono, shl-exact, field, mod-mod-pow}
+use lib.ListN.{length, getD, set}
+use lib.Seq.{getD-set-same, getD-set-other}
+use borrow.Author.Count.{below-more}
+use Rattle.cells.specs.Places.{sumOf, number}
+use Rattle.cells.specs.Bytes.{bytesOf}
+use Rattle.cells.specs.Levels.{level}
+use Rattle.cells.proofs.Places.{listOf-same, listOf-getD, sumOf-same, sumOf-add, number-same}
+use Rattle.codes.specs.Generators.{Generators, digit}
+use Rattle.codes.specs.Codes.{named}
+use Rattle.codes.specs.declared.Name.{Name}
+use Rattle.codes.specs.declared.Name.the-variants.{Short, Long}
+use Rattle.codes.specs.Reading.{ago, dataBit, firstBit, secondBit, readStrip}
+use Rattle.codes.specs.Taps.{tapsOf, parityOf, windowOf, tappedBit}
+
+-- NUMBERS. A number grows by its last bit
+pub number-more : (n : ℕ) (f : ℕ → ℕ) → number (suc n) f ≡ number n f + f n * 2 ^ n
+unfolding number
+number-more zero f = omega arith
+number-more (suc n) f =
+    let p : f (suc n) * 2 ^ suc n ≡ 2 * (f (suc n) * 2 ^ n) = ap (λ (x : ℕ). f (suc n) * x) (pow-suc 2 n) ∙ sym (mul-assoc (f (suc n)) (2 ^ n) 2) ∙ mul-comm (f (suc n) * 2 ^ n) 2 in
+    omega (arith, p, number-more n (λ i. f (suc i)))
+
+-- n bits make a number below 2 ^ n
+pub number-less : (n : ℕ) (f : ℕ → ℕ) → ((i : ℕ) → f i < 2) → number n f < 2 ^ n
+unfolding number
+number-less zero f b = omega arith
+number-less (suc n) f b = omega (arith, b 0, number-less n (λ i. f (suc i)) (λ i. b (suc i)))
+
+-- the code's b << i for a bit b
+bit-shl : (b i w : ℕ) → b < 2 → i < w → (b * 2 ^ i) % 2 ^ w ≡ b * 2 ^ i
+bit-shl b i w h l = shl-exact 1 i w h (omega arith)
+
+-- the code's 1 << i
+pub one-shl : (i w : ℕ) → i < w → (1 * 2 ^ i) % 2 ^ w ≡ 2 ^ i
+one-shl i w l = let e : 1 * 2 ^ i ≡ 2 ^ i = omega arith in bit-shl 1 i w (omega arith) l ∙ e
+
+-- i bits added up and the next make i + 1 bits added up
+pub number-next : (i w d b : ℕ) (f : ℕ → ℕ) → ((k : ℕ) → f k < 2) → i < w → d ≡ number i f → b ≡ f i → d + (b * 2 ^ i) % 2 ^ w ≡ number (i + 1) f
+number-next i w d b f h l p q =
+    let e : (b * 2 ^ i) % 2 ^ w ≡ f i * 2 ^ i = bit-shl b i w (rw q (h i)) l ∙ ap (λ (y : ℕ). y * 2 ^ i) q in
+    let s : suc i ≡ i + 1 = omega arith in
+    ap₂ _+_ p e ∙ sym (number-more i f) ∙ ap (λ (k : ℕ). number k f) s
+
+-- at most w bits fit w bits
+pub number-fits : (i w : ℕ) (f : ℕ → ℕ) → ((k : ℕ) → f k < 2) → i ≤ w → number i f < 2 ^ w
+number-fits i w f h l = omega (arith, number-less i f h, pow-mono l)
+
+-- bit i + 1 is bit i of the half
+half-bit : (w i : ℕ) → w / 2 ^ suc i ≡ w / 2 / 2 ^ i
+half-bit w i = let e : 2 ^ suc i ≡ 2 * 2 ^ i = omega arith in ap (λ (d : ℕ). w / d) e ∙ sym (div-div-eq-div-mul w 2 (2 ^ i))
+
+-- TAPS. The lesser of two bits is their product
+min-product : (a b : ℕ) → a < 2 → b < 2 → min a b ≡ a * b
+min-product zero b h k = omega arith
+min-product (suc zero) b h k = omega arith
+min-product (suc (suc a)) b h k = absurd (let z : ⊥ = omega arith in z)
+
+-- the ones of a number are its last bit and those of its half
+ones-pair : (x r : ℕ) → r < 2 → ones (x * 2 + r) ≡ r + ones x
+ones-pair x r h = ones-step (x * 2 + r) ∙ ap₂ (λ (a b : ℕ). a + ones b) (omega arith) (omega arith)
+
+-- taps meet as many ones of a window as the sum of tap i times bit i says
+pub taps-bits : (n : ℕ) (f : ℕ → ℕ) → ((i : ℕ) → f i < 2) → (w : ℕ) → ones (bitAnd (number n f) w) ≡ sumOf n (λ i. f i * (w / 2 ^ i % 2))
+unfolding number sumOf ones
+taps-bits zero f b w = ap ones (and-zero-l w)
+taps-bits (suc n) f b w =
+    let h : f 0 < 2 = b 0 in
+    let N : ℕ = number n (λ i. f (suc i)) in
+    let m : min (f 0) (w % 2) ≡ f 0 * (w % 2) = min-product (f 0) (w % 2) h (mod-lt w (zero-lt-suc 1)) in
+    let e : w / 1 ≡ w = omega arith in
+    ap ones (and-step (f 0 + 2 * N) w ∙ ap₂ (λ (x y : ℕ). bitAnd x (w / 2) * 2 + min y (w % 2)) (half (f 0) N h) (low (f 0) N h))
+    ∙ ones-pair (bitAnd N (w / 2)) (min (f 0) (w % 2)) (omega arith)
+    ∙ ap₂ (λ (x y : ℕ). x + y) (m ∙ ap (λ (y : ℕ). f 0 * (y % 2)) (sym e))
+    (taps-bits n (λ i. f (suc i)) (λ i. b (suc i)) (w / 2) ∙ sumOf-same n _ _ (λ i l. ap (λ (y : ℕ). f (suc i) * (y % 2)) (sym (half-bit w i))))
+  where
+    half : (a x : ℕ) → a < 2 → (a + 2 * x) / 2 ≡ x
+    half a x h = omega arith
+
+    low : (a x : ℕ) → a < 2 → (a + 2 * x) % 2 ≡ a
+    low a x h = omega arith
+
+-- a digit is 0 or 1
+pub digit-bound : (m g i : ℕ) → digit m g i < 2
+unfolding digit
+digit-bound m g i = mod-lt _ (zero-lt-suc 1)
+
+-- a parity is the sum mod 2 of digit i times bit i of the window
+pub parity-digits : (m g w : ℕ) → parityOf (tapsOf m g) w ≡ sumOf (suc m) (λ i. digit m g i * (w / 2 ^ i % 2)) % 2
+unfolding parityOf tapsOf
+parity-digits m g w = ap (λ (x : ℕ). x % 2) (taps-bits (suc m) (digit m g) (digit-bound m g) w)
+
+-- WINDOWS. The last n bits of a number keep its bit i
+low-bit : (n i y : ℕ) → i < n → y % 2 ^ n / 2 ^ i % 2 ≡ y / 2 ^ i % 2
+low-bit n i y h =
+    let e : n ≡ n - suc i + 1 + i = omega arith in
+    ap (λ (k : ℕ). y % 2 ^ k / 2 ^ i % 2) e ∙ ap (λ (z : ℕ). z % 2) (field y (n - suc i + 1) i) ∙ mod-mod-pow (y / 2 ^ i) (n - suc i) 1
+
+-- no stage ago is now
+ago-now : (x : ℕ → ℕ) (t : ℕ) → ago x t 0 ≡ x t
+unfolding ago
+ago-now x t = let e : t - 0 ≡ t = omega arith in rw (le-ltb t 0 (omega arith), e)
+
+-- before stage 0 all is 0
+ago-before : (x : ℕ → ℕ) (i : ℕ) → ago x 0 (suc i) ≡ 0
+unfolding ago
+ago-before x i = rw (lt-ltb 0 (suc i) (omega arith))
+
+-- a stage later, a stage more ago
+ago-more : (x : ℕ → ℕ) (t i : ℕ) → ago x (suc t) (suc i) ≡ ago x t i
+unfolding ago
+ago-more x t i = let e : suc t - suc i ≡ t - i = omega arith in rw (compare·suc-suc (suc t) i, e)
+
+-- bit i of a window is what the sequence was i stages ago
+pub window-bit : (n : ℕ) (x : ℕ → ℕ) → ((t : ℕ) → x t < 2) → (t i : ℕ) → i < n → windowOf n x (suc t) / 2 ^ i % 2 ≡ ago x t i
+unfolding windowOf
+window-bit n x b t zero h =
+    let k : x t < 2 = b t in
+    let e : (2 * windowOf n x t + x t) / 1 % 2 ≡ x t = omega arith in
+    low-bit n 0 (2 * windowOf n x t + x t) h ∙ e ∙ sym (ago-now x t)
+window-bit n x b zero (suc i) h =
+    let k : x 0 < 2 = b 0 in
+    let e : (2 * 0 + x 0) / 2 ≡ 0 = omega arith in
+    low-bit n (suc i) (2 * 0 + x 0) h ∙ ap (λ (y : ℕ). y % 2) (half-bit (2 * 0 + x 0) i ∙ ap (λ (y : ℕ). y / 2 ^ i) e ∙ zero-div (2 ^ i)) ∙ sym (ago-before x i)
+window-bit n x b (suc t) (suc i) h =
+    let k : x (suc t) < 2 = b (suc t) in
+    let w : ℕ = windowOf n x (suc t) in
+    let e : (2 * w + x (suc t)) / 2 ≡ w = omega arith in
+    low-bit n (suc i) (2 * w + x (suc t)) h ∙ ap (λ (y : ℕ). y % 2) (half-bit (2 * w + x (suc t)) i ∙ ap (λ (y : ℕ). y / 2 ^ i) e) ∙ window-bit n x b t i (omega arith) ∙ sym (ago-more x t i)
+
+-- a window of n bits is below 2 ^ n
+pub window-less : (n : ℕ) (x : ℕ → ℕ) (t : ℕ) → windowOf n x t < 2 ^ n
+unfolding windowOf
+window-less n x zero = pow-pos n
+window-less n x (suc t) = mod-lt _ (pow-pos n)
+
+-- a parity with a window is the sum mod 2 of digit i times what the sequence was i stages ago
+pub parity-window : (n : ℕ) (x : ℕ → ℕ) → ((t : ℕ) → x t < 2) → (m g t : ℕ) → m < n → parityOf (tapsOf m g) (windowOf n x (suc t)) ≡ sumOf (suc m) (λ i. digit m g i * ago x t i) % 2
+parity-window n x b m g t h =
+    parity-digits m g (windowOf n x (suc t)) ∙ ap (λ (y : ℕ). y % 2) (sumOf-same (suc m) _ _ (λ i l. ap (λ (y : ℕ). digit m g i * y) (window-bit n x b t i (omega arith))))
+
+-- the bit of a first cell is 0 or 1
+first-bound : (v : ℕ → ℕ) (t : ℕ) → firstBit v t < 2
+unfolding firstBit
+first-bound v t = mod-lt _ (zero-lt-suc 1)
+
+-- so is that of a second
+second-bound : (v : ℕ → ℕ) (t : ℕ) → secondBit v t < 2
+unfolding secondBit
+second-bound v t = mod-lt _ (zero-lt-suc 1)
+
+-- the data bit by taps and windows is the paper's
+pub tapped-data : (G : Generators) (v : ℕ → ℕ) (t : ℕ) → G .memory ≤ 6 → tappedBit (tapsOf (G .memory) (G .g1)) (tapsOf (G .memory) (G .g2)) v t ≡ dataBit G (firstBit v) (secondBit v) t
+unfolding tappedBit dataBit
+tapped-data G v t h =
+    let m : ℕ = G .memory in
+    omega (
+      arith,
+      parity-window 7 (firstBit v) (first-bound v) m (G .g2) t (omega arith),
+      parity-window 7 (secondBit v) (second-bound v) m (G .g1) t (omega arith),
+      sumOf-add (suc m) (λ i. digit m (G .g2) i * ago (firstBit v) t i) (λ i. digit m (G .g1) i * ago (secondBit v) t i),
+    )
+
+-- a data bit is 0 or 1
+pub tapped-bound : (first second : ℕ) (v : ℕ → ℕ) (t : ℕ) → tappedBit first second v t < 2
+unfolding tappedBit
+tapped-bound first second v t = mod-lt _ (zero-lt-suc 1)
+
+-- READING A BYTE. At bit i of byte q the first cell's bit comes into the first window
+module _ (v : ℕ → ℕ) (q i : ℕ) where
+  pub first-next : (a l : ℕ) → a ≡ windowOf 7 (firstBit v) (8 * q + i) → l ≡ v (16 * q + 2 * i) → (2 * a + l % 2) % 128 ≡ windowOf 7 (firstBit v) (8 * q + (i + 1))
+  unfolding windowOf firstBit
+  first-next a l e f =
+      let c : 16 * q + 2 * i ≡ 2 * (8 * q + i) = omega arith in
+      let s : suc (8 * q + i) ≡ 8 * q + (i + 1) = omega arith in
+      ap₂ (λ (x y : ℕ). (2 * x + y % 2) % 128) e (f ∙ ap v c) ∙ ap (windowOf 7 (firstBit v)) s
+
+  -- and the second cell's into the second
+  pub second-next : (b l : ℕ) → b ≡ windowOf 7 (secondBit v) (8 * q + i) → l ≡ v (16 * q + 2 * i + 1) → (2 * b + l % 2) % 128 ≡ windowOf 7 (secondBit v) (8 * q + (i + 1))
+  unfolding windowOf secondBit
+  second-next b l e f =
+      let c : 16 * q + 2 * i + 1 ≡ 2 * (8 * q + i) + 1 = omega arith in
+      let s : suc (8 * q + i) ≡ 8 * q + (i + 1) = omega arith in
+      ap₂ (λ (x y : ℕ). (2 * x + y % 2) % 128) e (f ∙ ap v c) ∙ ap (windowOf 7 (secondBit v)) s
+
+  -- and their parities make the data bit
+  pub data-next : (first second a b p r : ℕ) → a ≡ windowOf 7 (firstBit v) (8 * q + (i + 1)) → b ≡ windowOf 7 (secondBit v) (8 * q + (i + 1))
+      → p ≡ parityOf second a → r ≡ parityOf first b → (p + r) % 2 ≡ tappedBit first second v (8 * q + i)
+  unfolding tappedBit
+  data-next first second a b p r e f g h =
+      let s : 8 * q + (i + 1) ≡ suc (8 * q + i) = omega arith in
+      ap₂ (λ (x y : ℕ). (x + y) % 2) (g ∙ ap (parityOf second) (e ∙ ap (windowOf 7 (firstBit v)) s)) (h ∙ ap (parityOf first) (f ∙ ap (windowOf 7 (secondBit v)) s))
+
+-- READING A STRIP. A place more is stored
+pub store-more : (r : List ℕ) (n x : ℕ) (f : ℕ → ℕ) → n < length r → x ≡ f n → ((k : ℕ) → k < n → getD r k 0 ≡ f k) → (k : ℕ) → k < n + 1 → getD (set r n x) k 0 ≡ f k
+store-more r n x f h e p =
+    below-more (λ (k : ℕ). getD (set r n x) k 0 ≡ f k) n (λ k l. getD-set-other r n k x 0 (λ z. omega arith) ∙ p k l) (getD-set-same r n x 0 h ∙ e)
+
+-- bytes of data bits by the taps of a code are what the strip reads as
+pub read-bytes : (G : Generators) (first second n : ℕ) (strip bytes : List ℕ) → G .memory ≤ 6 → first ≡ tapsOf (G .memory) (G .g1) → second ≡ tapsOf (G .memory) (G .g2)
+    → length bytes ≡ n → ((k : ℕ) → k < n → getD bytes k 0 ≡ number 8 (λ i. tappedBit first second (level strip) (8 * k + i))) → bytes ≡ readStrip G n strip
+unfolding readStrip bytesOf
+read-bytes G first second n strip bytes m f s e b =
+    sym (listOf-getD n bytes 0 e)
+    ∙ listOf-same n _ _ (λ k h. b k h ∙ number-same 8 _ _ (λ i l. ap₂ (λ (x y : ℕ). tappedBit x y (level strip) (8 * k + i)) f s ∙ tapped-data G (level strip) (8 * k + i) m))
+
+-- THE CODES. The memory of a code
+pub memory-bounds : (n : Name) → (2 ≤ named n .memory) × (named n .memory ≤ 6)
+memory-bounds Short = (omega arith, omega arith)
+memory-bounds Long = (omega arith, omega arith)

@@ -1,0 +1,164 @@
+-- A register of the last bits: conv is what a register sums, the quotient is what a fed back register gives, and the register steps back.
+use mathlib.Core.Path.{_≡_, refl, sym, _∙_, ap, ap₂, fun-ext}
+use mathlib.Core.Bool.{Bool, true, false, _&&_}
+use mathlib.Core.List.{List, [], _∷_, _++_}
+use Prim.Native.Nat.{ℕ, zero, suc, _<_, _≤_}
+use native.Mathlib.Omega.{arith}
+use native.Mathlib.Nat.{not-suc-le-zero}
+use lib.ListN.{length, getD, take, replicate, length-replicate}
+use lib.Seq.{take-take, take-all, length-take-le}
+use Rattle.codes.specs.Sequences.{_+₂_, Bits, zeros, _⊕_, scale, shift, conv, Agree}
+use Rattle.codes.specs.Registers.{dot, push, register, quotient, forth, back}
+use Rattle.codes.proofs.Sequences.{+₂-assoc, +₂-comm, +₂-self, +₂-false, agree-down, agree-trans, conv-inj}
+
+-- the bits before stage t, the newest first, with m zeros before stage 0
+unfoldable pub hist : ℕ → ℕ → Bits → List Bool
+hist m zero u = replicate m false
+hist m (suc t) u = u t ∷ hist m t u
+
+-- the bits before t depend on what stands below t
+pub hist-agree : (m t : ℕ) {u v : Bits} → Agree t u v → hist m t u ≡ hist m t v
+unfolding hist
+hist-agree m zero e = refl
+hist-agree m (suc t) {u} {v} e = ap₂ (λ (b : Bool) (l : List Bool). b ∷ l) (e .at t (omega arith)) (hist-agree m t (agree-down e))
+
+-- the register of m bits at stage 0
+pub hist-zero : (m : ℕ) (u : Bits) → take m (hist m 0 u) ≡ replicate m false
+unfolding hist
+hist-zero m u = take-all m (replicate m false) (omega (arith, length-replicate m false))
+
+-- conv at a stage is the sum of the generator with the bits so far
+dot-null : (m : ℕ) (g : List Bool) → dot g (replicate m false) ≡ false
+unfolding dot
+dot-null m [] = refl
+dot-null zero (g ∷ gs) = refl
+dot-null (suc m) (true ∷ gs) = rw (dot-null m gs)
+dot-null (suc m) (false ∷ gs) = rw (dot-null m gs)
+
+-- the law itself
+pub conv-dot : (m : ℕ) (g : List Bool) (u : Bits) (t : ℕ) → conv g u t ≡ dot g (hist m (suc t) u)
+unfolding conv zeros scale shift _⊕_ dot hist
+conv-dot m [] u t = refl
+conv-dot m (g ∷ gs) u zero = ap (λ (b : Bool). (g && u 0) +₂ b) (sym (dot-null m gs))
+conv-dot m (g ∷ gs) u (suc t) = ap (λ (b : Bool). (g && u (suc t)) +₂ b) (conv-dot m gs u t)
+
+-- a register of m bits keeps what generators of m + 1 digits reach
+pub dot-take : (m : ℕ) (gs h : List Bool) → length gs ≤ m → dot gs (take m h) ≡ dot gs h
+unfolding dot
+dot-take m [] h l = refl
+dot-take zero (g ∷ gs) h l = absurd (not-suc-le-zero l)
+dot-take (suc m) (g ∷ gs) [] l = refl
+dot-take (suc m) (g ∷ gs) (x ∷ h) l = ap (λ (b : Bool). (g && x) +₂ b) (dot-take m gs h (omega arith))
+
+-- the same with the newest bit in front
+pub dot-state : (m : ℕ) (G : List Bool) (b : Bool) (h : List Bool) → length G ≤ suc m → dot G (b ∷ take m h) ≡ dot G (b ∷ h)
+unfolding dot
+dot-state m [] b h l = refl
+dot-state m (g ∷ gs) b h l = ap (λ (x : Bool). (g && b) +₂ x) (dot-take m gs h (omega arith))
+
+-- pushing on a register of the last bits gives the register of the last bits
+pub push-state : (m : ℕ) (b : Bool) (h : List Bool) → push m b (take m h) ≡ take m (b ∷ h)
+unfolding push
+push-state zero b h = refl
+push-state (suc m) b h = ap (λ (l : List Bool). b ∷ l) (take-take m (suc m) h (omega arith))
+
++₂-again : (x y : Bool) → x +₂ y +₂ y ≡ x
++₂-again x y = +₂-assoc x y y ∙ ap (λ (z : Bool). x +₂ z) (+₂-self y) ∙ +₂-false x
+
+-- THE QUOTIENT: times the generator it is the data, and nothing else is
+module _ (m : ℕ) (gs : List Bool) where
+  -- the register holds the quotient's last bits
+  pub register-hist : (d : Bits) (t : ℕ) → register m gs d t ≡ take m (hist m t (quotient m gs d))
+  unfolding register hist quotient
+  register-hist d zero = sym (hist-zero m (quotient m gs d))
+  register-hist d (suc t) = ap (push m (quotient m gs d t)) (register-hist d t) ∙ push-state m (quotient m gs d t) (hist m t (quotient m gs d))
+
+  module _ (l : length gs ≤ m) where
+    sum-quotient : (d : Bits) (t : ℕ) → dot (true ∷ gs) (hist m (suc t) (quotient m gs d)) ≡ d t
+    unfolding dot hist quotient
+    sum-quotient d t =
+        ap (λ (x : Bool). d t +₂ dot gs (register m gs d t) +₂ x) (sym (dot-take m gs (hist m t (quotient m gs d)) l) ∙ ap (dot gs) (sym (register-hist d t)))
+        ∙ +₂-again (d t) (dot gs (register m gs d t))
+
+    -- the generator times the quotient is the data
+    pub conv-quotient : (d : Bits) → conv (true ∷ gs) (quotient m gs d) ≡ d
+    conv-quotient d = fun-ext λ t. conv-dot m (true ∷ gs) (quotient m gs d) t ∙ sum-quotient d t
+
+    -- the quotient of a product is the factor, below stage n and for all stages
+    pub quotient-below : (n : ℕ) (x d : Bits) → Agree n (conv (true ∷ gs) x) d → Agree n x (quotient m gs d)
+    quotient-below n x d e = conv-inj n gs x (quotient m gs d) (rw (conv-quotient d) e)
+
+    -- for all stages
+    pub quotient-conv : (x : Bits) → quotient m gs (conv (true ∷ gs) x) ≡ x
+    quotient-conv x =
+        let d : Bits = conv (true ∷ gs) x in
+        fun-ext λ t. sym (quotient-below (suc t) x d (record { at = λ s h. refl }) .at t (omega arith))
+
+-- cancellation for all stages
+pub conv-cancel : (gs : List Bool) (x y : Bits) → conv (true ∷ gs) x ≡ conv (true ∷ gs) y → x ≡ y
+conv-cancel gs x y e = fun-ext λ t. conv-inj (suc t) gs x y (record { at = λ s h. ap (λ (z : Bits). z s) e }) .at t (omega arith)
+
+-- THE STEP BACK: a register that was stepped is recovered from the data bit, where the generator's last digit is 1
+final : Bool → List Bool → Bool
+final x [] = x
+final x (y ∷ ys) = final y ys
+
+take-final : (x : Bool) (xs : List Bool) → take (length xs) (x ∷ xs) ++ final x xs ∷ [] ≡ x ∷ xs
+unfolding final
+take-final x [] = refl
+take-final x (y ∷ ys) = ap (λ (l : List Bool). x ∷ l) (take-final y ys)
+
+dot-final : (gs : List Bool) (x : Bool) (xs : List Bool) → length gs ≡ suc (length xs) → getD gs (length xs) false ≡ true
+    → dot gs (x ∷ xs) ≡ dot gs (take (length xs) (x ∷ xs)) +₂ final x xs
+unfolding dot final
+dot-final [] x xs e f = let z : _≡_ {A = ℕ} 0 (suc (length xs)) = e in absurd (omega arith)
+dot-final (g ∷ []) x [] e f = rw f (+₂-comm x false)
+dot-final (g ∷ h ∷ gs) x [] e f = let z : suc (suc (length gs)) ≡ 1 = e in absurd (omega arith)
+dot-final (g ∷ gs) x (y ∷ ys) e f =
+    let k : length gs ≡ suc (length ys) = omega arith in
+    ap (λ (b : Bool). (g && x) +₂ b) (dot-final gs y ys k f) ∙ sym (+₂-assoc (g && x) _ _)
+
+recover : (b d f : Bool) → b +₂ (d +₂ f) +₂ b +₂ d ≡ f
+recover false false false = refl
+recover false false true = refl
+recover false true false = refl
+recover false true true = refl
+recover true false false = refl
+recover true false true = refl
+recover true true false = refl
+recover true true true = refl
+
+-- a step and a step back
+pub back-forth : (gs : List Bool) (b : Bool) (s : List Bool) → length s ≡ length gs → getD (true ∷ gs) (length gs) false ≡ true
+    → back gs b (forth (length gs) gs b s) ≡ s
+unfolding back forth push
+back-forth [] b [] e f = refl
+back-forth [] b (x ∷ xs) e f = let z : suc (length xs) ≡ 0 = e in absurd (omega arith)
+back-forth (g ∷ gs) b [] e f = let z : _≡_ {A = ℕ} 0 (suc (length gs)) = e in absurd (omega arith)
+back-forth (g ∷ gs) b (x ∷ xs) e f =
+    let k : length gs ≡ length xs = omega arith in
+    let D : Bool = dot (g ∷ gs) (take (length xs) (x ∷ xs)) in
+    rw k
+    (ap (λ (q : Bool). take (length xs) (x ∷ xs) ++ (b +₂ q +₂ b +₂ D) ∷ []) (dot-final (g ∷ gs) x xs (ap suc k) (rw k at f))
+    ∙ ap (λ (q : Bool). take (length xs) (x ∷ xs) ++ q ∷ []) (recover b D (final x xs)) ∙ take-final x xs)
+
+-- the register has m bits; its newest bit is the last bit of the quotient; and it steps back
+pub register-length : (m : ℕ) (gs : List Bool) (d : Bits) (t : ℕ) → length (register m gs d t) ≡ m
+unfolding register push
+register-length m gs d zero = length-replicate m false
+register-length m gs d (suc t) = length-take-le m _ (omega (arith, register-length m gs d t))
+
+-- the register after stage t shows the quotient's bit t
+pub register-newest : (m : ℕ) (gs : List Bool) (d : Bits) (t : ℕ) → 0 < m → getD (register m gs d (suc t)) 0 false ≡ quotient m gs d t
+unfolding register push quotient
+register-newest zero gs d t h = absurd (not-suc-le-zero h)
+register-newest (suc m) gs d t h = refl
+
+-- the register of stage t from that after it and the data bit
+pub register-back : (m : ℕ) (gs : List Bool) → length gs ≡ m → getD (true ∷ gs) m false ≡ true → (d : Bits) (t : ℕ)
+    → back gs (d t) (register m gs d (suc t)) ≡ register m gs d t
+unfolding register forth
+register-back m gs e f d t =
+    let s : List Bool = register m gs d t in
+    let k : length s ≡ length gs = register-length m gs d t ∙ sym e in
+    ap (λ (n : ℕ). back gs (d t) (push n (d t +₂ dot gs s) s)) (sym e) ∙ back-forth gs (d t) s k (ap (λ (n : ℕ). getD (true ∷ gs) n false) e ∙ f)

@@ -1,0 +1,10 @@
+-- What the crate `codes` promises is stated by `Generators`, `Reading`, `Taps` and `Codes`; the others are the algebra behind the search.
+pub mod Generators
+pub mod Reading
+pub mod Taps
+pub mod Codes
+pub mod Sequences
+pub mod Registers
+pub mod Numbers
+pub mod Encoders
+pub mod Coset

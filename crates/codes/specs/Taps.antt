@@ -1,0 +1,47 @@
+-- What the code computes with: a generator's digits as the bits of one number, and windows of the last bits, the newest bit worth 1.
+--   tapsOf m g           the generator's digits, digit i worth 2 ^ i
+--   parityOf taps w      the sum mod 2 of digit i times bit i of the window w
+--   wordOf G w           a branch's two output bits, by the window of its last input digits
+--   labelOf taps r d     the label of a stage: the data divided by G1
+--   forthOf, backOf      the register of the last labels, a stage on and a stage back
+--   windowOf n x t       the last n of the bits x 0 .. x (t − 1)
+--   tappedBit f s v t    data bit t by such windows of the cells' bits
+use Prim.Native.Nat.{ℕ, zero, suc, _+_, _*_, _-_, _/_, _%_, _^_}
+use lib.Bits.{bitAnd}
+use lib.Count.{ones}
+use Rattle.cells.specs.Places.{number}
+use Rattle.codes.specs.Generators.{Generators, digit}
+use Rattle.codes.specs.Reading.{firstBit, secondBit}
+
+-- the generator's digits from the present stage back, digit i worth 2 ^ i
+unfoldable pub tapsOf : ℕ → ℕ → ℕ
+tapsOf m g = number (suc m) (digit m g)
+
+-- how many taps meet a one of the window, mod 2
+unfoldable pub parityOf : ℕ → ℕ → ℕ
+parityOf taps w = ones (bitAnd taps w) % 2
+
+-- the two output bits of a branch, G1's worth 1 and G2's worth 2
+unfoldable pub wordOf : Generators → ℕ → ℕ
+wordOf G w = parityOf (tapsOf (G .memory) (G .g1)) w + 2 * parityOf (tapsOf (G .memory) (G .g2)) w
+
+-- the label x(t) is the data bit plus G1's digit i times x(t−i), over i from 1 on, mod 2: bit i − 1 of the register is x(t−i)
+unfoldable pub labelOf : ℕ → ℕ → ℕ → ℕ
+labelOf taps r d = (d + parityOf (taps / 2) r) % 2
+
+-- the register a stage later: the label comes in, the oldest label goes
+unfoldable pub forthOf : ℕ → ℕ → ℕ → ℕ → ℕ
+forthOf m taps r d = (2 * r + labelOf taps r d) % 2 ^ m
+
+-- the register a stage earlier: the newest label tells the oldest, whose tap is 1
+unfoldable pub backOf : ℕ → ℕ → ℕ → ℕ → ℕ
+backOf m taps r d = r / 2 + labelOf taps (r / 2) (r % 2 + d) * 2 ^ (m - 1)
+
+-- the last n bits of a sequence before stage t, the newest worth 1
+unfoldable pub windowOf : ℕ → (ℕ → ℕ) → ℕ → ℕ
+windowOf n x zero = 0
+windowOf n x (suc t) = (2 * windowOf n x t + x t) % 2 ^ n
+
+-- data bit t by windows of the last seven cell bits: the most that a generator of memory 6 reaches
+unfoldable pub tappedBit : ℕ → ℕ → (ℕ → ℕ) → ℕ → ℕ
+tappedBit first second v t = (parityOf second (windowOf 7 (firstBit v) (suc t)) + parityOf first (windowOf 7 (secondBit v) (suc t))) % 2
