@@ -8,18 +8,14 @@ use lib.ListN.{length, getD, take, drop}
 use lib.Seq.{getD-take, getD-drop}
 use Rattle.cells.specs.Places.{number}
 use Rattle.cells.specs.Bytes.{bitOf, bytesOf}
-use Rattle.cells.proofs.Places.{length-listOf, listOf-at, listOf-same, listOf-getD, number-same}
+use Rattle.cells.proofs.Places.{length-listOf, listOf-at, listOf-same, listOf-getD, number-same, half-power}
 
 -- a bit is 0 or 1
 pub bit-bound : (bytes : List ℕ) (k : ℕ) → bitOf bytes k < 2
 unfolding bitOf
 bit-bound bytes k = mod-lt _ (zero-lt-suc 1)
 
--- NUMBERS. Halving drops bit 0
-half-power : (x j : ℕ) → x / 2 ^ suc j ≡ x / 2 / 2 ^ j
-half-power x j = let e : 2 ^ suc j ≡ 2 * 2 ^ j = omega arith in ap (λ (d : ℕ). x / d) e ∙ sym (div-div-eq-div-mul x 2 (2 ^ j))
-
--- the bits of the number of some bits are these
+-- NUMBERS. The bits of the number of some bits are these
 pub number-bit : (n : ℕ) (f : ℕ → ℕ) → ((i : ℕ) → i < n → f i < 2) → (j : ℕ) → j < n → (number n f / 2 ^ j) % 2 ≡ f j
 unfolding number
 number-bit zero f b j h = absurd (not-suc-le-zero h)

@@ -1,11 +1,13 @@
 -- Lists, sums and numbers, place by place: their lengths, their places, and that they depend on their places alone.
 use mathlib.Core.Path.{_≡_, refl, sym, _∙_, ap, ap₂}
 use mathlib.Core.List.{List, _∷_, _++_}
-use Prim.Native.Nat.{ℕ, zero, suc, _<_, _≤_, _+_, _*_}
+use Prim.Native.Nat.{ℕ, zero, suc, _<_, _≤_, _+_, _*_, _/_, _%_, _^_}
 use native.Mathlib.Omega.{arith}
-use native.Mathlib.Nat.{not-suc-le-zero}
-use lib.ListN.{length, getD}
-use lib.Seq.{ext-getD}
+use native.Mathlib.Nat.{not-suc-le-zero, div-div-eq-div-mul, mul-assoc, mul-comm, pow-suc}
+use lib.Pow.{pow-mono, shl-exact}
+use lib.ListN.{length, getD, set}
+use lib.Seq.{ext-getD, getD-set-same, getD-set-other}
+use borrow.Author.Count.{below-more}
 use Rattle.cells.specs.Places.{listOf, sumOf, number}
 
 module _ {A : Type 0} where
@@ -77,3 +79,55 @@ pub sumOf-add : (n : ℕ) (f g : ℕ → ℕ) → sumOf n (λ i. f i + g i) ≡ 
 unfolding sumOf
 sumOf-add zero f g = refl
 sumOf-add (suc n) f g = omega (arith, sumOf-add n (λ i. f (suc i)) (λ i. g (suc i)))
+
+-- NUMBERS. A number grows by its last bit
+pub number-more : (n : ℕ) (f : ℕ → ℕ) → number (suc n) f ≡ number n f + f n * 2 ^ n
+unfolding number
+number-more zero f = omega arith
+number-more (suc n) f =
+    let p : f (suc n) * 2 ^ suc n ≡ 2 * (f (suc n) * 2 ^ n) = ap (λ (x : ℕ). f (suc n) * x) (pow-suc 2 n) ∙ sym (mul-assoc (f (suc n)) (2 ^ n) 2) ∙ mul-comm (f (suc n) * 2 ^ n) 2 in
+    omega (arith, p, number-more n (λ i. f (suc i)))
+
+-- n bits make a number below 2 ^ n
+pub number-less : (n : ℕ) (f : ℕ → ℕ) → ((i : ℕ) → f i < 2) → number n f < 2 ^ n
+unfolding number
+number-less zero f b = omega arith
+number-less (suc n) f b = omega (arith, b 0, number-less n (λ i. f (suc i)) (λ i. b (suc i)))
+
+-- the code's b << i for a bit b
+bit-shl : (b i w : ℕ) → b < 2 → i < w → (b * 2 ^ i) % 2 ^ w ≡ b * 2 ^ i
+bit-shl b i w h l = shl-exact 1 i w h (omega arith)
+
+-- the code's 1 << i
+pub one-shl : (i w : ℕ) → i < w → (1 * 2 ^ i) % 2 ^ w ≡ 2 ^ i
+one-shl i w l = let e : 1 * 2 ^ i ≡ 2 ^ i = omega arith in bit-shl 1 i w (omega arith) l ∙ e
+
+-- i bits added up and the next make i + 1 bits added up
+pub number-next : (i w d b : ℕ) (f : ℕ → ℕ) → ((k : ℕ) → f k < 2) → i < w → d ≡ number i f → b ≡ f i → d + (b * 2 ^ i) % 2 ^ w ≡ number (i + 1) f
+number-next i w d b f h l p q =
+    let e : (b * 2 ^ i) % 2 ^ w ≡ f i * 2 ^ i = bit-shl b i w (rw q (h i)) l ∙ ap (λ (y : ℕ). y * 2 ^ i) q in
+    let s : suc i ≡ i + 1 = omega arith in
+    ap₂ _+_ p e ∙ sym (number-more i f) ∙ ap (λ (k : ℕ). number k f) s
+
+-- at most w bits fit w bits
+pub number-fits : (i w : ℕ) (f : ℕ → ℕ) → ((k : ℕ) → f k < 2) → i ≤ w → number i f < 2 ^ w
+number-fits i w f h l = omega (arith, number-less i f h, pow-mono l)
+
+-- two runs of bits, one after the other
+pub number-join : (m n : ℕ) (f : ℕ → ℕ) → number m f + number n (λ i. f (m + i)) * 2 ^ m ≡ number (m + n) f
+unfolding number
+number-join zero n f = let e : 0 + n ≡ n = omega arith in rw e (omega (arith, number-same n (λ i. f (0 + i)) f (λ i h. ap f (omega arith))))
+number-join (suc m) n f =
+    let e : suc m + n ≡ suc (m + n) = omega arith in
+    let s : number n (λ i. f (suc m + i)) ≡ number n (λ i. f (suc (m + i))) = number-same n _ _ (λ i h. ap f (omega arith)) in
+    let p : number n (λ i. f (suc (m + i))) * 2 ^ suc m ≡ 2 * (number n (λ i. f (suc (m + i))) * 2 ^ m) = ap (λ (x : ℕ). number n (λ i. f (suc (m + i))) * x) (pow-suc 2 m) ∙ sym (mul-assoc (number n (λ i. f (suc (m + i)))) (2 ^ m) 2) ∙ mul-comm (number n (λ i. f (suc (m + i))) * 2 ^ m) 2 in
+    rw (e, s) (omega (arith, p, number-join m n (λ i. f (suc i))))
+
+-- halving drops bit 0
+pub half-power : (x j : ℕ) → x / 2 ^ suc j ≡ x / 2 / 2 ^ j
+half-power x j = let e : 2 ^ suc j ≡ 2 * 2 ^ j = omega arith in ap (λ (d : ℕ). x / d) e ∙ sym (div-div-eq-div-mul x 2 (2 ^ j))
+
+-- STORES. A loop that stores f k at each place k has stored one more
+pub store-more : (r : List ℕ) (n x : ℕ) (f : ℕ → ℕ) → n < length r → x ≡ f n → ((k : ℕ) → k < n → getD r k 0 ≡ f k) → (k : ℕ) → k < n + 1 → getD (set r n x) k 0 ≡ f k
+store-more r n x f h e p =
+    below-more (λ (k : ℕ). getD (set r n x) k 0 ≡ f k) n (λ k l. getD-set-other r n k x 0 (λ z. omega arith) ∙ p k l) (getD-set-same r n x 0 h ∙ e)

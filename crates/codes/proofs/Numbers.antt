@@ -8,7 +8,7 @@ use native.Mathlib.Nat.{not-suc-le-zero, mod-one, zero-mod, pow-suc, mod-lt, zer
 use lib.Arith.{mod-mul}
 use lib.Pow.{pow-pos}
 use lib.Bits.{bitAnd, and-step, and-zero-l, and-zero-r}
-use lib.Count.{ones, ones-step}
+use lib.Count.{ones}
 use lib.ListN.{length, getD, take, replicate}
 use Rattle.cells.specs.Places.{listOf, number}
 use Rattle.codes.specs.Generators.{digit}
@@ -17,6 +17,7 @@ use Rattle.codes.specs.Sequences.{_+₂_, Bits, odd}
 use Rattle.codes.specs.Registers.{dot, push, register, quotient, forth, back}
 use Rattle.codes.specs.Numbers.{one-if, value}
 use Rattle.codes.proofs.Sums.{odd-add, odd-mod-two, odd-only}
+use Rattle.codes.proofs.Parities.{ones-pair}
 use Rattle.codes.proofs.Registers.{register-length, register-newest, register-back}
 
 -- BITS
@@ -86,9 +87,6 @@ min-bits true false = refl
 min-bits false true = refl
 min-bits false false = refl
 
-ones-pair : (x r : ℕ) → r ≤ 1 → ones (x * 2 + r) ≡ r + ones x
-ones-pair x r h = ones-step (x * 2 + r) ∙ ap₂ (λ (a b : ℕ). a + ones b) (omega arith) (omega arith)
-
 ones-dot : (G s : List Bool) → odd (ones (bitAnd (value G) (value s))) ≡ dot G s
 unfolding dot value ones odd
 ones-dot [] s = ap (λ (x : ℕ). odd (ones x)) (and-zero-l (value s))
@@ -100,7 +98,7 @@ ones-dot (g ∷ gs) (u ∷ us) =
     let b : (one-if u + 2 * value us) / 2 ≡ value us = omega arith in
     let p : (one-if g + 2 * value gs) % 2 ≡ one-if g = omega arith in
     let q : (one-if u + 2 * value us) % 2 ≡ one-if u = omega arith in
-    let m : min (one-if g) (one-if u) ≤ 1 = omega arith in
+    let m : min (one-if g) (one-if u) < 2 = omega arith in
     let e : bitAnd (one-if g + 2 * value gs) (one-if u + 2 * value us) ≡ bitAnd (value gs) (value us) * 2 + min (one-if g) (one-if u) = and-step (one-if g + 2 * value gs) (one-if u + 2 * value us) ∙ ap₂ (λ (x y : ℕ). x * 2 + y) (ap₂ bitAnd a b) (ap₂ min p q) in
     ap (λ (x : ℕ). odd (ones x)) e
     ∙ ap odd (ones-pair (bitAnd (value gs) (value us)) (min (one-if g) (one-if u)) m)

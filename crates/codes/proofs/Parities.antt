@@ -14,50 +14,14 @@ use borrow.Author.Count.{below-more}
 use Rattle.cells.specs.Places.{sumOf, number}
 use Rattle.cells.specs.Bytes.{bytesOf}
 use Rattle.cells.specs.Levels.{level}
-use Rattle.cells.proofs.Places.{listOf-same, listOf-getD, sumOf-same, sumOf-add, number-same}
+use Rattle.cells.proofs.Places.{listOf-same, listOf-getD, sumOf-same, sumOf-add, number-same, half-power}
 use Rattle.codes.specs.Generators.{Generators, digit}
 use Rattle.codes.specs.Codes.{named}
 use Rattle.codes.specs.declared.Name.{Name}
 use Rattle.codes.specs.declared.Name.the-variants.{Short, Long}
 use Rattle.codes.specs.Reading.{ago, dataBit, firstBit, secondBit, readStrip}
 use Rattle.codes.specs.Taps.{tapsOf, parityOf, windowOf, tappedBit}
-
--- NUMBERS. A number grows by its last bit
-pub number-more : (n : ℕ) (f : ℕ → ℕ) → number (suc n) f ≡ number n f + f n * 2 ^ n
-unfolding number
-number-more zero f = omega arith
-number-more (suc n) f =
-    let p : f (suc n) * 2 ^ suc n ≡ 2 * (f (suc n) * 2 ^ n) = ap (λ (x : ℕ). f (suc n) * x) (pow-suc 2 n) ∙ sym (mul-assoc (f (suc n)) (2 ^ n) 2) ∙ mul-comm (f (suc n) * 2 ^ n) 2 in
-    omega (arith, p, number-more n (λ i. f (suc i)))
-
--- n bits make a number below 2 ^ n
-pub number-less : (n : ℕ) (f : ℕ → ℕ) → ((i : ℕ) → f i < 2) → number n f < 2 ^ n
-unfolding number
-number-less zero f b = omega arith
-number-less (suc n) f b = omega (arith, b 0, number-less n (λ i. f (suc i)) (λ i. b (suc i)))
-
--- the code's b << i for a bit b
-bit-shl : (b i w : ℕ) → b < 2 → i < w → (b * 2 ^ i) % 2 ^ w ≡ b * 2 ^ i
-bit-shl b i w h l = shl-exact 1 i w h (omega arith)
-
--- the code's 1 << i
-pub one-shl : (i w : ℕ) → i < w → (1 * 2 ^ i) % 2 ^ w ≡ 2 ^ i
-one-shl i w l = let e : 1 * 2 ^ i ≡ 2 ^ i = omega arith in bit-shl 1 i w (omega arith) l ∙ e
-
--- i bits added up and the next make i + 1 bits added up
-pub number-next : (i w d b : ℕ) (f : ℕ → ℕ) → ((k : ℕ) → f k < 2) → i < w → d ≡ number i f → b ≡ f i → d + (b * 2 ^ i) % 2 ^ w ≡ number (i + 1) f
-number-next i w d b f h l p q =
-    let e : (b * 2 ^ i) % 2 ^ w ≡ f i * 2 ^ i = bit-shl b i w (rw q (h i)) l ∙ ap (λ (y : ℕ). y * 2 ^ i) q in
-    let s : suc i ≡ i + 1 = omega arith in
-    ap₂ _+_ p e ∙ sym (number-more i f) ∙ ap (λ (k : ℕ). number k f) s
-
--- at most w bits fit w bits
-pub number-fits : (i w : ℕ) (f : ℕ → ℕ) → ((k : ℕ) → f k < 2) → i ≤ w → number i f < 2 ^ w
-number-fits i w f h l = omega (arith, number-less i f h, pow-mono l)
-
--- bit i + 1 is bit i of the half
-half-bit : (w i : ℕ) → w / 2 ^ suc i ≡ w / 2 / 2 ^ i
-half-bit w i = let e : 2 ^ suc i ≡ 2 * 2 ^ i = omega arith in ap (λ (d : ℕ). w / d) e ∙ sym (div-div-eq-div-mul w 2 (2 ^ i))
+use Rattle.codes.proofs.Sums.{ago-now, ago-before, ago-suc}
 
 -- TAPS. The lesser of two bits is their product
 min-product : (a b : ℕ) → a < 2 → b < 2 → min a b ≡ a * b
@@ -66,7 +30,7 @@ min-product (suc zero) b h k = omega arith
 min-product (suc (suc a)) b h k = absurd (let z : ⊥ = omega arith in z)
 
 -- the ones of a number are its last bit and those of its half
-ones-pair : (x r : ℕ) → r < 2 → ones (x * 2 + r) ≡ r + ones x
+pub ones-pair : (x r : ℕ) → r < 2 → ones (x * 2 + r) ≡ r + ones x
 ones-pair x r h = ones-step (x * 2 + r) ∙ ap₂ (λ (a b : ℕ). a + ones b) (omega arith) (omega arith)
 
 -- taps meet as many ones of a window as the sum of tap i times bit i says
@@ -81,7 +45,7 @@ taps-bits (suc n) f b w =
     ap ones (and-step (f 0 + 2 * N) w ∙ ap₂ (λ (x y : ℕ). bitAnd x (w / 2) * 2 + min y (w % 2)) (half (f 0) N h) (low (f 0) N h))
     ∙ ones-pair (bitAnd N (w / 2)) (min (f 0) (w % 2)) (omega arith)
     ∙ ap₂ (λ (x y : ℕ). x + y) (m ∙ ap (λ (y : ℕ). f 0 * (y % 2)) (sym e))
-    (taps-bits n (λ i. f (suc i)) (λ i. b (suc i)) (w / 2) ∙ sumOf-same n _ _ (λ i l. ap (λ (y : ℕ). f (suc i) * (y % 2)) (sym (half-bit w i))))
+    (taps-bits n (λ i. f (suc i)) (λ i. b (suc i)) (w / 2) ∙ sumOf-same n _ _ (λ i l. ap (λ (y : ℕ). f (suc i) * (y % 2)) (sym (half-power w i))))
   where
     half : (a x : ℕ) → a < 2 → (a + 2 * x) / 2 ≡ x
     half a x h = omega arith
@@ -105,21 +69,6 @@ low-bit n i y h =
     let e : n ≡ n - suc i + 1 + i = omega arith in
     ap (λ (k : ℕ). y % 2 ^ k / 2 ^ i % 2) e ∙ ap (λ (z : ℕ). z % 2) (field y (n - suc i + 1) i) ∙ mod-mod-pow (y / 2 ^ i) (n - suc i) 1
 
--- no stage ago is now
-ago-now : (x : ℕ → ℕ) (t : ℕ) → ago x t 0 ≡ x t
-unfolding ago
-ago-now x t = let e : t - 0 ≡ t = omega arith in rw (le-ltb t 0 (omega arith), e)
-
--- before stage 0 all is 0
-ago-before : (x : ℕ → ℕ) (i : ℕ) → ago x 0 (suc i) ≡ 0
-unfolding ago
-ago-before x i = rw (lt-ltb 0 (suc i) (omega arith))
-
--- a stage later, a stage more ago
-ago-more : (x : ℕ → ℕ) (t i : ℕ) → ago x (suc t) (suc i) ≡ ago x t i
-unfolding ago
-ago-more x t i = let e : suc t - suc i ≡ t - i = omega arith in rw (compare·suc-suc (suc t) i, e)
-
 -- bit i of a window is what the sequence was i stages ago
 pub window-bit : (n : ℕ) (x : ℕ → ℕ) → ((t : ℕ) → x t < 2) → (t i : ℕ) → i < n → windowOf n x (suc t) / 2 ^ i % 2 ≡ ago x t i
 unfolding windowOf
@@ -130,12 +79,12 @@ window-bit n x b t zero h =
 window-bit n x b zero (suc i) h =
     let k : x 0 < 2 = b 0 in
     let e : (2 * 0 + x 0) / 2 ≡ 0 = omega arith in
-    low-bit n (suc i) (2 * 0 + x 0) h ∙ ap (λ (y : ℕ). y % 2) (half-bit (2 * 0 + x 0) i ∙ ap (λ (y : ℕ). y / 2 ^ i) e ∙ zero-div (2 ^ i)) ∙ sym (ago-before x i)
+    low-bit n (suc i) (2 * 0 + x 0) h ∙ ap (λ (y : ℕ). y % 2) (half-power (2 * 0 + x 0) i ∙ ap (λ (y : ℕ). y / 2 ^ i) e ∙ zero-div (2 ^ i)) ∙ sym (ago-before x i)
 window-bit n x b (suc t) (suc i) h =
     let k : x (suc t) < 2 = b (suc t) in
     let w : ℕ = windowOf n x (suc t) in
     let e : (2 * w + x (suc t)) / 2 ≡ w = omega arith in
-    low-bit n (suc i) (2 * w + x (suc t)) h ∙ ap (λ (y : ℕ). y % 2) (half-bit (2 * w + x (suc t)) i ∙ ap (λ (y : ℕ). y / 2 ^ i) e) ∙ window-bit n x b t i (omega arith) ∙ sym (ago-more x t i)
+    low-bit n (suc i) (2 * w + x (suc t)) h ∙ ap (λ (y : ℕ). y % 2) (half-power (2 * w + x (suc t)) i ∙ ap (λ (y : ℕ). y / 2 ^ i) e) ∙ window-bit n x b t i (omega arith) ∙ sym (ago-suc x t i)
 
 -- a window of n bits is below 2 ^ n
 pub window-less : (n : ℕ) (x : ℕ → ℕ) (t : ℕ) → windowOf n x t < 2 ^ n
@@ -200,12 +149,7 @@ module _ (v : ℕ → ℕ) (q i : ℕ) where
       let s : 8 * q + (i + 1) ≡ suc (8 * q + i) = omega arith in
       ap₂ (λ (x y : ℕ). (x + y) % 2) (g ∙ ap (parityOf second) (e ∙ ap (windowOf 7 (firstBit v)) s)) (h ∙ ap (parityOf first) (f ∙ ap (windowOf 7 (secondBit v)) s))
 
--- READING A STRIP. A place more is stored
-pub store-more : (r : List ℕ) (n x : ℕ) (f : ℕ → ℕ) → n < length r → x ≡ f n → ((k : ℕ) → k < n → getD r k 0 ≡ f k) → (k : ℕ) → k < n + 1 → getD (set r n x) k 0 ≡ f k
-store-more r n x f h e p =
-    below-more (λ (k : ℕ). getD (set r n x) k 0 ≡ f k) n (λ k l. getD-set-other r n k x 0 (λ z. omega arith) ∙ p k l) (getD-set-same r n x 0 h ∙ e)
-
--- bytes of data bits by the taps of a code are what the strip reads as
+-- READING A STRIP. Bytes of data bits by the taps of a code are what the strip reads as
 pub read-bytes : (G : Generators) (first second n : ℕ) (strip bytes : List ℕ) → G .memory ≤ 6 → first ≡ tapsOf (G .memory) (G .g1) → second ≡ tapsOf (G .memory) (G .g2)
     → length bytes ≡ n → ((k : ℕ) → k < n → getD bytes k 0 ≡ number 8 (λ i. tappedBit first second (level strip) (8 * k + i))) → bytes ≡ readStrip G n strip
 unfolding readStrip bytesOf

@@ -2,7 +2,7 @@
 use mathlib.Core.Path.{_≡_, refl, sym, _∙_, ap, ap₂}
 use mathlib.Core.Bool.{Bool, true, false, _&&_, cond, not, Bool·not-not}
 use mathlib.Core.List.{List, [], _∷_}
-use Prim.Native.Nat.{ℕ, zero, suc, _<_, _≤_, _+_, _*_, _-_, _/_, _%_, _^_}
+use Prim.Native.Nat.{ℕ, zero, suc, compare·suc-suc, _<_, _≤_, _+_, _*_, _-_, _/_, _%_, _^_}
 use native.Mathlib.Omega.{arith}
 use native.Mathlib.Nat.{mod-lt, zero-lt-suc}
 use lib.Dec.{ltb, eqb}
@@ -63,27 +63,22 @@ odd-only (suc (suc x)) y h k e = absurd (let z : ⊥ = omega arith in z)
 odd-only zero (suc (suc y)) h k e = absurd (let z : ⊥ = omega arith in z)
 odd-only (suc zero) (suc (suc y)) h k e = absurd (let z : ⊥ = omega arith in z)
 
--- AGO
-ago-now : (x : ℕ → ℕ) (t : ℕ) → ago x t 0 ≡ x t
+-- AGO. No stage ago is now
+pub ago-now : (x : ℕ → ℕ) (t : ℕ) → ago x t 0 ≡ x t
 unfolding ago
 ago-now x t = let e : t - 0 ≡ t = omega arith in rw (le-ltb t 0 (omega arith), e)
 
-ago-before : (x : ℕ → ℕ) (i : ℕ) → ago x 0 (suc i) ≡ 0
+-- before stage 0 all is 0
+pub ago-before : (x : ℕ → ℕ) (i : ℕ) → ago x 0 (suc i) ≡ 0
 unfolding ago
 ago-before x i = rw (lt-ltb 0 (suc i) (omega arith))
 
-ltb-suc : (t i : ℕ) → ltb (suc t) (suc i) ≡ ltb t i
-ltb-suc t i = go (ltb t i) refl
-  where
-    go : (c : Bool) → ltb t i ≡ c → ltb (suc t) (suc i) ≡ c
-    go true e = lt-ltb (suc t) (suc i) (omega (arith, ltb-true t i e))
-    go false e = le-ltb (suc t) (suc i) (omega (arith, ltb-false t i e))
-
-ago-suc : (x : ℕ → ℕ) (t i : ℕ) → ago x (suc t) (suc i) ≡ ago x t i
+-- a stage later, a stage more ago
+pub ago-suc : (x : ℕ → ℕ) (t i : ℕ) → ago x (suc t) (suc i) ≡ ago x t i
 unfolding ago
-ago-suc x t i = let e : suc t - suc i ≡ t - i = omega arith in rw (ltb-suc t i, e)
+ago-suc x t i = let e : suc t - suc i ≡ t - i = omega arith in rw (compare·suc-suc (suc t) i, e)
 
--- SUMS. the convolution with a list of digits is the sum over the digits
+-- SUMS. The convolution with a list of digits is the sum over the digits
 pub conv-sum : (n : ℕ) (f x : ℕ → ℕ) (t : ℕ) → conv (listOf n (λ i. odd (f i))) (λ s. odd (x s)) t ≡ odd (sumOf n (λ i. f i * ago x t i))
 unfolding conv listOf sumOf scale shift _⊕_ zeros odd
 conv-sum zero f x t = refl

@@ -10,3 +10,4 @@ pub mod Numbered
 pub mod Table
 pub mod Places
 pub mod Demand
+pub mod Examples

@@ -60,14 +60,14 @@ module _ (S : Steps) (x : Cell) (b : Bool) where
 
   stay : from ≤ S .top → Bool·beq (odd from) b ≡ true → Settles (One S x b) (some (record { cost = 0; levels = from ∷ [] }))
   stay h e = sole {a = record { cost = 0; levels = from ∷ [] }}
-    (record { to = from; one = refl; rises = record { up = omega arith; high = h; kept = λ k. refl }; bit = beq-true (odd from) b e; cost = sym (climb-stay (S .weight) from) })
-    (λ d y o. rw (climb-stay (S .weight) from) at (above from (omega arith) d y o (λ l. omega (arith, o .rises .up))))
+      (record { to = from; one = refl; rises = record { up = omega arith; high = h; kept = λ k. refl }; bit = beq-true (odd from) b e; cost = sym (climb-stay (S .weight) from) })
+      (λ d y o. rw (climb-stay (S .weight) from) at (above from (omega arith) d y o (λ l. omega (arith, o .rises .up))))
 
   raise : from < S .top → x .mark ≡ false → Bool·beq (odd from) b ≡ false → Settles (One S x b) (some (record { cost = S .weight from; levels = suc from ∷ [] }))
   unfolding odd
   raise h f e = sole {a = record { cost = S .weight from; levels = suc from ∷ [] }}
-    (record { to = suc from; one = refl; rises = record { up = omega arith; high = h; kept = λ k. absurd (true≢false (sym k ∙ f)) }; bit = beq-false (odd from) b e; cost = sym (climb-step (S .weight) from) })
-    (λ d y o. rw (climb-step (S .weight) from) at (above (suc from) (omega arith) d y o (λ l. other o (omega (arith, o .rises .up)))))
+      (record { to = suc from; one = refl; rises = record { up = omega arith; high = h; kept = λ k. absurd (true≢false (sym k ∙ f)) }; bit = beq-false (odd from) b e; cost = sym (climb-step (S .weight) from) })
+      (λ d y o. rw (climb-step (S .weight) from) at (above (suc from) (omega arith) d y o (λ l. other o (omega (arith, o .rises .up)))))
     where
       other : {d : ℕ} {y : List ℕ} (o : One S x b d y) → from ≡ o .to → ⊥
       other o q = not-self (odd from) b (beq-false (odd from) b e) (ap odd q ∙ o .bit)

@@ -7,7 +7,8 @@ use Rattle.cells.specs.Places.{number}
 use Rattle.cells.specs.Levels.{level}
 use Rattle.codes.specs.Reading.{firstBit, secondBit}
 use Rattle.codes.specs.Taps.{windowOf, tappedBit}
-use Rattle.codes.proofs.Parities.{number-next, number-fits, window-less, tapped-bound, first-next, second-next, data-next}
+use Rattle.cells.proofs.Places.{number-next, number-fits}
+use Rattle.codes.proofs.Parities.{window-less, tapped-bound, first-next, second-next, data-next}
 use Rattle.codes.proofs.read_byte.Statement.{statement}
 use Rattle.codes.proofs.read_byte.Tie as tie
 

@@ -6,7 +6,8 @@ use borrow.Author.Needs.{needs}
 use Rattle.cells.specs.Places.{number}
 use Rattle.codes.specs.Generators.{digit}
 use Rattle.codes.specs.Taps.{tapsOf}
-use Rattle.codes.proofs.Parities.{digit-bound, number-next, number-fits}
+use Rattle.cells.proofs.Places.{number-next, number-fits}
+use Rattle.codes.proofs.Parities.{digit-bound}
 use Rattle.codes.proofs.taps.Statement.{statement}
 use Rattle.codes.proofs.taps.Tie as tie
 

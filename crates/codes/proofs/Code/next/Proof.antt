@@ -4,7 +4,7 @@ use native.Mathlib.Omega.{arith}
 use native.Mathlib.Nat.{mod-lt}
 use lib.Pow.{pow-pos, pow-mono}
 use borrow.Author.Needs.{needs}
-use Rattle.codes.proofs.Parities.{one-shl}
+use Rattle.cells.proofs.Places.{one-shl}
 use Rattle.codes.proofs.Code.next.Statement.{statement}
 use Rattle.codes.proofs.Code.next.Tie as tie
 

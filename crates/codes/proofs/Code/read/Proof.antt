@@ -9,7 +9,8 @@ use Rattle.cells.specs.Places.{number}
 use Rattle.cells.specs.Levels.{level}
 use Rattle.codes.specs.Codes.{generatorsOf, Carried}
 use Rattle.codes.specs.Taps.{windowOf, tappedBit}
-use Rattle.codes.proofs.Parities.{memory-bounds, store-more, read-bytes}
+use Rattle.cells.proofs.Places.{store-more}
+use Rattle.codes.proofs.Parities.{memory-bounds, read-bytes}
 use Rattle.codes.proofs.Code.read.Statement.{statement}
 use Rattle.codes.proofs.Code.read.Tie as tie
 
