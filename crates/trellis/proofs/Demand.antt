@@ -15,7 +15,7 @@ use Rattle.codes.specs.Coset.{bit, Reads}
 use Rattle.codes.proofs.Sums.{odd-mod-two}
 use Rattle.codes.proofs.Encoders.{encoder-in-memory, reads-sums}
 use Rattle.trellis.specs.Best.{Answer, Best, Solves, Wide}
-use Rattle.trellis.specs.Strip.{Steps, Cell, Full, words, Rewrite}
+use Rattle.trellis.specs.Strip.{Steps, Dear, Cell, Full, words, Rewrite}
 use Rattle.trellis.specs.Demand.{cellAt, levelAt, CouldBe, pays, Cheapest}
 use Rattle.trellis.specs.Search.{write}
 use Rattle.trellis.specs.Parity.{parity, parity-choice}
@@ -45,11 +45,11 @@ module _ (S : Steps) (G : Generators) (lead : digit (G .memory) (G .g1) 0 ≡ 1)
   pub rewrite-could : (c : ℕ) (y : List ℕ) → Rewrite S (parity 2) (encoderOf G) (λ j t. odd (d t)) n old c y → CouldBe S G n d old y
   rewrite-could c y w = record { size = raised-length (w .raised); rises = raised-rises S (w .raised); reads = levels-read y .0 (w .reads) }
 
-  module _ (size : length old ≡ n * 2) where
+  module _ (D : Dear S) (size : length old ≡ n * 2) where
     -- the search's answer
     solved : Solves (Rewrite S (parity 2) (encoderOf G) (λ j t. odd (d t)) n old) (write (encoderOf G) (λ j t. odd (d t)) (parity-choice S) 2 n old)
     unfolding encoderOf
-    solved = write-solves (encoderOf G) (encoder-in-memory G) (λ j t. odd (d t)) S (parity 2) (parity-choice S) (parity-chooses S 2) n old (full-length 2 n old size)
+    solved = write-solves (encoderOf G) (encoder-in-memory G) (λ j t. odd (d t)) S (parity 2) (parity-choice S) (parity-chooses S D 2) n old (full-length 2 n old size)
 
     wide : Wide (length old) (Rewrite S (parity 2) (encoderOf G) (λ j t. odd (d t)) n old)
     wide = record { wide = λ c y w. raised-length (w .raised) }

@@ -13,7 +13,7 @@ use Rattle.codes.specs.Sequences.{odd}
 use Rattle.codes.specs.Registers.{dot, push, register, quotient}
 use Rattle.codes.specs.Encoders.{encoderOf}
 use Rattle.trellis.specs.Best.{Answer}
-use Rattle.trellis.specs.Strip.{cellsOf, houseSteps}
+use Rattle.trellis.specs.Strip.{cellsOf, stepsOf}
 use Rattle.trellis.specs.Trellis.{before, lexltb, beats, better, joined}
 use Rattle.trellis.specs.Search.{labels, sums, wanted, branch, next, stages, write}
 use Rattle.trellis.specs.Parity.{keep-or-raise, parity-choice}
@@ -22,13 +22,13 @@ use Rattle.trellis.proofs.Table.{write-by-table}
 
 -- the write of the data byte b on a strip of 16 cells at these levels
 unfoldable pub rewritten : Generators → List ℕ → ℕ → Option Answer
-rewritten G levels b = write-table (encoderOf G) (λ j t. odd (bitOf (b ∷ []) t)) (parity-choice houseSteps) 2 8 (cellsOf 16 (λ c. getD levels c 0) (λ c. false))
+rewritten G levels b = write-table (encoderOf G) (λ j t. odd (bitOf (b ∷ []) t)) (parity-choice (stepsOf house)) 2 8 (cellsOf 16 (λ c. getD levels c 0) (λ c. false))
 
 -- it is the search's
 pub rewritten-searched : (G : Generators) (levels : List ℕ) (b : ℕ)
-    → rewritten G levels b ≡ write (encoderOf G) (λ j t. odd (bitOf (b ∷ []) t)) (parity-choice houseSteps) 2 8 (cellsOf 16 (λ c. getD levels c 0) (λ c. false))
+    → rewritten G levels b ≡ write (encoderOf G) (λ j t. odd (bitOf (b ∷ []) t)) (parity-choice (stepsOf house)) 2 8 (cellsOf 16 (λ c. getD levels c 0) (λ c. false))
 unfolding rewritten
-rewritten-searched G levels b = write-by-table (encoderOf G) _ (parity-choice houseSteps) 2 8 _
+rewritten-searched G levels b = write-by-table (encoderOf G) _ (parity-choice (stepsOf house)) 2 8 _
 
 -- erased, write 01 with code 3: cost 48
 pub one-short : rewritten short ([]) 0x01 ≡ some (record { cost = 48; levels = 1 ∷ 0 ∷ 1 ∷ 1 ∷ 0 ∷ 0 ∷ 0 ∷ 0 ∷ 0 ∷ 0 ∷ 0 ∷ 0 ∷ 0 ∷ 0 ∷ 0 ∷ 0 ∷ [] })

@@ -11,12 +11,12 @@ use native.Mathlib.Nat.{not-suc-le-zero}
 use lib.Dec.{ltb, eqb}
 use lib.ListN.{length, getD, length-map}
 use borrow.Author.Tests.{ltb-true, ltb-false, eqb-true, eqb-false}
-use Rattle.cells.specs.Climbs.{climb}
+use Rattle.cells.specs.Climbs.{climb, house, weightOf}
 use Rattle.cells.proofs.Climbs.{climb-stay, climb-step, climb-rises}
 use Rattle.codes.specs.Sequences.{odd}
 use Rattle.trellis.specs.Best.{Problem, Answer, Settles, closed, sole, Product, Empty, empty}
 use Rattle.trellis.specs.Trellis.{joined, free}
-use Rattle.trellis.specs.Strip.{Steps, Cell, Rise, Raised, still, rise, Meaning, Group}
+use Rattle.trellis.specs.Strip.{Steps, Dear, Cell, Rise, Raised, still, rise, Meaning, Group, stepsOf}
 use Rattle.trellis.specs.Search.{Choice, Chooses, Leads}
 use Rattle.trellis.specs.Parity.{parity, One, keep-or-raise, parity-choice}
 use Rattle.trellis.proofs.Best.{settles-solves, settles-product, settles-empty, settles-iff}
@@ -41,7 +41,7 @@ not-self true b e f = true≢false (f ∙ sym e)
 not-self false b e f = false≢true (f ∙ sym e)
 
 -- ONE BIT A CELL. A cell's choice is its best, strictly
-module _ (S : Steps) (x : Cell) (b : Bool) where
+module _ (S : Steps) (D : Dear S) (x : Cell) (b : Bool) where
   abbrev from : ℕ
   from = x .level
 
@@ -53,7 +53,7 @@ module _ (S : Steps) (x : Cell) (b : Bool) where
   above low h d y o not-below = go (ltb low (o .to)) refl
     where
       go : (t : Bool) → ltb low (o .to) ≡ t → (costs-to low < d) ⊎ ((costs-to low ≡ d) × (low ∷ [] ≡ y))
-      go true k = inl (omega (arith, o .cost, climb-rises (S .weight) (S .top) (S .dear) from low (o .to) h (ltb-true low (o .to) k) (o .rises .high)))
+      go true k = inl (omega (arith, o .cost, climb-rises (S .weight) (S .top) (D .dear) from low (o .to) h (ltb-true low (o .to) k) (o .rises .high)))
       go false k =
           let q : low ≡ o .to = omega (arith, ltb-false low (o .to) k, not-below) in
           inr (ap costs-to q ∙ sym (o .cost), ap (λ (l : ℕ). l ∷ []) q ∙ sym (o .one))
@@ -108,7 +108,8 @@ module _ (S : Steps) (n : ℕ) (x : Cell) (xs : List Cell) (b : Bool) (w : List 
     append = refl;
   }
 
-module _ (S : Steps) (n : ℕ) where
+module _ (S : Steps) (D : Dear S) (n : ℕ) where
+  -- the stage's choice settles the stage
   pub parity-settles : (xs : List Cell) (w : List Bool) → Settles (Group S (parity n) xs w) (parity-choice S xs w)
   unfolding parity-choice
   parity-settles [] [] = settles-iff (λ c y. (to c y, λ g. from (g .raised))) settles-empty
@@ -128,12 +129,23 @@ module _ (S : Steps) (n : ℕ) where
       no y e f = let k : length (map odd y) ≡ 0 = ap length f in omega (arith, length-map y odd)
   parity-settles (x ∷ xs) (b ∷ w) =
       settles-iff (λ c y. (together S n x xs b w c y, λ g. split S n x xs b w (g .raised) (g .word)))
-      (settles-product (keep-or-raise-law S x b) (parity-settles xs w))
+      (settles-product (keep-or-raise-law S D x b) (parity-settles xs w))
 
   -- so the choice is one for the search
   pub parity-chooses : Chooses S (parity n) n (parity-choice S)
   parity-chooses = record { sized = λ y e. length-map y odd ∙ e; solves = λ xs w e f. settles-solves (parity-settles xs w) }
 
-  -- the first bit is the first cell's
-  pub parity-leads : 0 < n → Leads (parity n)
-  parity-leads h = record { lead = odd; some-cell = h; leads = λ v y. refl }
+-- the first bit is the first cell's
+pub parity-leads : (n : ℕ) → 0 < n → Leads (parity n)
+parity-leads n h = record { lead = odd; some-cell = h; leads = λ v y. refl }
+
+-- 16, 20 and 28 are more than nothing
+pub house-dear : Dear (stepsOf house)
+unfolding weightOf
+house-dear = record { dear = go }
+  where
+    go : (l : ℕ) → l < 3 → 0 < getD house l 0
+    go zero h = omega arith
+    go (suc zero) h = omega arith
+    go (suc (suc zero)) h = omega arith
+    go (suc (suc (suc l))) h = omega arith

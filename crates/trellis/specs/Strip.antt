@@ -1,7 +1,7 @@
 -- WHAT A WRITE OF A STRIP IS, for any weights, marks, meaning of levels and encoder: cells are raised to levels whose code words read as the data.
 -- No state and no search.
---   Steps                the weight of each step, and the highest level
---   stepsOf, houseSteps  levels 0 to 3 with three weights, and with 16, 20, 28
+--   Steps, Dear          the weight of each step, and the highest level; no step below it is free
+--   stepsOf              levels 0 to 3 with three weights
 --   Cell, cellsOf        a cell before the write: its level, and whether it must stay
 --   Rise, Raised         what a cell may become; cells raised to given levels, at a cost
 --   Meaning, words       the code word that a stage's levels mean; the words of n stages
@@ -11,35 +11,25 @@ use mathlib.Core.Path.{_≡_}
 use mathlib.Core.Bool.{Bool, true}
 use mathlib.Core.List.{List, [], _∷_, map}
 use Prim.Native.Nat.{ℕ, zero, suc, _<_, _+_, _≤_}
-use native.Mathlib.Omega.{arith}
 use lib.ListN.{take, length, drop}
 use Rattle.cells.specs.Places.{listOf}
-use Rattle.cells.specs.Climbs.{climb, house, weightOf}
+use Rattle.cells.specs.Climbs.{climb, weightOf}
 use Rattle.codes.specs.Sequences.{Bits}
 use Rattle.codes.specs.Encoders.{Encoder}
 use Rattle.codes.specs.Coset.{Reads}
 
--- the cost of the step from each level to the next, and the highest level; no step below it is free
+-- the cost of the step from each level to the next, and the highest level
 pub record Steps : Type 0 where
   pub weight : ℕ → ℕ
   pub top : ℕ
-  pub dear : (l : ℕ) → l < top → 0 < weight l
 
--- levels 0 to 3 with three weights, each at least 1
-abbrev pub stepsOf : (weights : List ℕ) → ((l : ℕ) → l < 3 → 0 < weightOf weights l) → Steps
-stepsOf weights dear = record { weight = weightOf weights; top = 3; dear = dear }
+-- no step below the top is free
+pub record Dear (S : Steps) : Type 0 where
+  pub dear : (l : ℕ) → l < S .top → 0 < S .weight l
 
--- 16, 20 and 28 are at least 1
-pub house-dear : (l : ℕ) → l < 3 → 0 < weightOf house l
-unfolding weightOf
-house-dear zero h = omega arith
-house-dear (suc zero) h = omega arith
-house-dear (suc (suc zero)) h = omega arith
-house-dear (suc (suc (suc l))) h = omega arith
-
--- the house's steps
-abbrev pub houseSteps : Steps
-houseSteps = stepsOf house house-dear
+-- levels 0 to 3 with three weights
+abbrev pub stepsOf : List ℕ → Steps
+stepsOf weights = record { weight = weightOf weights; top = 3 }
 
 -- a cell before the write: its level, and whether it is marked, so that it stays
 pub record Cell : Type 0 where
