@@ -1,7 +1,7 @@
 -- The coset of the data by its digits: the words of the digits read as the data, and words that read as the data are those of some digits.
-use mathlib.Core.Path.{_≡_, refl, sym, _∙_, ap, ap₂, fun-ext}
+use mathlib.Core.Path.{_≡_, refl, sym, _∙_, ap, fun-ext}
 use mathlib.Core.Bool.{Bool, true, false}
-use mathlib.Core.List.{List, [], _∷_, map}
+use mathlib.Core.List.{List, [], _∷_}
 use mathlib.Core.Logic.{_↔_}
 use Prim.Native.Nat.{ℕ, zero, suc, _<_, _≤_}
 use native.Mathlib.Omega.{arith}
@@ -12,7 +12,7 @@ use Rattle.codes.specs.Sequences.{_+₂_, Bits, _⊕_, conv, Agree}
 use Rattle.codes.specs.Registers.{quotient}
 use Rattle.codes.specs.Encoders.{Encoder, InMemory}
 use Rattle.codes.specs.Coset.{bit, Reads, rest, word, Written, Sized}
-use Rattle.codes.proofs.Sequences.{conv-⊕, conv-comm, ⊕-assoc, ⊕-twice, agree-refl, agree-sym, agree-trans, agree-⊕, agree-conv}
+use Rattle.codes.proofs.Sequences.{conv-⊕, conv-comm, ⊕-twice, agree-refl, agree-⊕, agree-conv}
 use Rattle.codes.proofs.Registers.{conv-quotient, quotient-below, quotient-conv}
 
 -- one column: what the digits u give reads as d; and what reads as d is given by the quotient of the first column

@@ -1,8 +1,7 @@
 -- The digits of the four generators, and readings that tell one end of a generator from the other: no row of the paper's table does, as 7 and 5
 -- are palindromes and 171 and 133 begin and end in one.
 use mathlib.Core.Path.{_≡_, refl}
-use mathlib.Core.List.{List, [], _∷_}
-use Prim.Native.Nat.{ℕ}
+use mathlib.Core.List.{[], _∷_}
 use Rattle.cells.specs.Places.{listOf, sumOf, number}
 use Rattle.cells.specs.Bytes.{bitOf, bytesOf}
 use Rattle.cells.specs.Levels.{level}

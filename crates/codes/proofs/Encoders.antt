@@ -1,7 +1,7 @@
 -- The encoder of the paper's numbers: its generators reach no further than the memory, and words read as the data in its algebra just where the
 -- paper's sums give the data.
 use mathlib.Core.Path.{_≡_, refl, sym, _∙_, ap}
-use mathlib.Core.Bool.{Bool, true, false}
+use mathlib.Core.Bool.{Bool, true}
 use mathlib.Core.List.{List, [], _∷_}
 use mathlib.Core.Logic.{_↔_}
 use Prim.Native.Nat.{ℕ, zero, suc, _<_, _≤_}
@@ -11,10 +11,10 @@ use Rattle.cells.specs.Places.{listOf, no-more, and-each}
 use Rattle.cells.proofs.Places.{length-listOf}
 use Rattle.codes.specs.Generators.{Generators, short, long, digit}
 use Rattle.codes.specs.Reading.{dataBit}
-use Rattle.codes.specs.Sequences.{Bits, _⊕_, conv, Agree, odd}
-use Rattle.codes.specs.Encoders.{Encoder, InMemory, encoderOf, Proper}
+use Rattle.codes.specs.Sequences.{_⊕_, conv, Agree, odd}
+use Rattle.codes.specs.Encoders.{InMemory, encoderOf, Proper}
 use Rattle.codes.specs.Coset.{bit, Reads}
-use Rattle.codes.proofs.Sequences.{agree-sym, agree-trans, agree-⊕, agree-conv}
+use Rattle.codes.proofs.Sequences.{agree-trans, agree-⊕, agree-conv}
 use Rattle.codes.proofs.Sums.{odd-only, dataBit-bound, dataBit-conv}
 
 -- the digits of G1, digit 0 being 1

@@ -1,16 +1,13 @@
 -- What the taps and the windows of the program mean: parities are the paper's sums.
 use mathlib.Core.Path.{_≡_, sym, _∙_, ap, ap₂}
 use mathlib.Core.List.{List}
-use Prim.Native.Nat.{ℕ, zero, suc, _<_, _≤_, _+_, _*_, _-_, _/_, _%_, _^_, min, compare·suc-suc}
+use Prim.Native.Nat.{ℕ, zero, suc, _<_, _≤_, _+_, _*_, _-_, _/_, _%_, _^_, min}
 use native.Mathlib.Omega.{arith}
-use native.Mathlib.Nat.{div-div-eq-div-mul, mul-assoc, mul-comm, mod-lt, pow-suc, zero-lt-suc, zero-div}
+use native.Mathlib.Nat.{mod-lt, zero-lt-suc, zero-div}
 use lib.Bits.{bitAnd, and-step, and-zero-l}
 use lib.Count.{ones, ones-step}
-use borrow.Author.Tests.{lt-ltb, le-ltb}
-use lib.Pow.{pow-pos, pow-mono, shl-exact, field, mod-mod-pow}
-use lib.ListN.{length, getD, set}
-use lib.Seq.{getD-set-same, getD-set-other}
-use borrow.Author.Count.{below-more}
+use lib.Pow.{pow-pos, field, mod-mod-pow}
+use lib.ListN.{length, getD}
 use Rattle.cells.specs.Places.{sumOf, number}
 use Rattle.cells.specs.Bytes.{bytesOf}
 use Rattle.cells.specs.Levels.{level}

@@ -1,17 +1,16 @@
 -- The paper's sum is a sum of two convolutions.
 use mathlib.Core.Path.{_≡_, refl, sym, _∙_, ap, ap₂}
 use mathlib.Core.Bool.{Bool, true, false, _&&_, cond, not, Bool·not-not}
-use mathlib.Core.List.{List, [], _∷_}
-use Prim.Native.Nat.{ℕ, zero, suc, compare·suc-suc, _<_, _≤_, _+_, _*_, _-_, _/_, _%_, _^_}
+use Prim.Native.Nat.{ℕ, zero, suc, compare·suc-suc, _<_, _≤_, _+_, _*_, _-_, _%_}
 use native.Mathlib.Omega.{arith}
 use native.Mathlib.Nat.{mod-lt, zero-lt-suc}
 use lib.Dec.{ltb, eqb}
-use borrow.Author.Tests.{lt-ltb, le-ltb, ltb-true, ltb-false}
+use borrow.Author.Tests.{lt-ltb, le-ltb}
 use Rattle.cells.specs.Places.{listOf, sumOf}
 use Rattle.cells.proofs.Places.{sumOf-same, sumOf-zero, sumOf-add}
 use Rattle.codes.specs.Generators.{Generators, digit}
 use Rattle.codes.specs.Reading.{ago, dataBit}
-use Rattle.codes.specs.Sequences.{_+₂_, Bits, zeros, _⊕_, scale, shift, conv, odd}
+use Rattle.codes.specs.Sequences.{_+₂_, zeros, _⊕_, scale, shift, conv, odd}
 
 -- ODD. A sum is odd if just one of the two is
 pub odd-add : (x y : ℕ) → odd (x + y) ≡ odd x +₂ odd y

@@ -3,15 +3,14 @@ use mathlib.Core.Path.{_≡_, refl, sym, _∙_, ap, ap₂}
 use mathlib.Core.Bool.{Bool, true, false, cond, Bool·beq, true≢false, false≢true}
 use mathlib.Core.List.{List, [], _∷_, _++_}
 use mathlib.Core.Option.{Option, none, some, Option·some-injective}
-use Prim.Native.Nat.{ℕ, zero, suc, _≤_, _<_}
+use Prim.Native.Nat.{ℕ, suc, _<_}
 use native.Mathlib.Omega.{arith}
 use lib.Dec.{ltb}
 use lib.ListN.{length, getD, replicate}
 use borrow.Author.Tests.{lt-ltb, le-ltb}
 use Rattle.codes.specs.Sequences.{_+₂_, Bits}
 use Rattle.codes.specs.Registers.{dot}
-use Rattle.cells.specs.Places.{Each}
-use Rattle.trellis.specs.Best.{Answer, Best, Solves, just}
+use Rattle.trellis.specs.Best.{Answer}
 use Rattle.trellis.specs.Trellis.{joined}
 use Rattle.codes.specs.Encoders.{Encoder, InMemory}
 use Rattle.trellis.specs.Strip.{Steps, Cell, Full, Meaning, Group}

@@ -10,9 +10,8 @@ use mathlib.Core.Logic.{_⊎_, inl, inr, ⊎-elim, _↔_}
 use lib.Dec.{ltb, eqb}
 use lib.ListN.{length, getD, length-append}
 use borrow.Author.Tests.{ltb-true, ltb-false, eqb-true, eqb-false}
-use Rattle.cells.specs.Places.{Each, no-more, and-each}
-use Rattle.trellis.specs.Best.{LexLe, done, lower, same, NoWorse, cheaper, tied, Problem, Answer, Best, Solves, nothing, just, Settles, closed, sole, Product, Wide, Empty, empty, Either, digit, All, FirstClosed, here, later, FirstLower}
-use Rattle.trellis.specs.Trellis.{before, lexltb, beats, better, joined, free, best, Valid, all, first-none, total}
+use Rattle.trellis.specs.Best.{LexLe, done, lower, same, NoWorse, cheaper, tied, Problem, Answer, Best, Solves, nothing, just, Settles, closed, sole, Product, Wide, Empty, empty, Either, digit, FirstLower}
+use Rattle.trellis.specs.Trellis.{before, lexltb, beats, better, joined, free}
 
 -- the order
 pub lex-refl : (x : List ℕ) → LexLe x x

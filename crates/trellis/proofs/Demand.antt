@@ -1,10 +1,10 @@
 -- THE THEOREM OF A STRIP, in the paper's words: the search finds the cheapest of ALL level lists that read as the data with no level lowered and none
 -- above the top, ties to the lower level at the first cell that differs; or there is none. For any length, generators, weights, marks and data.
-use mathlib.Core.Path.{_≡_, refl, sym, _∙_, ap}
+use mathlib.Core.Path.{_≡_, sym, _∙_, ap}
 use mathlib.Core.List.{List}
 use mathlib.Core.Logic.{_↔_}
 use mathlib.Core.Option.{none, some}
-use Prim.Native.Nat.{ℕ, _<_, _≤_, _+_, _*_, _%_}
+use Prim.Native.Nat.{ℕ, _<_, _+_, _*_, _%_}
 use native.Mathlib.Omega.{arith}
 use lib.ListN.{length}
 use Rattle.codes.specs.Generators.{Generators, digit}
@@ -15,8 +15,8 @@ use Rattle.codes.specs.Coset.{bit, Reads}
 use Rattle.codes.proofs.Sums.{odd-mod-two}
 use Rattle.codes.proofs.Encoders.{encoder-in-memory, reads-sums}
 use Rattle.trellis.specs.Best.{Answer, Best, Solves, Wide}
-use Rattle.trellis.specs.Strip.{Steps, Dear, Cell, Full, words, Rewrite}
-use Rattle.trellis.specs.Demand.{cellAt, levelAt, CouldBe, pays, Cheapest}
+use Rattle.trellis.specs.Strip.{Steps, Dear, Cell, words, Rewrite}
+use Rattle.trellis.specs.Demand.{levelAt, CouldBe, pays, Cheapest}
 use Rattle.trellis.specs.Search.{write}
 use Rattle.trellis.specs.Parity.{parity, parity-choice}
 use Rattle.trellis.proofs.Best.{the-best, none-valid, cost-least, levels-first}

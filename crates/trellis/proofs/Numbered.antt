@@ -3,11 +3,10 @@
 use mathlib.Core.Path.{_≡_, refl, sym, _∙_, ap, ap₂}
 use mathlib.Core.Bool.{Bool, true, false}
 use mathlib.Core.List.{List, [], _∷_}
-use mathlib.Core.Option.{Option, none, some}
-use Prim.Native.Nat.{ℕ, zero, suc, _+_, _*_, _%_, _^_}
+use mathlib.Core.Option.{Option}
+use Prim.Native.Nat.{ℕ, suc, _+_, _*_, _%_, _^_}
 use native.Mathlib.Omega.{arith}
-use lib.Dec.{ltb}
-use lib.ListN.{length, take, replicate}
+use lib.ListN.{length, replicate}
 use Rattle.codes.specs.Sequences.{_+₂_, Bits, odd}
 use Rattle.codes.specs.Registers.{dot, push}
 use Rattle.codes.specs.Encoders.{Encoder, InMemory}
@@ -18,7 +17,7 @@ use Rattle.trellis.specs.Best.{Answer}
 use Rattle.trellis.specs.Trellis.{better, joined, best}
 use Rattle.trellis.specs.Strip.{Steps, Cell, Full, Meaning}
 use Rattle.trellis.specs.Search.{sums, wanted, Stage, Choice, branch, next, stages, write, Chooses, Leads}
-use Rattle.trellis.specs.Plan.{first-level, plus, lesser, turn, costs, digit-at, plan, play}
+use Rattle.trellis.specs.Plan.{plus, lesser, costs, digit-at, plan, play}
 use Rattle.trellis.specs.Numbered.{sumsN, wantedN, branchN, nextN}
 use Rattle.trellis.proofs.Apart.{write-plan}
 

@@ -1,23 +1,21 @@
 -- One bit a cell: keeping a cell or raising it by one is strictly the cheapest way to show a bit, as every step costs something; so the stage's
 -- choice finds the stage's strictly cheapest levels, or there are none.
-use mathlib.Core.Path.{_≡_, refl, sym, _∙_, ap, ap₂, subst}
-use mathlib.Core.Bool.{Bool, true, false, cond, not, _&&_, Bool·beq, true≢false, false≢true, Bool·not-not}
+use mathlib.Core.Path.{_≡_, refl, sym, _∙_, ap, ap₂}
+use mathlib.Core.Bool.{Bool, true, false, cond, not, Bool·beq, true≢false, false≢true}
 use mathlib.Core.List.{List, [], _∷_, _++_, map}
-use mathlib.Core.Option.{Option, none, some}
-use mathlib.Core.Logic.{_⊎_, inl, inr, ⊎-elim, _↔_}
-use Prim.Native.Nat.{ℕ, zero, suc, _<_, _≤_, _+_, _-_, _%_}
+use mathlib.Core.Option.{none, some}
+use mathlib.Core.Logic.{_⊎_, inl, inr}
+use Prim.Native.Nat.{ℕ, zero, suc, _<_, _≤_, _+_}
 use native.Mathlib.Omega.{arith}
-use native.Mathlib.Nat.{not-suc-le-zero}
-use lib.Dec.{ltb, eqb}
+use lib.Dec.{ltb}
 use lib.ListN.{length, getD, length-map}
-use borrow.Author.Tests.{ltb-true, ltb-false, eqb-true, eqb-false}
+use borrow.Author.Tests.{ltb-true, ltb-false}
 use Rattle.cells.specs.Climbs.{climb, house, weightOf}
 use Rattle.cells.proofs.Climbs.{climb-stay, climb-step, climb-rises}
 use Rattle.codes.specs.Sequences.{odd}
-use Rattle.trellis.specs.Best.{Problem, Answer, Settles, closed, sole, Product, Empty, empty}
-use Rattle.trellis.specs.Trellis.{joined, free}
-use Rattle.trellis.specs.Strip.{Steps, Dear, Cell, Rise, Raised, still, rise, Meaning, Group, stepsOf}
-use Rattle.trellis.specs.Search.{Choice, Chooses, Leads}
+use Rattle.trellis.specs.Best.{Settles, closed, sole, Product, Empty, empty}
+use Rattle.trellis.specs.Strip.{Steps, Dear, Cell, Raised, still, rise, Group, stepsOf}
+use Rattle.trellis.specs.Search.{Chooses, Leads}
 use Rattle.trellis.specs.Parity.{parity, One, keep-or-raise, parity-choice}
 use Rattle.trellis.proofs.Best.{settles-solves, settles-product, settles-empty, settles-iff}
 use Rattle.trellis.proofs.Raising.{raised-length}

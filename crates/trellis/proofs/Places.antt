@@ -1,13 +1,13 @@
 -- By places: a raising is known by each cell's climb, and a code bit by the level of its cell.
-use mathlib.Core.Path.{_≡_, refl, sym, _∙_, ap, ap₂}
+use mathlib.Core.Path.{_≡_, refl, sym, _∙_, ap}
 use mathlib.Core.Bool.{Bool, false}
 use mathlib.Core.List.{List, [], _∷_, map}
-use Prim.Native.Nat.{ℕ, zero, suc, _<_, _≤_, _+_, _*_}
+use Prim.Native.Nat.{ℕ, zero, suc, _<_, _+_, _*_}
 use native.Mathlib.Omega.{arith}
 use native.Mathlib.Nat.{not-suc-le-zero}
 use lib.ListN.{length, getD, take, drop, List·getD-map}
 use lib.Seq.{getD-take, getD-drop, drop-drop}
-use Rattle.cells.specs.Places.{listOf, sumOf}
+use Rattle.cells.specs.Places.{sumOf}
 use Rattle.cells.specs.Climbs.{climb}
 use Rattle.cells.proofs.Places.{length-listOf, listOf-at}
 use Rattle.codes.specs.Sequences.{odd}

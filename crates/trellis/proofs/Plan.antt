@@ -1,17 +1,16 @@
 -- plan finds the digits of the best path from costs alone, where the two digits' first levels differ.
 use mathlib.Core.Path.{_≡_, refl, sym, _∙_, ap, ap₂, subst}
-use mathlib.Core.Bool.{Bool, true, false, cond, _&&_, _||_, true≢false, false≢true}
+use mathlib.Core.Bool.{Bool, true, false, cond, _&&_, _||_}
 use mathlib.Core.List.{List, [], _∷_, _++_}
 use mathlib.Core.Option.{Option, none, some, Option·some-injective}
-use mathlib.Core.Logic.{_⊎_, inl, inr, ⊎-elim}
-use Prim.Native.Nat.{ℕ, zero, suc, _<_, _≤_, _+_}
+use Prim.Native.Nat.{ℕ, _+_}
 use native.Mathlib.Omega.{arith}
 use lib.Dec.{ltb, eqb}
-use lib.ListN.{length, getD}
-use borrow.Author.Tests.{ltb-true, ltb-false, eqb-true, eqb-false, ne-eqb}
+use lib.ListN.{getD}
+use borrow.Author.Tests.{eqb-true, ne-eqb}
 use Rattle.cells.specs.Places.{Each, no-more, and-each}
-use Rattle.trellis.specs.Best.{Problem, Answer, Best, Solves, nothing, just, Product, Empty, empty, Either, digit}
-use Rattle.trellis.specs.Trellis.{before, lexltb, beats, better, joined, free, best, Valid}
+use Rattle.trellis.specs.Best.{Problem, Answer, Solves, just, Empty, empty, digit}
+use Rattle.trellis.specs.Trellis.{before, lexltb, beats, better, joined, best, Valid}
 use Rattle.trellis.specs.Plan.{cost-of, first-level, plus, lesser, turn, costs, digit-at, plan, play, Apart, apart}
 
 -- the cost of two one after the other

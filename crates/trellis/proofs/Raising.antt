@@ -1,18 +1,15 @@
 -- Raised cells: lengths stay, and a raising goes apart and together by groups of cells.
-use mathlib.Core.Path.{_≡_, refl, sym, _∙_, ap, ap₂, subst}
-use mathlib.Core.Bool.{Bool, true, false}
-use mathlib.Core.List.{List, [], _∷_, _++_, map}
-use Prim.Native.Nat.{ℕ, zero, suc, _<_, _≤_, _+_, _-_, _*_}
+use mathlib.Core.Path.{_≡_, refl, _∙_, ap}
+use mathlib.Core.Bool.{Bool}
+use mathlib.Core.List.{List, [], _∷_, _++_}
+use Prim.Native.Nat.{ℕ, zero, suc, _<_, _+_, _*_}
 use native.Mathlib.Omega.{arith}
 use native.Mathlib.Nat.{not-suc-le-zero}
-use native.Mathlib.Numerals.{unary-clauses}
-use lib.Dec.{ltb}
 use lib.ListN.{length, getD, take, drop, length-drop, length-map}
 use lib.Seq.{length-take-le}
-use borrow.Author.Tests.{ltb-true, ltb-false}
 use Rattle.trellis.specs.Best.{Wide}
 use Rattle.cells.specs.Climbs.{climb}
-use Rattle.trellis.specs.Strip.{Steps, Cell, Rise, Raised, still, rise, groups, Full, done, more, Meaning, words, Group}
+use Rattle.trellis.specs.Strip.{Steps, Cell, Raised, still, rise, groups, Full, done, more, Meaning, words, Group}
 use Rattle.codes.specs.Coset.{Sized}
 
 module _ {S : Steps} where

@@ -1,11 +1,9 @@
 -- THE STRIP: `write` finds the best of all level lists that read as the data, or there is none. For any encoder, data, weights and marks, and any
 -- meaning of levels with a choice that solves its stage.
 use Prim.{Unit, tt}
-use mathlib.Core.Path.{_≡_, refl, sym, _∙_, ap, ap₂, subst}
+use mathlib.Core.Path.{_≡_, refl, sym, _∙_, ap, ap₂}
 use mathlib.Core.Bool.{Bool, true, false, cond}
-use mathlib.Core.List.{List, [], _∷_, _++_, map}
-use mathlib.Core.Option.{Option, none, some}
-use mathlib.Core.Logic.{_↔_}
+use mathlib.Core.List.{List, [], _∷_, _++_}
 use Prim.Native.Nat.{ℕ, zero, suc, _<_, _≤_, _+_}
 use native.Mathlib.Omega.{arith}
 use native.Mathlib.Nat.{not-suc-le-zero}
@@ -13,13 +11,13 @@ use lib.Dec.{eqb}
 use lib.ListN.{length, getD, take, drop, replicate, take-append-drop}
 use lib.Seq.{take-at, drop-at}
 use borrow.Author.Tests.{eq-eqb, ne-eqb}
-use Rattle.codes.specs.Sequences.{_+₂_, Bits, zeros, conv, Agree}
-use Rattle.codes.specs.Registers.{dot, push, quotient}
+use Rattle.codes.specs.Sequences.{_+₂_, Bits, zeros, Agree}
+use Rattle.codes.specs.Registers.{push, quotient}
 use Rattle.cells.specs.Places.{Each, no-more, and-each}
-use Rattle.trellis.specs.Best.{Problem, Answer, Solves, Product, Empty, empty, Either, digit}
-use Rattle.trellis.specs.Trellis.{best, Valid}
+use Rattle.trellis.specs.Best.{Solves, empty, digit}
+use Rattle.trellis.specs.Trellis.{Valid}
 use Rattle.codes.specs.Encoders.{Encoder, InMemory}
-use Rattle.trellis.specs.Strip.{Steps, Cell, Raised, still, rise, groups, Full, done, more, Meaning, words, Rewrite, Group}
+use Rattle.trellis.specs.Strip.{Steps, Cell, Raised, still, groups, Full, done, more, Meaning, words, Rewrite, Group}
 use Rattle.trellis.specs.Search.{labels, sums, wanted, Stage, Choice, branch, admit, next, stages, write, Chooses}
 use Rattle.codes.proofs.Sequences.{agree-down, agree-refl, agree-trans}
 use Rattle.codes.proofs.Registers.{hist, hist-agree, hist-zero, conv-dot, dot-state, push-state}

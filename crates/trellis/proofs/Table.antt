@@ -13,7 +13,7 @@ use Rattle.trellis.specs.Best.{Answer}
 use Rattle.trellis.specs.Trellis.{better, joined, free, best}
 use Rattle.trellis.specs.Strip.{Cell}
 use Rattle.trellis.specs.Search.{Stage, Choice, branch, next, stages, write}
-use Rattle.trellis.specs.Table.{Tree, leaf, node, grow, look, step, table, write-table}
+use Rattle.trellis.specs.Table.{grow, look, step, table, write-table}
 
 -- looking up what was grown
 look-grow : {A : Type 0} (z : A) (m : ℕ) (f : List Bool → A) (s : List Bool) → length s ≡ m → look z (grow m f) s ≡ f s
