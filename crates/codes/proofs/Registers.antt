@@ -7,7 +7,7 @@ use native.Mathlib.Omega.{arith}
 use native.Mathlib.Nat.{not-suc-le-zero}
 use lib.ListN.{length, getD, take, replicate, length-replicate}
 use lib.Seq.{take-take, take-all, length-take-le}
-use Rattle.codes.specs.Sequences.{_+₂_, Bits, zeros, scale, shift, conv, Agree}
+use Rattle.codes.specs.Sequences.{_+₂_, Bits, zeros, _⊕_, scale, shift, conv, Agree}
 use Rattle.codes.specs.Registers.{dot, push, register, quotient, forth, back}
 use Rattle.codes.proofs.Sequences.{+₂-assoc, +₂-comm, +₂-self, +₂-false, agree-down, conv-inj}
 
