@@ -11,3 +11,6 @@ pub mod Table
 pub mod Places
 pub mod Demand
 pub mod Examples
+pub mod Stages
+pub mod Signed
+pub mod Costs

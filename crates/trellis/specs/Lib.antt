@@ -8,3 +8,9 @@ pub mod Parity
 pub mod Plan
 pub mod Numbered
 pub mod Table
+pub mod Costs
+pub mod Stage
+pub mod Backward
+pub mod Forward
+pub mod Outcomes
+pub mod Wide
