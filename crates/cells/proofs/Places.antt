@@ -80,6 +80,25 @@ unfolding sumOf
 sumOf-add zero f g = refl
 sumOf-add (suc n) f g = omega (arith, sumOf-add n (λ i. f (suc i)) (λ i. g (suc i)))
 
+-- a sum of n places, and of m more
+pub sumOf-append : (n m : ℕ) (f : ℕ → ℕ) → sumOf (n + m) f ≡ sumOf n f + sumOf m (λ i. f (n + i))
+unfolding sumOf
+sumOf-append zero m f = let e : 0 + m ≡ m = omega arith in rw e (omega (arith, sumOf-same m f (λ i. f (0 + i)) (λ i h. ap f (omega arith))))
+sumOf-append (suc n) m f =
+    let e : suc n + m ≡ suc (n + m) = omega arith in
+    let s : sumOf m (λ i. f (suc n + i)) ≡ sumOf m (λ i. f (suc (n + i))) = sumOf-same m _ _ (λ i h. ap f (omega arith)) in
+    rw (e, s) (omega (arith, sumOf-append n m (λ i. f (suc i))))
+
+-- a sum by parts of w places each
+pub sumOf-parts : (w S : ℕ) (f : ℕ → ℕ) → sumOf (w * S) f ≡ sumOf S (λ j. sumOf w (λ c. f (w * j + c)))
+unfolding sumOf
+sumOf-parts w zero f = let e : w * 0 ≡ 0 = omega arith in rw e
+sumOf-parts w (suc S) f =
+    let e : w * suc S ≡ w + w * S = omega arith in
+    let a : sumOf w f ≡ sumOf w (λ c. f (w * 0 + c)) = sumOf-same w _ _ (λ c h. ap f (omega arith)) in
+    let b : sumOf S (λ j. sumOf w (λ c. f (w + (w * j + c)))) ≡ sumOf S (λ j. sumOf w (λ c. f (w * suc j + c))) = sumOf-same S _ _ (λ j h. sumOf-same w _ _ (λ c k. ap f (omega arith))) in
+    rw e (omega (arith, sumOf-append w (w * S) f, sumOf-parts w S (λ i. f (w + i)), a, b))
+
 -- NUMBERS. A number grows by its last bit
 pub number-more : (n : ℕ) (f : ℕ → ℕ) → number (suc n) f ≡ number n f + f n * 2 ^ n
 unfolding number

@@ -10,6 +10,10 @@ use lib.ListN.{length, getD}
 use Rattle.cells.specs.Places.{listOf, no-more, and-each}
 use Rattle.cells.proofs.Places.{length-listOf}
 use Rattle.codes.specs.Generators.{Generators, short, long, digit}
+use Rattle.codes.specs.Codes.{named, generatorsOf}
+use Rattle.codes.specs.declared.Code.{Code}
+use Rattle.codes.specs.declared.Name.{Name}
+use Rattle.codes.specs.declared.Name.the-variants.{Short, Long}
 use Rattle.codes.specs.Reading.{dataBit}
 use Rattle.codes.specs.Sequences.{_⊕_, conv, Agree, odd}
 use Rattle.codes.specs.Encoders.{InMemory, encoderOf, Proper}
@@ -41,6 +45,15 @@ short-proper = record { some-memory = omega arith; leads = refl; ends = refl }
 pub long-proper : Proper long
 unfolding digit
 long-proper = record { some-memory = omega arith; leads = refl; ends = refl }
+
+-- so is the code of each name
+named-proper : (n : Name) → Proper (named n)
+named-proper Short = short-proper
+named-proper Long = long-proper
+
+-- so is every code, which is its name
+pub proper : (c : Code) → Proper (generatorsOf c)
+proper c = named-proper (c .name)
 
 -- WORDS READ AS THE DATA just where the paper's sums give it: a and b are the bits of the words
 module _ (G : Generators) (lead : digit (G .memory) (G .g1) 0 ≡ 1) (n : ℕ) (W : List (List Bool)) (a b d : ℕ → ℕ) (bits : (t : ℕ) → d t < 2)

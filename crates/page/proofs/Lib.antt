@@ -1,0 +1,6 @@
+-- The laws of a page: its parts, its reading, its strips one after the other, and demand 3.
+pub mod Parts
+pub mod Readings
+pub mod Strips
+pub mod Levels
+pub mod Demand

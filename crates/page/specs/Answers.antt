@@ -1,0 +1,69 @@
+-- The answers of the calls on every input, with the paper's number and values for each case.
+--   completionOf         done, or the refusal
+--   answerOf, pageOf     a write's answer, and the page after it
+--   numberOf, valueOf    an answer's number and value in the paper
+--   kept                 what a refusal leaves as it was
+use mathlib.Core.List.{List}
+use mathlib.Core.Option.{Option, none, some}
+use Prim.Native.Nat.{ℕ, _+_, _*_}
+use lib.ListN.{length}
+use Rattle.cells.specs.Climbs.{house}
+use Rattle.cells.specs.Raising.{raisedTo}
+use Rattle.trellis.specs.Best as Search
+use Rattle.trellis.specs.Demand.{levelAt}
+use Rattle.page.specs.Refusals.{ground, refusalNumber, numbered}
+use Rattle.page.specs.Computed.{pageWrite, spentStrip}
+use Rattle.page.specs.declared.Refusal.{Refusal}
+use Rattle.page.specs.declared.Answer.{Answer}
+use Rattle.page.specs.declared.Answer.the-variants as A
+use Rattle.page.specs.declared.Completion.{Completion}
+use Rattle.page.specs.declared.Completion.the-variants as C
+
+-- 'Read, erase and census answer done or the refusal.'
+abbrev pub completionOf : Option Refusal → Completion
+completionOf none = C.Done
+completionOf (some r) = C.Refused r
+
+-- 'Page, data and buffers are unchanged' with any refusal
+abbrev pub kept : {A : Type 0} → Option Refusal → A → A → A
+kept none done before = done
+kept (some r) done before = before
+
+-- a write's answer, by the ground of a refusal, the computed write and the strip that is spent
+abbrev pub answered : Option Refusal → Option Search.Answer → ℕ → Answer
+answered (some r) w k = A.Refused r
+answered none (some a) k = A.Done (a .cost)
+answered none none k = A.Spent k
+
+-- the page after it
+abbrev pub turned : Option Refusal → Option Search.Answer → List ℕ → List ℕ
+turned (some r) w before = before
+turned none (some a) before = raisedTo before (levelAt (a .levels))
+turned none none before = before
+
+-- a call of write or price with these three weights
+module _ (W : List ℕ) (code L S : ℕ) (before content : List ℕ) where
+  -- THE ANSWER of a write, and of a price
+  unfoldable pub answerOf : Answer
+  answerOf = answered (ground code L S (length before) (length content)) (pageWrite (numbered code) W L S before content) (spentStrip (numbered code) W L S before content)
+
+  -- THE PAGE after a write
+  unfoldable pub pageOf : List ℕ
+  pageOf = turned (ground code L S (length before) (length content)) (pageWrite (numbered code) W L S before content) before
+
+-- the number of an answer: 0, 7 where the page is spent, or the refusal's
+abbrev pub numberOf : Answer → ℕ
+numberOf (A.Done cost) = 0
+numberOf (A.Spent strip) = 7
+numberOf (A.Refused r) = refusalNumber r
+
+-- its value: the cost, or the strip's number where the page is spent; 'with any refusal the cost is 0'
+abbrev pub valueOf : Answer → ℕ
+valueOf (A.Done cost) = cost
+valueOf (A.Spent strip) = strip
+valueOf (A.Refused r) = 0
+
+-- the number of a completion
+abbrev pub completionNumber : Completion → ℕ
+completionNumber C.Done = 0
+completionNumber (C.Refused r) = refusalNumber r

@@ -1,0 +1,42 @@
+-- The census of a page: how many cells of each strip are at each level.
+--   countOf n v l    how many of the first n levels v are l
+--   rowOf, rowAt     a strip's row; row k of a page of S strips
+--   censusOf         the census on every input
+use mathlib.Core.Bool.{cond}
+use mathlib.Core.List.{List, [], _∷_}
+use mathlib.Core.Option.{Option, none, some}
+use Prim.Native.Nat.{ℕ, _*_}
+use lib.Dec.{eqb, ltb}
+use lib.ListN.{length}
+use Rattle.cells.specs.Places.{listOf, sumOf}
+use Rattle.page.specs.Reading.{stripLevels}
+use Rattle.page.specs.Refusals.{shapeGround}
+use Rattle.page.specs.Answers.{completionOf}
+use Rattle.page.specs.declared.Refusal.{Refusal}
+use Rattle.page.specs.declared.Row.{Row}
+use Rattle.page.specs.declared.Census.{Census}
+
+-- the cells at level l among the first n
+unfoldable pub countOf : ℕ → (ℕ → ℕ) → ℕ → ℕ
+countOf n v l = sumOf n (λ c. cond (eqb (v c) l) 1 0)
+
+-- 'four counts in each row, the cells at levels 0 to 3'
+unfoldable pub rowOf : ℕ → (ℕ → ℕ) → Row
+rowOf n v = record { counts = countOf n v 0 ∷ countOf n v 1 ∷ countOf n v 2 ∷ countOf n v 3 ∷ [] }
+
+-- no cells
+abbrev pub zeroRow : Row
+zeroRow = record { counts = 0 ∷ 0 ∷ 0 ∷ 0 ∷ [] }
+
+-- 'one row for each strip'; 'the rows from S to 63 are zero'
+unfoldable pub rowAt : ℕ → ℕ → List ℕ → ℕ → Row
+rowAt L S page k = cond (ltb k S) (rowOf (16 * L) (stripLevels L page k)) zeroRow
+
+-- the rows of a page, or all zeros with a refusal
+unfoldable pub rowsOf : Option Refusal → ℕ → ℕ → List ℕ → List Row
+rowsOf none L S page = listOf 64 (rowAt L S page)
+rowsOf (some r) L S page = listOf 64 (λ k. zeroRow)
+
+-- the census
+unfoldable pub censusOf : ℕ → ℕ → List ℕ → Census
+censusOf L S page = record { answer = completionOf (shapeGround L S (length page)); rows = rowsOf (shapeGround L S (length page)) L S page }

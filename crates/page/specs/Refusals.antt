@@ -1,0 +1,65 @@
+-- When a call is refused, and by which number.
+--   first-of             of two grounds, the one that is tested first
+--   shapeGround, ground  the grounds of erase and census; of read, price and write
+--   eraseGround          from the state: an erase outside 50 to 400
+--   refusalNumber        the paper's number of a refusal
+use mathlib.Core.Bool.{Bool, cond, _||_}
+use mathlib.Core.Option.{Option, none, some}
+use Prim.Native.Nat.{ℕ, _*_}
+use lib.Dec.{eqb}
+use lib.IntN.{ℤ, pos}
+use lib.Signed.{ltZ}
+use Rattle.codes.specs.Generators.{Generators, short, long}
+use Rattle.page.specs.Shape.{oneTo64}
+use Rattle.page.specs.declared.Refusal.{Refusal}
+use Rattle.page.specs.declared.Refusal.the-variants.{CodeUnknown, BytesOutside, StripsOutside, PageLength, DataLength, EraseTemperature}
+
+-- 'Tested in this order': the first ground that applies
+abbrev pub first-of : Option Refusal → Option Refusal → Option Refusal
+first-of (some r) later = some r
+first-of none later = later
+
+-- '1: the code is neither 3 nor 7'
+unfoldable pub codeGround : ℕ → Option Refusal
+codeGround code = cond (eqb code 3 || eqb code 7) none (some CodeUnknown)
+
+-- '2: L is not from 1 to 64'
+unfoldable pub bytesGround : ℕ → Option Refusal
+bytesGround L = cond (oneTo64 L) none (some BytesOutside)
+
+-- '3: S is not from 1 to 64'
+unfoldable pub stripsGround : ℕ → Option Refusal
+stripsGround S = cond (oneTo64 S) none (some StripsOutside)
+
+-- '4: the page is not 6·L·S bytes long'
+unfoldable pub pageGround : ℕ → ℕ → ℕ → Option Refusal
+pageGround L S size = cond (eqb size (6 * L * S)) none (some PageLength)
+
+-- '5: the data, or the buffer for it, is not L·S bytes long'
+unfoldable pub dataGround : ℕ → ℕ → ℕ → Option Refusal
+dataGround L S size = cond (eqb size (L * S)) none (some DataLength)
+
+-- 2, 3 and 4: 'erase and census take L, S and the page, and no code'
+unfoldable pub shapeGround : ℕ → ℕ → ℕ → Option Refusal
+shapeGround L S page = first-of (bytesGround L) (first-of (stripsGround S) (pageGround L S page))
+
+-- 1 to 5, for read, price and write
+unfoldable pub ground : ℕ → ℕ → ℕ → ℕ → ℕ → Option Refusal
+ground code L S page content = first-of (codeGround code) (first-of (shapeGround L S page) (dataGround L S content))
+
+-- '8: an erase outside 50 to 400', 'tested after those of the input'
+unfoldable pub eraseGround : ℤ → Option Refusal
+eraseGround tenths = cond (ltZ tenths (pos 50) || ltZ (pos 400) tenths) (some EraseTemperature) none
+
+-- the paper's number of each refusal
+abbrev pub refusalNumber : Refusal → ℕ
+refusalNumber CodeUnknown = 1
+refusalNumber BytesOutside = 2
+refusalNumber StripsOutside = 3
+refusalNumber PageLength = 4
+refusalNumber DataLength = 5
+refusalNumber EraseTemperature = 8
+
+-- the generators of a code's number, where it is one
+unfoldable pub numbered : ℕ → Generators
+numbered code = cond (eqb code 3) short long
