@@ -14,3 +14,5 @@ pub mod Examples
 pub mod Stages
 pub mod Signed
 pub mod Costs
+pub mod Labels
+pub mod Passes

@@ -1,0 +1,137 @@
+-- The invariant: the register is that of the labels before stage t, the costs are those over the stages from t on, and these have their digits.
+use mathlib.Core.Path.{_≡_, ap, _∙_}
+use mathlib.Core.List.{List}
+use Prim.Native.Nat.{ℕ, suc, _≤_, _<_, _*_, _-_}
+use native.Mathlib.Omega.{arith}
+use lib.ListN.{length, getD, length-set}
+use mir.Syntax.{w8}
+use borrow.Author.Needs.{needs, elem-fits}
+use Rattle.codes.specs.Codes.{generatorsOf}
+use Rattle.codes.proofs.Encoders.{proper}
+use Rattle.trellis.specs.Outcomes.{outcomeOf}
+use Rattle.trellis.specs.Backward.{stepList, decisionAt}
+use Rattle.trellis.proofs.Passes.{Held, held-last, held-first, held-asks, held-more, held-digits, store-back}
+use Rattle.trellis.proofs.backward.decide.Statement.{statement}
+use Rattle.trellis.proofs.backward.decide.Tie as tie
+
+abbrev Inv-loop : tie.InvT-loop
+Inv-loop code words strip «data» decisions₀ taps steps register₀ costs₀ t₀ decisions register costs t =
+    (Held (generatorsOf code) steps strip «data» (8 * length «data») t register costs)
+    × (length decisions ≡ 512)
+    × ((W : List ℕ) → steps ≡ stepList W → (k : ℕ) → t ≤ k → k < 8 * length «data» → getD decisions k 0 ≡ decisionAt (generatorsOf code) W strip «data» (8 * length «data») k)
+
+abbrev μ-loop : tie.MeasureT-loop
+μ-loop code words strip «data» decisions₀ taps steps register₀ costs₀ t₀ decisions register costs t = t
+
+first-taps-requires : tie.Need-first-taps-requires Inv-loop μ-loop
+first-taps-requires c κs = search needs
+
+steps-of-requires : tie.Need-steps-of-requires Inv-loop μ-loop
+steps-of-requires c κs = search needs
+
+last-register-requires : tie.Need-last-register-requires Inv-loop μ-loop
+last-register-requires c κs = search needs
+
+mul-t : tie.Need-mul-t Inv-loop μ-loop
+mul-t c = search needs
+
+loop-holds : tie.Need-loop-holds Inv-loop μ-loop
+loop-holds c =
+    let s = c .before .before .before .before .before in
+    let a = s .args in (
+      held-last (generatorsOf (a .code)) (c .before .steps-of .result) (a .strip .now) (a .«data» .now) (8 * length (a .«data» .now)) (c .last-register .ensures),
+      s .pre .1,
+      λ W e k l m. absurd (let z : ⊥ = omega arith in z),
+    )
+
+sub-t : tie.Need-sub-t Inv-loop μ-loop
+sub-t c = search needs
+
+cast-label : tie.Need-cast-label Inv-loop μ-loop
+cast-label c = search needs
+
+bit-requires : tie.Need-bit-requires Inv-loop μ-loop
+bit-requires c κs = search needs
+
+cast-back : tie.Need-cast-back Inv-loop μ-loop
+cast-back c = search needs
+
+back-requires : tie.Need-back-requires Inv-loop μ-loop
+back-requires c κs = search needs
+
+cast-stage-before : tie.Need-cast-stage-before Inv-loop μ-loop
+cast-stage-before c = search needs
+
+stage-before-requires : tie.Need-stage-before-requires Inv-loop μ-loop
+stage-before-requires c κs =
+    let d = c .before .before .before .before .before .before in
+    let s = d .before .before .before .before in
+    let a = s .args in
+    let l = c .before .before .before .before .loop in
+    let e : l .t ≡ suc (l .t - 1) = omega (arith, c .before .before .before .loop-test .taken) in
+    let w : (i : ℕ) → getD (a .weights) i 0 ≤ 255 = λ i. let h = elem-fits w8 w8 (a .weights) _ i (s .good .1 .1 .0 .1 .1) tt .fits in omega arith in
+    held-asks (generatorsOf (a .code)) (d .steps-of .result) (a .strip .now) (a .«data» .now) _ (l .inv .0) e (a .weights) (d .steps-of .ensures) w (omega (arith, s .pre .0 .most))
+
+mul-decisions : tie.Need-mul-decisions Inv-loop μ-loop
+mul-decisions c = search needs
+
+element-write-decisions : tie.Need-element-write-decisions Inv-loop μ-loop
+element-write-decisions c = search needs
+
+loop-less : tie.Need-loop-less Inv-loop μ-loop
+loop-less c = search needs
+
+loop-again : tie.Need-loop-again Inv-loop μ-loop
+loop-again c =
+    let d = c .before .before .before .before .before .before .before in
+    let s = d .before .before .before .before in
+    let a = s .args in
+    let l = c .before .before .before .before .before .loop in
+    let e : l .t ≡ suc (l .t - 1) = omega (arith, c .before .before .before .before .loop-test .taken) in
+    let digits = held-digits (generatorsOf (a .code)) (d .steps-of .result) (a .strip .now) (a .«data» .now) _ (l .inv .0) e (s .pre .0 .words-are) (c .stage-before .ensures .0) in (
+      held-more (generatorsOf (a .code)) (d .steps-of .result) (a .strip .now) (a .«data» .now) _ (l .inv .0) e (s .pre .0 .words-are)
+      (proper (a .code)) (d .before .first-taps .ensures .0) (c .before .before .before .bit .ensures) (c .before .before .back .ensures) (c .stage-before .ensures .1),
+      simp length-set (l .inv .1),
+      λ W q. store-back (l .decisions) _ (l .t - 1) (c .stage-before .result) _ (omega (arith, l .inv .0 .within, s .pre .0 .most)) (digits W q) (λ k h. l .inv .2 W q k (omega arith)),
+    )
+
+array-read-outcome : tie.Need-array-read-outcome Inv-loop μ-loop
+array-read-outcome c = search needs
+
+outcome-requires : tie.Need-outcome-requires Inv-loop μ-loop
+outcome-requires c κs = search needs
+
+returns : tie.Need-returns Inv-loop μ-loop
+returns c =
+    let d = c .before .before .before .before in
+    let a = d .before .before .before .before .args in
+    let l = c .before .before .loop in
+    let e : l .t ≡ 0 = omega arith in
+    let over = held-first (generatorsOf (a .code)) (d .steps-of .result) (a .strip .now) (a .«data» .now) _ e (l .inv .0) (a .weights) (d .steps-of .ensures) in
+    (c .outcome .ensures ∙ ap (λ (v : List ℕ). outcomeOf (getD v 0 0)) over, λ k h. l .inv .2 (a .weights) (d .steps-of .ensures) k (omega arith) h)
+
+pub decide-spec : {M : Type 1} → statement M
+decide-spec =
+    tie.close
+    (tie.spec
+    Inv-loop
+    μ-loop
+    first-taps-requires
+    steps-of-requires
+    last-register-requires
+    mul-t
+    loop-holds
+    sub-t
+    cast-label
+    bit-requires
+    cast-back
+    back-requires
+    cast-stage-before
+    stage-before-requires
+    mul-decisions
+    element-write-decisions
+    loop-less
+    loop-again
+    array-read-outcome
+    outcome-requires
+    returns)
