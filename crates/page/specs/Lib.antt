@@ -4,6 +4,8 @@ pub mod Reading
 pub mod Demand
 pub mod Refusals
 pub mod Computed
+pub mod Totals
 pub mod Answers
 pub mod Promise
+pub mod Plans
 pub mod Counting

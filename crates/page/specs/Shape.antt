@@ -3,7 +3,9 @@
 --   part L k content    its part of the data
 --   inPage              whether the strip lies in the page
 --   stripOf             the strip, or the empty part where it does not
-use mathlib.Core.Bool.{Bool, cond, _&&_}
+--   Sized               a page and data of S strips of L bytes
+use mathlib.Core.Path.{_≡_}
+use mathlib.Core.Bool.{Bool, true, cond, _&&_}
 use mathlib.Core.List.{List, []}
 use Prim.Native.Nat.{ℕ, suc, _+_, _*_}
 use lib.Dec.{leb}
@@ -28,3 +30,10 @@ inPage L k page = oneTo64 L && leb (6 * L * suc k) (length page)
 -- 'The strip with a given number is a part of the caller's page'; 'L outside its limits, or a strip beyond the page's end, gives the empty part.'
 unfoldable pub stripOf : ℕ → ℕ → List ℕ → List ℕ
 stripOf L k page = cond (inPage L k page) (strip L k page) []
+
+-- a page and data in order: what the functions behind the refusals ask
+pub record Sized (L S : ℕ) (page content : List ℕ) : Type 0 where
+  pub bytes-in : oneTo64 L ≡ true
+  pub strips-in : oneTo64 S ≡ true
+  pub page-is : length page ≡ 6 * L * S
+  pub data-is : length content ≡ L * S

@@ -1,0 +1,100 @@
+// The shape of a page: which input is in order, and the strips as parts of the caller's page.
+use crate::Completion;
+use crate::Refusal;
+use codes::Code;
+ghost use mathlib.Core.Path.{_≡_};
+ghost use lib.ListN.{length};
+ghost use Rattle.codes.specs.Codes.{generatorsOf};
+ghost use Rattle.page.specs.Shape.{oneTo64, stripOf};
+ghost use Rattle.page.specs.Refusals.{shapeGround, ground, numbered};
+ghost use Rattle.page.specs.Answers.{completionOf};
+
+// Whether n is from 1 to 64.
+fn one_to_64(n: u32) -> bool
+    ensures { λ r. ⌜ r ≡ oneTo64 n ⌝ }
+{
+    if n < 1 {
+        return false;
+    }
+    n <= 64
+}
+
+// Judges L, S and the page's length, in this order.
+pub fn judge_shape(bytes: u32, strips: u32, page: usize) -> Completion
+    ensures { λ r. ⌜ r ≡ completionOf (shapeGround bytes strips page) ⌝ }
+{
+    if !one_to_64(bytes) {
+        return Completion::Refused(Refusal::BytesOutside);
+    }
+    if !one_to_64(strips) {
+        return Completion::Refused(Refusal::StripsOutside);
+    }
+    if page != 6 * (bytes as usize) * (strips as usize) {
+        return Completion::Refused(Refusal::PageLength);
+    }
+    Completion::Done
+}
+
+// Judges the code, then the shape, then the data's length.
+pub fn judge(code: u32, bytes: u32, strips: u32, page: usize, data: usize) -> Completion
+    ensures { λ r. ⌜ r ≡ completionOf (ground code bytes strips page «data») ⌝ }
+{
+    if code != 3 {
+        if code != 7 {
+            return Completion::Refused(Refusal::CodeUnknown);
+        }
+    }
+    let judged = judge_shape(bytes, strips, page);
+    let Completion::Done = judged else {
+        return judged;
+    };
+    if data != (bytes as usize) * (strips as usize) {
+        return Completion::Refused(Refusal::DataLength);
+    }
+    Completion::Done
+}
+
+// The code of a number that is 3 or 7.
+pub fn code_of(code: u32) -> Code
+    ensures { λ r. ⌜ generatorsOf r ≡ numbered code ⌝ }
+{
+    if code == 3 { Code::short() } else { Code::long() }
+}
+
+// Strip k of the caller's page, as that part; the empty part where L is not from 1 to 64 or the strip lies beyond the page's end.
+pub fn strip(page: &[u8], bytes: usize, k: usize) -> &[u8]
+    ensures { λ r. ⌜ now r ≡ stripOf bytes k (now (page .entry)) ⌝ }
+{
+    if bytes < 1 {
+        return &page[..0];
+    }
+    if bytes > 64 {
+        return &page[..0];
+    }
+    let n = 6 * bytes;
+    let whole = page.len() / n;
+    if k >= whole {
+        return &page[..0];
+    }
+    let a = n * k;
+    &page[a..a + n]
+}
+
+// The same, to be written.
+pub fn strip_mut(page: &mut [u8], bytes: usize, k: usize) -> &mut [u8]
+    ensures { λ r. ⌜ now r ≡ stripOf bytes k (now (page .entry)) ⌝ }
+{
+    if bytes < 1 {
+        return &mut page[..0];
+    }
+    if bytes > 64 {
+        return &mut page[..0];
+    }
+    let n = 6 * bytes;
+    let whole = page.len() / n;
+    if k >= whole {
+        return &mut page[..0];
+    }
+    let a = n * k;
+    &mut page[a..a + n]
+}

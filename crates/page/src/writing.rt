@@ -1,0 +1,176 @@
+// Pricing and writing a page. A write plans every strip before it touches one.
+use crate::Answer;
+use crate::Completion;
+use crate::Total;
+use crate::shape;
+use codes::Code;
+use trellis::backward::price_strip;
+use trellis::backward::words_of;
+use trellis::forward::carry_strip;
+use trellis::forward::plan_strip;
+ghost use mathlib.Core.Path.{_≡_};
+ghost use mathlib.Core.List.{List};
+ghost use mathlib.Core.Option.{Option, none, some};
+ghost use Prim.Native.Nat.{ℕ, _*_, _<_};
+ghost use lib.ListN.{length};
+ghost use Rattle.cells.specs.Bytes.{bitOf, bytesOf};
+ghost use Rattle.cells.specs.Raising.{raisedTo};
+ghost use Rattle.cells.specs.Climbs.{house};
+ghost use Rattle.codes.specs.Codes.{generatorsOf};
+ghost use Rattle.trellis.specs.Backward.{decisionAt};
+ghost use Rattle.trellis.specs.Forward.{followed, carriedTo};
+ghost use Rattle.page.specs.Shape.{Sized, strip, part};
+ghost use Rattle.page.specs.Computed.{pageWrite, spentStrip};
+ghost use Rattle.page.specs.Answers.{answered, turned, answerOf, pageOf};
+ghost use Rattle.page.specs.Promise.{Wrote};
+ghost use Rattle.page.specs.Plans.{Planned, Carried};
+
+// What the data of the whole page costs.
+fn price_strips(code: Code, weights: [u8; 3], bytes: usize, strips: usize, page: &[u8], data: &[u8]) -> Answer
+    requires { ⌜ Sized bytes strips (now page) (now «data») ⌝ }
+    ensures { λ r. ⌜ r ≡ answered none (pageWrite (generatorsOf code) weights bytes strips (now (page .entry)) (now («data» .entry))) (spentStrip (generatorsOf code) weights bytes strips (now (page .entry)) (now («data» .entry))) ⌝ }
+{
+    let words = words_of(code);
+    let mut total = Total::new();
+    let mut k: usize = 0;
+    while k < strips {
+        let a = bytes * k;
+        let outcome = price_strip(
+            code,
+            &words,
+            weights,
+            shape::strip(page, bytes, k),
+            &data[a..a + bytes],
+        );
+        total = total.add(outcome);
+        if total.spent {
+            return total.answer();
+        }
+        k += 1;
+    }
+    total.answer()
+}
+
+// The same, with the digits of the cheapest way: a bit a stage, each strip's in its own part.
+fn plan_strips(
+    code: Code,
+    weights: [u8; 3],
+    bytes: usize,
+    strips: usize,
+    page: &[u8],
+    data: &[u8],
+    digits: &mut [u8],
+) -> Answer
+    requires { ⌜ Sized bytes strips (now page) (now «data») ⌝ }
+    requires { ⌜ length (now digits) ≡ bytes * strips ⌝ }
+    ensures { λ r. ⌜ r ≡ answered none (pageWrite (generatorsOf code) weights bytes strips (now (page .entry)) (now («data» .entry))) (spentStrip (generatorsOf code) weights bytes strips (now (page .entry)) (now («data» .entry))) ⌝ }
+    ensures { λ r. ⌜ Planned (generatorsOf code) weights bytes strips (now (page .entry)) (now («data» .entry)) (now (digits .exit)) ⌝ }
+{
+    let words = words_of(code);
+    let mut total = Total::new();
+    let mut k: usize = 0;
+    while k < strips {
+        let a = bytes * k;
+        let outcome = plan_strip(
+            code,
+            &words,
+            weights,
+            shape::strip(page, bytes, k),
+            &data[a..a + bytes],
+            &mut digits[a..a + bytes],
+        );
+        total = total.add(outcome);
+        if total.spent {
+            return total.answer();
+        }
+        k += 1;
+    }
+    total.answer()
+}
+
+// Carries the digits out, strip by strip.
+fn carry_strips(code: Code, bytes: usize, strips: usize, page: &mut [u8], data: &[u8], digits: &[u8])
+    requires { ⌜ Sized bytes strips (now page) (now «data») ⌝ }
+    requires { ⌜ length (now digits) ≡ bytes * strips ⌝ }
+    ensures { λ _. ⌜ Carried (generatorsOf code) bytes strips (now (page .entry)) (now («data» .entry)) (now (digits .entry)) (now (page .exit)) ⌝ }
+{
+    let n = 6 * bytes;
+    let mut k: usize = 0;
+    while k < strips {
+        let a = n * k;
+        let b = bytes * k;
+        carry_strip(
+            code,
+            &mut page[a..a + n],
+            &data[b..b + bytes],
+            &digits[b..b + bytes],
+        );
+        k += 1;
+    }
+}
+
+// Plans every strip, and carries the plans out only where each has one.
+fn write_strips(code: Code, weights: [u8; 3], bytes: usize, strips: usize, page: &mut [u8], data: &[u8]) -> Answer
+    requires { ⌜ Sized bytes strips (now page) (now «data») ⌝ }
+    ensures { λ r. ⌜ r ≡ answered none (pageWrite (generatorsOf code) weights bytes strips (now (page .entry)) (now («data» .entry))) (spentStrip (generatorsOf code) weights bytes strips (now (page .entry)) (now («data» .entry))) ⌝ }
+    ensures { λ r. ⌜ now (page .exit) ≡ turned none (pageWrite (generatorsOf code) weights bytes strips (now (page .entry)) (now («data» .entry))) (now (page .entry)) ⌝ }
+{
+    let mut digits = [0u8; 4096];
+    let whole = bytes * strips;
+    let answer = plan_strips(
+        code,
+        weights,
+        bytes,
+        strips,
+        page,
+        data,
+        &mut digits[0..whole],
+    );
+    match answer {
+        Answer::Done(_) => {
+            carry_strips(code, bytes, strips, page, data, &digits[0..whole]);
+            answer
+        }
+        Answer::Spent(_) => answer,
+        Answer::Refused(_) => answer,
+    }
+}
+
+// What a write of the same data would answer; nothing is changed.
+pub fn price(code: u32, bytes: u32, strips: u32, page: &[u8], data: &[u8]) -> Answer
+    ensures { λ r. ⌜ r ≡ answerOf house code bytes strips (now (page .entry)) (now («data» .entry)) ⌝ }
+    ensures { λ r. ⌜ Wrote house code bytes strips (now (page .entry)) (now («data» .entry)) (pageOf house code bytes strips (now (page .entry)) (now («data» .entry))) r ⌝ }
+{
+    let judged = shape::judge(code, bytes, strips, page.len(), data.len());
+    match judged {
+        Completion::Done => price_strips(
+            shape::code_of(code),
+            cells::house_weights(),
+            bytes as usize,
+            strips as usize,
+            page,
+            data,
+        ),
+        Completion::Refused(r) => Answer::Refused(r),
+    }
+}
+
+// Writes the data at the least cost.
+pub fn write(code: u32, bytes: u32, strips: u32, page: &mut [u8], data: &[u8]) -> Answer
+    ensures { λ r. ⌜ r ≡ answerOf house code bytes strips (now (page .entry)) (now («data» .entry)) ⌝ }
+    ensures { λ r. ⌜ now (page .exit) ≡ pageOf house code bytes strips (now (page .entry)) (now («data» .entry)) ⌝ }
+    ensures { λ r. ⌜ Wrote house code bytes strips (now (page .entry)) (now («data» .entry)) (now (page .exit)) r ⌝ }
+{
+    let judged = shape::judge(code, bytes, strips, page.len(), data.len());
+    match judged {
+        Completion::Done => write_strips(
+            shape::code_of(code),
+            cells::house_weights(),
+            bytes as usize,
+            strips as usize,
+            page,
+            data,
+        ),
+        Completion::Refused(r) => Answer::Refused(r),
+    }
+}
