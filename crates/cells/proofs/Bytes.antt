@@ -7,8 +7,8 @@ use native.Mathlib.Nat.{not-suc-le-zero, mod-lt, zero-lt-suc}
 use lib.ListN.{length, getD, take, drop}
 use lib.Seq.{getD-take, getD-drop}
 use Rattle.cells.specs.Places.{number}
-use Rattle.cells.specs.Bytes.{bitOf, bytesOf}
-use Rattle.cells.proofs.Places.{length-listOf, listOf-at, listOf-same, listOf-getD, number-same, half-power}
+use Rattle.cells.specs.Bytes.{bitOf, bytesOf, Octets}
+use Rattle.cells.proofs.Places.{length-listOf, listOf-at, listOf-same, listOf-getD, number-same, number-less, half-power}
 
 -- a bit is 0 or 1
 pub bit-bound : (bytes : List ℕ) (k : ℕ) → bitOf bytes k < 2
@@ -63,6 +63,15 @@ bytesOf-bit n f b k h =
     let q : k / 8 < n = omega arith in
     let e : 8 * (k / 8) + k % 8 ≡ k = omega arith in
     ap (λ (x : ℕ). (x / 2 ^ (k % 8)) % 2) (listOf-at n _ (k / 8) 0 q) ∙ number-bit 8 _ (λ i l. b (8 * (k / 8) + i)) (k % 8) (omega arith) ∙ ap f e
+
+-- the bytes of some bits are bytes
+pub octets-bytesOf : (n : ℕ) (f : ℕ → ℕ) → ((i : ℕ) → f i < 2) → Octets (bytesOf n f)
+unfolding bytesOf
+octets-bytesOf n f b = record {
+  below = λ q h.
+      let l : q < n = omega (arith, length-bytesOf n f) in
+      rw (listOf-at {A = ℕ} n _ q 0 l) (number-less 8 _ (λ i. b (8 * q + i)));
+}
 
 -- bytes by their bits
 pub bytesOf-same : (n : ℕ) (f g : ℕ → ℕ) → ((k : ℕ) → k < 8 * n → f k ≡ g k) → bytesOf n f ≡ bytesOf n g

@@ -12,7 +12,8 @@ use borrow.Author.Tests.{lt-ltb, le-ltb, ltb-true, eq-eqb, ne-eqb}
 use Rattle.cells.specs.Bytes.{bitOf, Octets}
 use Rattle.cells.specs.Levels.{level}
 use Rattle.cells.specs.Raising.{raise, raises, triple, raisedTo, oneHigher, raisedCell, canRise, withBit, Unset, lowestZero}
-use Rattle.cells.proofs.Bytes.{bit-bound, length-bytesOf, bytesOf-bit, bytesOf-same, bytes-bits}
+use Rattle.cells.proofs.Bytes.{bit-bound, length-bytesOf, bytesOf-bit, bytesOf-same, bytes-bits, octets-bytesOf}
+use Rattle.cells.proofs.Levels.{level-bound}
 use Rattle.cells.proofs.Setting.{same?, length-withBit, bit-same, bit-other, octets-withBit}
 
 -- three bits
@@ -74,6 +75,14 @@ raises-ones (suc n) {l} t h =
     let k : ones (raises n l) < 3 = omega arith in
     raise-ones (raises-three n t) k ∙ omega arith
 
+-- three ones are raised no more
+raise-full : {l : List ℕ} → Three l → ones l ≡ 3 → raise l ≡ l
+unfolding raise ones
+raise-full (three {x = zero} p q r) h = absurd (let z : ⊥ = omega arith in z)
+raise-full (three {x = suc x} {y = zero} p q r) h = absurd (let z : ⊥ = omega arith in z)
+raise-full (three {x = suc x} {y = suc y} {z = zero} p q r) h = absurd (let z : ⊥ = omega arith in z)
+raise-full (three {x = suc x} {y = suc y} {z = suc z} p q r) h = refl
+
 -- THE PAGE. As long as before
 pub raisedTo-length : (page : List ℕ) (to : ℕ → ℕ) → length (raisedTo page to) ≡ length page
 unfolding raisedTo
@@ -112,6 +121,26 @@ module _ (page : List ℕ) (to : ℕ → ℕ) where
   raisedTo-only after e b f =
       sym (bytes-bits (length page) after e (λ q h. b .below q (rw e h)))
       ∙ bytesOf-same (length page) _ _ (λ k h. let z : 3 * (k / 3) + k % 3 ≡ k = omega arith in ap (bitOf after) (sym z) ∙ f (k / 3) (k % 3) (omega arith) (omega arith))
+
+-- it depends on the levels to reach of its own cells alone
+pub raisedTo-same : (page : List ℕ) (to to′ : ℕ → ℕ) → ((c : ℕ) → 3 * c < 8 * length page → to c ≡ to′ c) → raisedTo page to ≡ raisedTo page to′
+unfolding raisedTo
+raisedTo-same page to to′ e =
+    bytesOf-same (length page) _ _ (λ k h. ap (λ (n : ℕ). getD (raises (n - level page (k / 3)) (triple page (k / 3))) (k % 3) 0) (e (k / 3) (omega arith)))
+
+-- to raise each cell to its own level changes nothing
+pub raisedTo-none : (page : List ℕ) → Octets page → raisedTo page (level page) ≡ page
+unfolding raises
+raisedTo-none page o =
+    sym (raisedTo-only page (level page) page refl o (λ c i h k.
+    let d : 0 ≡ level page c - level page c = omega arith in
+    sym (triple-bit page c i h) ∙ ap (λ (n : ℕ). getD (raises n (triple page c)) i 0) d))
+
+-- the numbers of a page raised are bytes
+pub raisedTo-octets : (page : List ℕ) (to : ℕ → ℕ) → Octets (raisedTo page to)
+unfolding raisedTo
+raisedTo-octets page to =
+    octets-bytesOf (length page) _ (λ j. three-bit (raises-three (to (j / 3) - level page (j / 3)) (triple-three page (j / 3))) (j % 3))
 
 -- ONE CELL. Two tests that both hold
 both : (a b : Bool) → (a && b) ≡ true → (a ≡ true) × (b ≡ true)
@@ -168,6 +197,60 @@ module _ (page : List ℕ) (c : ℕ) where
   unfolding raisedCell
   raisedCell-other e i n h k = raisedTo-keeps page (oneHigher page c) e i h k (omega (arith, oneHigher-other e n))
 
+-- three bits by their places
+list3 : {x x′ y y′ z z′ : ℕ} → x ≡ x′ → y ≡ y′ → z ≡ z′ → (x ∷ y ∷ z ∷ []) ≡ (x′ ∷ y′ ∷ z′ ∷ [])
+list3 p q r = cc
+
+-- ONE CELL MORE, which `to` leaves at its level
+module _ (page : List ℕ) (to : ℕ → ℕ) (c : ℕ) (inside : 3 * c + 2 < 8 * length page) (still : to c ≡ level page c) where
+  -- its level so far is its own
+  pub raisedTo-still : level (raisedTo page to) c ≡ level page c
+  raisedTo-still = raisedTo-level page to c inside (omega arith) (omega (arith, level-bound page c)) ∙ still
+
+  -- and so are its three bits
+  triple-still : triple (raisedTo page to) c ≡ triple page c
+  unfolding triple
+  triple-still =
+      let z : 3 * c ≡ 3 * c + 0 = omega arith in
+      let b = ap (bitOf (raisedTo page to)) z ∙ raisedTo-keeps page to c 0 (omega arith) (omega arith) (omega arith) ∙ ap (bitOf page) (sym z) in
+      list3 b (raisedTo-keeps page to c 1 (omega arith) (omega arith) (omega arith)) (raisedTo-keeps page to c 2 (omega arith) inside (omega arith))
+
+  -- levels to reach that differ at that cell alone
+  module _ (to′ : ℕ → ℕ) (others : (e : ℕ) → (e ≡ c → ⊥) → to′ e ≡ to e) where
+    -- to raise it by one is to raise the page to to′, which is one higher there
+    pub raisedTo-more : to′ c ≡ suc (level page c) → raisedCell (raisedTo page to) c ≡ raisedTo page to′
+    unfolding raisedCell raises
+    raisedTo-more m =
+        let q = raisedTo page to in
+        let l : length q ≡ length page = raisedTo-length page to in
+        raisedTo-only page to′ (raisedCell q c) (raisedTo-length q (oneHigher q c) ∙ l) (raisedTo-octets q (oneHigher q c)) (λ e i h k.
+        let k′ : 3 * e + i < 8 * length q = omega arith in
+        ⊎-elim
+        (λ f.
+        let d : oneHigher q c c - level q c ≡ 1 = omega (arith, oneHigher-same q c) in
+        let d′ : to′ c - level page c ≡ 1 = omega arith in
+        rw f (raisedTo-bit q (oneHigher q c) c i h (omega arith)
+        ∙ ap₂ (λ (n : ℕ) (b : List ℕ). getD (raises n b) i 0) d triple-still
+        ∙ sym (ap (λ (n : ℕ). getD (raises n (triple page c)) i 0) d′)))
+        (λ f. raisedCell-other q c e i f h k′ ∙ raisedTo-bit page to e i h k ∙ ap (λ (n : ℕ). getD (raises (n - level page e) (triple page e)) i 0) (sym (others e f)))
+        (same? e c))
+
+    -- a full cell stays as it is, also where to′ is one higher there
+    pub raisedTo-full : level page c ≡ 3 → to′ c ≡ suc (level page c) → raisedTo page to ≡ raisedTo page to′
+    unfolding level triple ones raises
+    raisedTo-full f m =
+        raisedTo-only page to′ (raisedTo page to) (raisedTo-length page to) (raisedTo-octets page to) (λ e i h k.
+        raisedTo-bit page to e i h k ∙
+        ⊎-elim
+        (λ g.
+        let d : to c - level page c ≡ 0 = omega arith in
+        let d′ : to′ c - level page c ≡ 1 = omega arith in
+        rw g (ap (λ (n : ℕ). getD (raises n (triple page c)) i 0) d
+        ∙ ap (λ (b : List ℕ). getD b i 0) (sym (raise-full (triple-three page c) f))
+        ∙ sym (ap (λ (n : ℕ). getD (raises n (triple page c)) i 0) d′)))
+        (λ g. ap (λ (n : ℕ). getD (raises (n - level page e) (triple page e)) i 0) (sym (others e g)))
+        (same? e c))
+
 -- THE LOWEST ZERO is the first bit
 module _ (page : List ℕ) (k : ℕ) where
   pub lowest-first : bitOf page k ≡ 0 → lowestZero page k ≡ k
@@ -184,11 +267,7 @@ module _ (page : List ℕ) (k : ℕ) where
   unfolding lowestZero
   lowest-third n m = ap₂ (λ (a b : Bool). cond a k (cond b (k + 1) (k + 2))) (ne-eqb _ _ n) (ne-eqb _ _ m)
 
--- SETTING IT RAISES THE CELL. Three bits by their places
-list3 : {x x′ y y′ z z′ : ℕ} → x ≡ x′ → y ≡ y′ → z ≡ z′ → (x ∷ y ∷ z ∷ []) ≡ (x′ ∷ y′ ∷ z′ ∷ [])
-list3 p q r = cc
-
--- what is known of bit z of the page where it is the lowest zero of cell c
+-- SETTING IT RAISES THE CELL. What is known of bit z of the page where it is the lowest zero of cell c
 record Low (page : List ℕ) (c z : ℕ) : Type 0 where
   unset : Unset page z
   first : 3 * c ≤ z

@@ -14,3 +14,4 @@ pub mod Examples
 pub mod Stages
 pub mod Signed
 pub mod Costs
+pub mod Carrying
