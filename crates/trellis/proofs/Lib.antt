@@ -16,3 +16,4 @@ pub mod Signed
 pub mod Costs
 pub mod Labels
 pub mod Passes
+pub mod Carrying
