@@ -1,10 +1,12 @@
 // The calls on a page: read, price, write, erase and census, on numbers and byte slices. Each takes every input, and refuses what is not in order.
 pub mod shape;
-pub mod total;
 pub mod reading;
 pub mod writing;
 pub mod erasing;
 pub mod counting;
+use trellis::Outcome;
+ghost use mathlib.Core.Path.{_≡_};
+ghost use Rattle.page.specs.Totals.{noTotal, added, answerFor};
 
 // Why a call is refused, in the order of the tests; the paper's numbers are 1 to 5 and 8.
 pub enum Refusal {
@@ -34,6 +36,54 @@ pub struct Total {
     pub cost: u64,
     pub strips: u32,
     pub spent: bool,
+}
+
+impl Total {
+    // No strip yet.
+    pub fn new() -> Total
+        ensures { λ r. ⌜ r ≡ noTotal ⌝ }
+    {
+        Total {
+            cost: 0,
+            strips: 0,
+            spent: false,
+        }
+    }
+
+    // The total with a strip's outcome added; once spent it stays.
+    pub fn add(self, outcome: Outcome) -> Total
+        ensures { λ r. ⌜ r ≡ added self outcome ⌝ }
+    {
+        let cost = self.cost;
+        let strips = self.strips;
+        if self.spent {
+            return self;
+        }
+        match outcome {
+            Outcome::Done(c) => Total {
+                cost: std::num::wrapping_add_u64(cost, c as u64),
+                strips: std::num::wrapping_add_u32(strips, 1),
+                spent: false,
+            },
+            Outcome::Spent => Total {
+                cost,
+                strips,
+                spent: true,
+            },
+        }
+    }
+
+    // What it answers.
+    pub fn answer(self) -> Answer
+        ensures { λ r. ⌜ r ≡ answerFor self ⌝ }
+    {
+        let cost = self.cost;
+        let strips = self.strips;
+        if self.spent {
+            return Answer::Spent(strips);
+        }
+        Answer::Done((cost % 4294967296) as u32)
+    }
 }
 
 // The cells of a strip at levels 0 to 3.
