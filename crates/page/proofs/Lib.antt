@@ -4,3 +4,8 @@ pub mod Readings
 pub mod Strips
 pub mod Levels
 pub mod Demand
+pub mod Summing
+pub mod Turning
+pub mod Judging
+pub mod Kept
+pub mod Ledgers

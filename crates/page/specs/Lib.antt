@@ -9,3 +9,4 @@ pub mod Answers
 pub mod Promise
 pub mod Plans
 pub mod Counting
+pub mod Ledger
