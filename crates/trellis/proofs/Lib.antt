@@ -14,3 +14,9 @@ pub mod Examples
 pub mod Stages
 pub mod Signed
 pub mod Costs
+pub mod Labels
+pub mod Windows
+pub mod Prices
+pub mod Digits
+pub mod Program
+pub mod Planned
