@@ -123,7 +123,7 @@ unfolding tapsOf digit
 taps-value m g = number-value (suc m) (digit m g) (λ i. mod-lt _ (zero-lt-suc 1))
 
 -- THE LABEL AND ITS REGISTER. A label is the quotient's bit
-sum-bits : (a b : Bool) → (one-if a + one-if b) % 2 ≡ one-if (a +₂ b)
+pub sum-bits : (a b : Bool) → (one-if a + one-if b) % 2 ≡ one-if (a +₂ b)
 unfolding one-if
 sum-bits true true = refl
 sum-bits true false = refl

@@ -58,11 +58,11 @@ module _ (E : Encoder) (H : InMemory E) (d : ℕ → Bits) (S : Steps) (M : Mean
 
 -- THE TIE RULE WITH ONE BIT A CELL: where both digits are open, digit 1 gives the first cell the lower level just where its first code bit
 -- is the bit that the cell has
-held : Cell → Bool → ℕ
+unfoldable pub held : Cell → Bool → ℕ
 held x b = cond (Bool·beq (odd (x .level)) b) (x .level) (suc (x .level))
 
 module _ (S : Steps) where
-  keep-held : (x : Cell) (b : Bool) (a : Answer) → keep-or-raise S x b ≡ some a → a .levels ≡ held x b ∷ []
+  pub keep-held : (x : Cell) (b : Bool) (a : Answer) → keep-or-raise S x b ≡ some a → a .levels ≡ held x b ∷ []
   unfolding keep-or-raise held
   keep-held x b a = go (ltb (S .top) (x .level)) (Bool·beq (odd (x .level)) b) (x .mark) (ltb (x .level) (S .top))
     where

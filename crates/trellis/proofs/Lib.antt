@@ -17,3 +17,8 @@ pub mod Costs
 pub mod Labels
 pub mod Passes
 pub mod Carrying
+pub mod Windows
+pub mod Prices
+pub mod Digits
+pub mod Program
+pub mod Planned
