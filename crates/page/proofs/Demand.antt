@@ -100,7 +100,7 @@ module _ (G : Generators) (lead : digit (G .memory) (G .g1) 0 ≡ 1) (small : G 
       most = omega (arith, length-listOf (suc (G .memory)) (λ i. odd (digit (G .memory) (G .g2) i)))
 
   -- each strip's write is its best
-  strip-solves : (k : ℕ) → Solves (stripProblem G W L before content k) (stripWrite G W L S before content k)
+  pub strip-solves : (k : ℕ) → Solves (stripProblem G W L before content k) (stripWrite G W L S before content k)
   unfolding stripProblem stripWrite rewriteOf unmarked wide encoderOf
   strip-solves k =
       write-solves (wide G) wide-in-memory (dataOf (part L k content)) (stepsOf W) (parity 2) (parity-choice (stepsOf W)) (parity-chooses (stepsOf W) D 2) (8 * L) (unmarked L (strip L k before))

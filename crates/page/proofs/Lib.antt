@@ -9,3 +9,4 @@ pub mod Turning
 pub mod Judging
 pub mod Kept
 pub mod Ledgers
+pub mod Carried
