@@ -63,10 +63,10 @@ sumOf-more zero f = omega arith
 sumOf-more (suc n) f = let e : sumOf (suc n) (λ i. f (suc i)) ≡ sumOf n (λ i. f (suc i)) + f (suc n) = sumOf-more n (λ i. f (suc i)) in omega (arith, e)
 
 -- a sum of n numbers that are at most k each
-pub sumOf-le : (n k : ℕ) (f : ℕ → ℕ) → ((i : ℕ) → f i ≤ k) → sumOf n f ≤ n * k
+pub sumOf-le : (n k : ℕ) (f : ℕ → ℕ) → ((i : ℕ) → i < n → f i ≤ k) → sumOf n f ≤ n * k
 unfolding sumOf
 sumOf-le zero k f h = omega arith
-sumOf-le (suc n) k f h = omega (arith, h 0, sumOf-le n k (λ i. f (suc i)) (λ i. h (suc i)))
+sumOf-le (suc n) k f h = omega (arith, h 0 (omega arith), sumOf-le n k (λ i. f (suc i)) (λ i l. h (suc i) (omega arith)))
 
 -- a sum of zeros
 pub sumOf-zero : (n : ℕ) (f : ℕ → ℕ) → ((i : ℕ) → i < n → f i ≡ 0) → sumOf n f ≡ 0

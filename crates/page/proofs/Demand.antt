@@ -1,32 +1,29 @@
 -- DEMAND 3, proved: where the computed write of a page has an answer, the page raised to its levels is the cheapest of ALL pages that read as the data with
 -- no cell lowered; where it has none, no page is, and the strip named is the lowest that takes no pattern. For any weights of at least 1, any
 -- generators of memory at most 6, any L, S and content.
-use mathlib.Core.Path.{_≡_, refl, sym, _∙_, ap, ap₂}
+use mathlib.Core.Path.{_≡_, refl, sym, _∙_, ap}
 use mathlib.Core.Bool.{Bool, true, false}
 use mathlib.Core.List.{List, [], _∷_}
-use mathlib.Core.Option.{Option, none, some}
+use mathlib.Core.Option.{none, some}
 use Prim.Native.Nat.{ℕ, zero, suc, _<_, _≤_, _+_, _*_}
 use native.Mathlib.Omega.{arith}
 use lib.Dec.{ltb}
-use lib.ListN.{length, getD, take, drop, List·getD-eq-default}
+use lib.ListN.{length, take, drop, List·getD-eq-default}
 use lib.Seq.{take-all}
 use borrow.Author.Tests.{ltb-true, ltb-false}
 use Rattle.cells.specs.Places.{listOf, sumOf, Each, no-more, and-each}
-use Rattle.cells.specs.Bytes.{bitOf, Octets}
+use Rattle.cells.specs.Bytes.{Octets}
 use Rattle.cells.specs.Levels.{level}
 use Rattle.cells.specs.Raising.{raisedTo}
 use Rattle.cells.specs.Climbs.{climb, costOf, weightOf}
 use Rattle.cells.proofs.Places.{length-listOf, listOf-at, sumOf-same}
-use Rattle.cells.proofs.Bytes.{bit-bound}
 use Rattle.cells.proofs.Levels.{level-bound}
 use Rattle.cells.proofs.Raising.{raisedTo-length, raisedTo-level, raisedTo-same}
 use Rattle.codes.specs.Generators.{Generators, digit}
 use Rattle.codes.specs.Sequences.{odd}
 use Rattle.codes.specs.Encoders.{InMemory, encoderOf}
-use Rattle.codes.proofs.Encoders.{encoder-in-memory}
-use Rattle.trellis.specs.Best.{Answer, Best, Solves, Wide, All, FirstClosed, FirstLower}
-use Rattle.trellis.specs.Trellis.{all, first-none}
-use Rattle.trellis.specs.Strip.{Dear, stepsOf, Full}
+use Rattle.trellis.specs.Best.{Answer, Best, Solves, Wide, All, FirstLower}
+use Rattle.trellis.specs.Strip.{Dear, stepsOf}
 use Rattle.trellis.specs.Parity.{parity, parity-choice}
 use Rattle.trellis.specs.Demand.{levelAt}
 use Rattle.trellis.specs.Wide.{wide, dataOf, unmarked, rewriteOf}
@@ -37,10 +34,10 @@ use Rattle.trellis.proofs.Places.{length-cells}
 use Rattle.trellis.proofs.Search.{write-solves}
 use Rattle.trellis.proofs.Parity.{parity-chooses}
 use Rattle.page.specs.Shape.{strip, part}
-use Rattle.page.specs.Reading.{stripLevels, readPage}
+use Rattle.page.specs.Reading.{stripLevels}
 use Rattle.page.specs.Demand.{Could, LowerAtFirst, Cheapest, Fits, SpentAt}
 use Rattle.page.specs.Computed.{stripWrite, pageWrite, spentStrip}
-use Rattle.page.proofs.Parts.{strip-length, part-length, part-octets, strip-level, part-data, place-inside}
+use Rattle.page.proofs.Parts.{strip-length, part-length, part-octets, place-inside}
 use Rattle.page.proofs.Readings.{cells-same, reads-of, reads-only}
 use Rattle.page.proofs.Strips.{Parts, all-parts, parts-all, ClosedAt, closed-at}
 use Rattle.page.proofs.Levels.{stripProblem, PageLevels, strip-wide, levels-all, all-levels}
@@ -89,21 +86,21 @@ lower-at-first n after other y e f r = record {
             let k : length (listOf n (level other)) ≤ r .place = omega (arith, ltb-false (r .place) n q, length-listOf n (level other)) in
             absurd (let z : ⊥ = omega (arith, r .less, List·getD-eq-default (listOf n (level other)) 0 k) in z)
 
+-- the search's encoder has room for the generators
+pub wide-in-memory : (G : Generators) → G .memory ≤ 6 → InMemory (wide G)
+unfolding wide encoderOf
+wide-in-memory G small = record { first-fits = omega (arith, length-listOf (G .memory) (λ i. odd (digit (G .memory) (G .g1) (suc i)))); others-fit = and-each most no-more }
+  where
+    most : length (listOf (suc (G .memory)) (λ i. odd (digit (G .memory) (G .g2) i))) ≤ 7
+    most = omega (arith, length-listOf (suc (G .memory)) (λ i. odd (digit (G .memory) (G .g2) i)))
+
 module _ (G : Generators) (lead : digit (G .memory) (G .g1) 0 ≡ 1) (small : G .memory ≤ 6) (W : List ℕ) (D : Dear (stepsOf W)) (L S : ℕ) (before content : List ℕ)
     (size : length before ≡ 6 * L * S) where
-  -- the search's encoder has room for the generators
-  wide-in-memory : InMemory (wide G)
-  unfolding wide encoderOf
-  wide-in-memory = record { first-fits = omega (arith, length-listOf (G .memory) (λ i. odd (digit (G .memory) (G .g1) (suc i)))); others-fit = and-each most no-more }
-    where
-      most : length (listOf (suc (G .memory)) (λ i. odd (digit (G .memory) (G .g2) i))) ≤ 7
-      most = omega (arith, length-listOf (suc (G .memory)) (λ i. odd (digit (G .memory) (G .g2) i)))
-
   -- each strip's write is its best
   pub strip-solves : (k : ℕ) → Solves (stripProblem G W L before content k) (stripWrite G W L S before content k)
   unfolding stripProblem stripWrite rewriteOf unmarked wide encoderOf
   strip-solves k =
-      write-solves (wide G) wide-in-memory (dataOf (part L k content)) (stepsOf W) (parity 2) (parity-choice (stepsOf W)) (parity-chooses (stepsOf W) D 2) (8 * L) (unmarked L (strip L k before))
+      write-solves (wide G) (wide-in-memory G small) (dataOf (part L k content)) (stepsOf W) (parity 2) (parity-choice (stepsOf W)) (parity-chooses (stepsOf W) D 2) (8 * L) (unmarked L (strip L k before))
       (full-length 2 (8 * L) (unmarked L (strip L k before)) (length-cells (16 * L) (level (strip L k before)) _ ∙ omega arith))
 
   -- so the strips' writes are the page's best
@@ -139,6 +136,15 @@ module _ (G : Generators) (lead : digit (G .memory) (G .g1) 0 ≡ 1) (small : G 
     no-lower = λ c h. rw (raised-level y v c h) (v .up c h);
   }
 
+  -- what an answer's levels are
+  answer-levels : (a : Answer) → pageWrite G W L S before content ≡ some a
+      → (length (a .levels) ≡ 16 * L * S) × PageLevels G L S before content (levelAt (a .levels)) × (a .cost ≡ sumOf (16 * L * S) (λ c. climb (weightOf W) (level before c) (levelAt (a .levels) c)))
+  answer-levels a e = all-levels G lead W L S before content (a .cost) (a .levels) (the-best (rw e at solved) .valid)
+
+  -- the page raised to them has them
+  pub answer-raised : (a : Answer) → pageWrite G W L S before content ≡ some a → (c : ℕ) → c < 16 * L * S → level (raisedTo before (levelAt (a .levels))) c ≡ levelAt (a .levels) c
+  answer-raised a e = raised-level (a .levels) (answer-levels a e .1)
+
   -- AN ANSWER: the page raised to its levels is the cheapest
   module _ (fill : length content ≡ L * S) (bytes : Octets content) where
     pub cheapest : (a : Answer) → pageWrite G W L S before content ≡ some a → Cheapest (weightOf W) G L S before content (raisedTo before (levelAt (a .levels))) (a .cost)
@@ -160,7 +166,7 @@ module _ (G : Generators) (lead : digit (G .memory) (G .g1) 0 ≡ 1) (small : G 
         best = the-best (rw e at solved)
 
         v : (length (a .levels) ≡ 16 * L * S) × PageLevels G L S before content (levelAt (a .levels)) × (a .cost ≡ sumOf (16 * L * S) (λ c. climb (weightOf W) (level before c) (levelAt (a .levels) c)))
-        v = all-levels G lead W L S before content (a .cost) (a .levels) (best .valid)
+        v = answer-levels a e
 
   -- a page that could be has an answer for each of its strips
   no-page : pageWrite G W L S before content ≡ none → (other : List ℕ) → Could G L S before content other → ⊥

@@ -11,6 +11,7 @@ use Rattle.page.specs.Shape.{oneTo64}
 use Rattle.page.specs.Refusals.{first-of, codeGround, bytesGround, stripsGround, pageGround, dataGround, shapeGround, ground}
 use Rattle.page.specs.Answers.{completionOf}
 use Rattle.page.specs.declared.Refusal.{Refusal}
+use Rattle.page.specs.declared.Completion.{Completion}
 use Rattle.page.specs.declared.Completion.the-variants.{Done, Refused}
 
 -- no ground where neither of two applies
@@ -66,3 +67,8 @@ done-none (some r) e = let z : _≡_ {A = ℕ} 0 1 = cc in absurd (omega arith)
 pub refused-some : (g : Option Refusal) {r : Refusal} → completionOf g ≡ Refused r → g ≡ some r
 refused-some none e = let z : _≡_ {A = ℕ} 0 1 = cc in absurd (omega arith)
 refused-some (some s) e = cc
+
+-- and it is that of whatever is tested after it
+pub refused-first : (g h : Option Refusal) (c : Completion) {r : Refusal} → c ≡ completionOf g → c ≡ Refused r → c ≡ completionOf (first-of g h)
+refused-first none h c e f = let z : _≡_ {A = ℕ} 0 1 = cc in absurd (omega arith)
+refused-first (some s) h c e f = e

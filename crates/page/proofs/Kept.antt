@@ -1,19 +1,20 @@
 -- THE PROMISE IS KEPT by the computed write, on every input.
-use mathlib.Core.Path.{_≡_, refl, sym, _∙_, ap}
+use mathlib.Core.Path.{_≡_, refl}
 use mathlib.Core.Bool.{Bool, true, false, cond}
 use mathlib.Core.List.{List}
 use mathlib.Core.Option.{Option, none, some}
-use Prim.Native.Nat.{ℕ, _*_, _<_, _≤_}
+use Prim.Native.Nat.{ℕ, zero, suc, _≤_}
 use native.Mathlib.Omega.{arith}
 use lib.Dec.{eqb}
-use lib.ListN.{length}
+use lib.ListN.{length, getD}
 use Rattle.cells.specs.Bytes.{Octets}
-use Rattle.cells.specs.Climbs.{house, weightOf}
-use Rattle.codes.specs.Generators.{Generators, short, long, digit}
+use Rattle.cells.specs.Climbs.{house}
+use Rattle.codes.specs.Generators.{short, long, digit}
 use Rattle.codes.specs.Encoders.{Proper}
 use Rattle.codes.proofs.Encoders.{short-proper, long-proper}
 use Rattle.trellis.specs.Best as Search
 use Rattle.trellis.specs.Strip.{Dear, stepsOf}
+use Rattle.trellis.proofs.Prices.{Suits}
 use Rattle.trellis.proofs.Parity.{house-dear}
 use Rattle.page.specs.Refusals.{ground, numbered}
 use Rattle.page.specs.Computed.{pageWrite, spentStrip}
@@ -34,6 +35,21 @@ numbered-proper code = go (eqb code 3)
     go : (b : Bool) → Proper (cond b short long) × ((cond b short long) .memory ≤ 6)
     go true = (short-proper, omega arith)
     go false = (long-proper, omega arith)
+
+-- and suit the house's weights
+pub numbered-suits : (code : ℕ) → Suits (numbered code) house
+unfolding numbered digit
+numbered-suits code = record { proper = numbered-proper code .0; reach = numbered-proper code .1; second-leads = go (eqb code 3); three = refl; bytes = bytes }
+  where
+    go : (b : Bool) → digit ((cond b short long) .memory) ((cond b short long) .g2) 0 ≡ 1
+    go true = refl
+    go false = refl
+
+    bytes : (i : ℕ) → getD house i 0 ≤ 255
+    bytes zero = omega arith
+    bytes (suc zero) = omega arith
+    bytes (suc (suc zero)) = omega arith
+    bytes (suc (suc (suc i))) = omega arith
 
 module _ (W : List ℕ) (D : Dear (stepsOf W)) (code L S : ℕ) (before content : List ℕ) (bytes : Octets content) where
   -- the computed answer and page keep the promise

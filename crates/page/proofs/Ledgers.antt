@@ -1,27 +1,22 @@
 -- THE LEDGER: from an erased page, over any sequence of calls, the sum of the levels is the raises of the accepted writes since the last accepted erase.
-use mathlib.Core.Path.{_≡_, refl, sym, _∙_, ap, ap₂}
+use mathlib.Core.Path.{_≡_, refl, sym, _∙_, ap}
 use mathlib.Core.List.{List, [], _∷_}
 use mathlib.Core.Option.{Option, none, some}
 use Prim.Native.Nat.{ℕ, zero, suc, _<_, _≤_, _+_, _*_, _-_, _/_, _%_, _^_}
 use native.Mathlib.Omega.{arith}
 use native.Mathlib.Nat.{zero-div}
-use lib.IntN.{ℤ}
-use lib.ListN.{length, getD, replicate, length-replicate}
-use Rattle.cells.specs.Places.{sumOf}
-use Rattle.cells.specs.Bytes.{bitOf, Octets}
+use lib.ListN.{length, getD, replicate}
+use Rattle.cells.specs.Bytes.{bitOf}
 use Rattle.cells.specs.Levels.{level, raisesOf}
 use Rattle.cells.specs.Climbs.{house}
 use Rattle.cells.proofs.Places.{sumOf-same, sumOf-add, sumOf-zero}
-use Rattle.cells.specs.Raising.{raisedTo}
-use Rattle.page.specs.Refusals.{shapeGround, eraseGround, first-of, ground}
 use Rattle.page.specs.Answers.{kept, pageOf, answerOf}
-use Rattle.page.specs.Demand.{Cheapest}
 use Rattle.page.specs.Promise.{Wrote, done, spent, refused}
 use Rattle.page.specs.Ledger.{Call, write, erase, look, cellsIn, erasing, pageAfter, raisesMade, counted, played, tallied}
 use Rattle.page.specs.declared.Refusal.{Refusal}
 use Rattle.page.specs.declared.Answer.{Answer}
 use Rattle.page.proofs.Judging.{in-order}
-use Rattle.page.proofs.Kept.{promise-kept, house-kept}
+use Rattle.page.proofs.Kept.{house-kept}
 
 -- every bit of an erased page is 0
 zeros-at : (n i : ℕ) → _≡_ {A = ℕ} (getD (replicate n 0) i 0) 0

@@ -1,11 +1,11 @@
 -- The levels of a page: what the strips' problems admit, one after the other, is what reads as the data with no level lowered, by the page's places.
-use mathlib.Core.Path.{_≡_, refl, sym, _∙_, ap, ap₂}
+use mathlib.Core.Path.{_≡_, sym, _∙_, ap, ap₂}
 use mathlib.Core.Bool.{false, false≢true}
 use mathlib.Core.List.{List}
-use Prim.Native.Nat.{ℕ, suc, _<_, _≤_, _+_, _*_, _/_, _%_}
+use Prim.Native.Nat.{ℕ, _<_, _≤_, _+_, _*_, _/_, _%_}
 use native.Mathlib.Omega.{arith}
 use native.Mathlib.Nat.{div-add-mod}
-use lib.ListN.{length, getD, take, drop, length-drop}
+use lib.ListN.{length, take, drop, length-drop}
 use lib.Seq.{getD-take, getD-drop, length-take-le}
 use Rattle.cells.specs.Places.{listOf, sumOf}
 use Rattle.cells.specs.Bytes.{bitOf}
@@ -16,9 +16,8 @@ use Rattle.cells.proofs.Bytes.{bit-bound}
 use Rattle.codes.specs.Generators.{Generators, digit}
 use Rattle.codes.specs.Reading.{dataBit, firstBit, secondBit}
 use Rattle.codes.specs.Encoders.{encoderOf}
-use Rattle.codes.specs.Coset.{Reads}
 use Rattle.trellis.specs.Best.{Problem, Wide, All}
-use Rattle.trellis.specs.Strip.{Cell, stepsOf, Rise, words, Rewrite}
+use Rattle.trellis.specs.Strip.{Cell, stepsOf, Rise, Rewrite}
 use Rattle.trellis.specs.Parity.{parity}
 use Rattle.trellis.specs.Demand.{cellAt, levelAt, CouldBe, pays}
 use Rattle.trellis.specs.Wide.{wide, dataOf, unmarked}

@@ -10,3 +10,6 @@ pub mod Judging
 pub mod Kept
 pub mod Ledgers
 pub mod Carried
+pub mod Cases
+pub mod Fitting
+pub mod Bounds

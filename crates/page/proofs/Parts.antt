@@ -1,10 +1,10 @@
 -- Strips of a page and parts of the data: their lengths, their cells and their bits are those of the whole.
-use mathlib.Core.Path.{_≡_, refl, sym, _∙_, ap}
+use mathlib.Core.Path.{_≡_, _∙_, ap}
 use mathlib.Core.List.{List}
 use Prim.Native.Nat.{ℕ, zero, suc, _<_, _≤_, _+_, _*_, _/_, _%_}
 use native.Mathlib.Omega.{arith}
 use native.Mathlib.Nat.{mul-le-mul-left, mul-add-div, mul-add-mod-self-left, div-eq-of-lt, mod-eq-of-lt, mod-lt, div-lt-iff-lt-mul}
-use lib.ListN.{length, getD, take, drop, length-drop}
+use lib.ListN.{length, drop, length-drop}
 use lib.Seq.{getD-take, getD-drop, length-take-le}
 use Rattle.cells.specs.Bytes.{bitOf, Octets}
 use Rattle.cells.specs.Levels.{level}

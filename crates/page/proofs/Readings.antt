@@ -1,16 +1,15 @@
 -- A page reads as the data just where the data bits of each strip are those of its part.
-use mathlib.Core.Path.{_≡_, refl, sym, _∙_, ap, ap₂}
+use mathlib.Core.Path.{_≡_, sym, _∙_, ap, ap₂}
 use mathlib.Core.List.{List}
 use Prim.Native.Nat.{ℕ, _<_, _+_, _*_, _/_, _%_}
 use native.Mathlib.Omega.{arith}
 use native.Mathlib.Nat.{div-add-mod}
 use lib.ListN.{length}
-use Rattle.cells.specs.Bytes.{bitOf, bytesOf, Octets}
+use Rattle.cells.specs.Bytes.{bitOf, Octets}
 use Rattle.cells.proofs.Bytes.{bytesOf-bit, bytesOf-same, bytes-bits}
 use Rattle.codes.specs.Generators.{Generators}
-use Rattle.codes.specs.Reading.{dataBit, firstBit, secondBit, readStrip}
+use Rattle.codes.specs.Reading.{dataBit, firstBit, secondBit}
 use Rattle.codes.proofs.Sums.{dataBit-bound, dataBit-same}
-use Rattle.page.specs.Shape.{strip, part}
 use Rattle.page.specs.Reading.{stripLevels, readPage}
 use Rattle.page.proofs.Parts.{place-div, place-mod, place-inside, part-number, part-place}
 

@@ -1,13 +1,13 @@
 -- Parts of one width, one after the other: what is valid for all of them is what is valid for each at its place, and the first that is closed.
-use mathlib.Core.Path.{_≡_, refl, sym, _∙_, ap, ap₂}
+use mathlib.Core.Path.{_≡_, refl, sym, _∙_, ap}
 use mathlib.Core.List.{List, [], _∷_, _++_}
-use Prim.Native.Nat.{ℕ, zero, suc, _<_, _≤_, _+_, _*_}
+use Prim.Native.Nat.{ℕ, zero, suc, _<_, _+_, _*_}
 use native.Mathlib.Omega.{arith}
 use native.Mathlib.Nat.{not-suc-le-zero}
 use lib.ListN.{length, take, drop, take-append-drop, length-append, length-drop}
-use lib.Seq.{take-at, drop-at, drop-drop, length-take-le}
+use lib.Seq.{take-at, drop-at, drop-drop}
 use Rattle.cells.specs.Places.{listOf, sumOf}
-use Rattle.trellis.specs.Best.{Problem, Product, Empty, empty, Wide, All, FirstClosed, here, later}
+use Rattle.trellis.specs.Best.{Problem, empty, Wide, All, FirstClosed, here, later}
 
 -- c at place 0, and g after it
 cons : ℕ → (ℕ → ℕ) → ℕ → ℕ

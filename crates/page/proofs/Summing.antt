@@ -1,15 +1,15 @@
 -- The running total over all strips answers as the page's write does: the sum of the costs, or the first strip that is spent.
-use mathlib.Core.Path.{_≡_, refl, sym, _∙_, ap, ap₂}
+use mathlib.Core.Path.{_≡_, refl, _∙_, ap, ap₂}
 use mathlib.Core.Bool.{Bool, true, false}
-use mathlib.Core.List.{List, [], _∷_}
+use mathlib.Core.List.{List}
 use mathlib.Core.Option.{Option, none, some}
-use Prim.Native.Nat.{ℕ, zero, suc, _<_, _≤_, _+_, _*_, _-_, _%_, _^_}
+use Prim.Native.Nat.{ℕ, zero, suc, _<_, _≤_, _+_, _*_, _%_, _^_}
 use native.Mathlib.Omega.{arith}
 use native.Mathlib.Nat.{mod-eq-of-lt}
 use Rattle.cells.specs.Places.{listOf}
 use Rattle.codes.specs.Generators.{Generators}
 use Rattle.trellis.specs.Best as Search
-use Rattle.trellis.specs.Trellis.{joined, free, all, first-none}
+use Rattle.trellis.specs.Trellis.{joined, all, first-none}
 use Rattle.trellis.specs.Wide.{outcomeFor}
 use Rattle.trellis.specs.declared.Outcome.{Outcome}
 use Rattle.trellis.specs.declared.Outcome.the-variants as O

@@ -7,7 +7,7 @@ use native.Mathlib.Omega.{arith}
 use native.Mathlib.Nat.{not-suc-le-zero, div-add-mod}
 use lib.ListN.{length, getD, take, drop, length-drop}
 use lib.Seq.{ext-getD, getD-take, getD-drop, length-take-le, take-at, drop-at, drop-drop}
-use Rattle.cells.specs.Places.{listOf, number}
+use Rattle.cells.specs.Places.{listOf}
 use Rattle.cells.specs.Bytes.{bitOf, bytesOf}
 use Rattle.cells.specs.Levels.{level}
 use Rattle.cells.specs.Raising.{raises, triple, raisedTo}
@@ -17,7 +17,7 @@ use Rattle.trellis.specs.Best.{Answer}
 use Rattle.trellis.specs.Trellis.{joined, all}
 use Rattle.trellis.proofs.Best.{some-none}
 use Rattle.page.specs.Shape.{strip}
-use Rattle.page.proofs.Parts.{strip-level, strip-length, within, place-inside, part-number, part-place}
+use Rattle.page.proofs.Parts.{strip-level, strip-length, within, part-number, part-place}
 
 -- a part of the bytes of some bits
 part-bytesOf : (N n m : ℕ) (f : ℕ → ℕ) → n + m ≤ N → take m (drop n (bytesOf N f)) ≡ bytesOf m (λ k. f (8 * n + k))

@@ -10,3 +10,4 @@ pub mod Promise
 pub mod Plans
 pub mod Counting
 pub mod Ledger
+pub mod Known

@@ -22,3 +22,4 @@ pub mod Prices
 pub mod Digits
 pub mod Program
 pub mod Planned
+pub mod Room
