@@ -1,4 +1,4 @@
--- A strip within the page: what the limits say, which strips lie in a page, and what becomes of the others where one part is stored.
+-- A strip within the page: what the limits say, which strips lie in a page, and parts that are stored one by one.
 use mathlib.Core.Path.{_≡_, refl, sym, _∙_, ap}
 use mathlib.Core.Bool.{Bool, true, false, _&&_}
 use mathlib.Core.List.{List, [], _++_}
@@ -45,7 +45,7 @@ pub part-ends : (n k size : ℕ) → k < size / n → n * k + n ≤ size
 part-ends n k size h = omega (arith, within n k (size / n) h, mul-div-le size n)
 
 -- and beyond them where it is not
-pub part-beyond : (n k size : ℕ) → 0 < n → size / n ≤ k → size < n * k + n
+part-beyond : (n k size : ℕ) → 0 < n → size / n ≤ k → size < n * k + n
 part-beyond n k size p h =
     let m : n * (size / n + 1) ≤ n * (k + 1) = mul-le-mul-left n (omega arith) in
     let e : n * (k + 1) ≡ n * k + n = omega arith in

@@ -38,6 +38,7 @@ shape-in-order L S page e =
     (no-ground (oneTo64 L) _ (p .0), no-ground (oneTo64 S) _ (q .0), eqb-true page (6 * L * S) (no-ground (eqb page (6 * L * S)) _ (q .1)))
 
 module _ (code L S page content : ℕ) (e : ground code L S page content ≡ none) where
+  -- where a call has no ground, none of its parts has one
   grounds : (codeGround code ≡ none) × ((shapeGround L S page ≡ none) × (dataGround L S content ≡ none))
   unfolding ground
   grounds = let p = neither (codeGround code) (first-of (shapeGround L S page) (dataGround L S content)) e in (p .0, neither (shapeGround L S page) (dataGround L S content) (p .1))

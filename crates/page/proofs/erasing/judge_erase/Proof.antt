@@ -1,0 +1,59 @@
+-- The tests are those of the grounds, in the same order: the shape, then both ends of the temperature.
+use mathlib.Core.Path.{_≡_, sym, _∙_}
+use mathlib.Core.Bool.{false}
+use mathlib.Core.Option.{none}
+use mir.Syntax.{w16}
+use mir.ValLaws.{toZ-ofZ}
+use lib.IntN.{pos}
+use lib.Signed.{ltZ}
+use borrow.Author.Needs.{needs}
+use Rattle.page.specs.Refusals.{shapeGround, eraseGround}
+use Rattle.page.proofs.Judging.{done-none, refused-first}
+use Rattle.page.proofs.erasing.judge_erase.Statement.{statement}
+use Rattle.page.proofs.erasing.judge_erase.Tie as tie
+
+-- past the match the shape is in order
+shape-none : (c : tie.After-enum-told) → let a = c .before .before .before .args in shapeGround (a .bytes) (a .strips) (a .page) ≡ none
+shape-none c = done-none _ (sym (c .before .before .judge-shape .ensures) ∙ c .enum-told .given .1)
+
+-- past the next test it is not too cold
+not-cold : (c : tie.Else1) → ltZ (c .before .before .before .before .args .tenths) (pos 50) ≡ false
+not-cold c =
+    let s = c .before .before .before .before in
+    rw (toZ-ofZ w16 (s .args .tenths) (s .fits .tenths)) at (c .if1 .left)
+
+judge-shape-requires : tie.Need-judge-shape-requires
+judge-shape-requires c κs = search needs
+
+enum-told : tie.Need-enum-told
+enum-told c = search needs
+
+enum-told-2 : tie.Need-enum-told-2
+enum-told-2 c = search needs
+
+returns : tie.Need-returns
+returns c =
+    let j = c .before .before in
+    let a = j .before .args in
+    refused-first (shapeGround (a .bytes) (a .strips) (a .page)) (eraseGround (a .tenths)) (j .judge-shape .result) (j .judge-shape .ensures) (c .enum-told2 .given .1)
+
+returns-2 : tie.Need-returns-2
+unfolding eraseGround
+returns-2 c =
+    let s = c .before .before .before .before in
+    simp (shape-none (c .before), rw (toZ-ofZ w16 (s .args .tenths) (s .fits .tenths)) at (c .if1 .taken))
+
+returns-3 : tie.Need-returns-3
+unfolding eraseGround
+returns-3 c =
+    let s = c .before .before .before .before .before in
+    simp (shape-none (c .before .before), not-cold (c .before), rw (toZ-ofZ w16 (s .args .tenths) (s .fits .tenths)) at (c .if2 .taken))
+
+returns-4 : tie.Need-returns-4
+unfolding eraseGround
+returns-4 c =
+    let s = c .before .before .before .before .before in
+    simp (shape-none (c .before .before), not-cold (c .before), rw (toZ-ofZ w16 (s .args .tenths) (s .fits .tenths)) at (c .if2 .left))
+
+pub judge-erase-spec : {M : Type 1} → statement M
+judge-erase-spec = tie.close (tie.spec judge-shape-requires enum-told enum-told-2 returns returns-2 returns-3 returns-4)
