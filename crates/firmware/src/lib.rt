@@ -1,0 +1,92 @@
+// The calls for the relay's firmware, which is in C: numbers and byte slices go in, one number comes out. The declarations for C are in
+// include/segrunov.h.
+use page::Answer;
+use page::Completion;
+use page::Refusal;
+ghost use mathlib.Core.Path.{_≡_};
+ghost use lib.ListN.{length, replicate};
+ghost use Rattle.cells.specs.Climbs.{house};
+ghost use Rattle.page.specs.Reading.{readPage};
+ghost use Rattle.page.specs.Refusals.{shapeGround, eraseGround, first-of, ground, numbered, refusalNumber};
+ghost use Rattle.page.specs.Answers.{completionOf, kept, answerOf, pageOf};
+ghost use Rattle.page.specs.Promise.{Wrote};
+ghost use Rattle.firmware.specs.Words.{answerWord, completionWord};
+
+// The paper's number of a refusal.
+fn number_of(refusal: Refusal) -> u32
+    ensures { λ r. ⌜ r ≡ refusalNumber refusal ⌝ }
+{
+    match refusal {
+        Refusal::CodeUnknown => 1,
+        Refusal::BytesOutside => 2,
+        Refusal::StripsOutside => 3,
+        Refusal::PageLength => 4,
+        Refusal::DataLength => 5,
+        Refusal::EraseTemperature => 8,
+    }
+}
+
+// A number and a value in one word.
+fn word(number: u32, value: u32) -> u64
+    ensures { λ r. ⌜ r ≡ number * 4294967296 + value ⌝ }
+{
+    number as u64 * 4294967296 + value as u64
+}
+
+// A write's answer in one word.
+fn answer_word(answer: Answer) -> u64
+    ensures { λ r. ⌜ r ≡ answerWord answer ⌝ }
+{
+    match answer {
+        Answer::Done(cost) => word(0, cost),
+        Answer::Spent(strip) => word(7, strip),
+        Answer::Refused(refusal) => word(number_of(refusal), 0),
+    }
+}
+
+// The answer of a call that has no cost, in one word.
+fn completion_word(completion: Completion) -> u64
+    ensures { λ r. ⌜ r ≡ completionWord completion ⌝ }
+{
+    match completion {
+        Completion::Done => word(0, 0),
+        Completion::Refused(refusal) => word(number_of(refusal), 0),
+    }
+}
+
+// Fills a buffer of L·S bytes with what the page reads as.
+#[no_mangle]
+pub extern "C" fn segrunov_read(code: u32, bytes: u32, strips: u32, page: &[u8], data: &mut [u8]) -> u64
+    ensures { λ r. ⌜ r ≡ completionWord (completionOf (ground code bytes strips (length (now (page .entry))) (length (now («data» .entry))))) ⌝ }
+    ensures { λ _. ⌜ now («data» .exit) ≡ kept (ground code bytes strips (length (now (page .entry))) (length (now («data» .entry)))) (readPage (numbered code) bytes strips (now (page .entry))) (now («data» .entry)) ⌝ }
+{
+    completion_word(page::reading::read(code, bytes, strips, page, data))
+}
+
+// What a write of the same data would answer; nothing is changed.
+#[no_mangle]
+pub extern "C" fn segrunov_price(code: u32, bytes: u32, strips: u32, page: &[u8], data: &[u8]) -> u64
+    ensures { λ r. ⌜ r ≡ answerWord (answerOf house code bytes strips (now (page .entry)) (now («data» .entry))) ⌝ }
+    ensures { λ _. ⌜ Wrote house code bytes strips (now (page .entry)) (now («data» .entry)) (pageOf house code bytes strips (now (page .entry)) (now («data» .entry))) (answerOf house code bytes strips (now (page .entry)) (now («data» .entry))) ⌝ }
+{
+    answer_word(page::writing::price(code, bytes, strips, page, data))
+}
+
+// Writes the data at the least cost.
+#[no_mangle]
+pub extern "C" fn segrunov_write(code: u32, bytes: u32, strips: u32, page: &mut [u8], data: &[u8]) -> u64
+    ensures { λ r. ⌜ r ≡ answerWord (answerOf house code bytes strips (now (page .entry)) (now («data» .entry))) ⌝ }
+    ensures { λ _. ⌜ now (page .exit) ≡ pageOf house code bytes strips (now (page .entry)) (now («data» .entry)) ⌝ }
+    ensures { λ _. ⌜ Wrote house code bytes strips (now (page .entry)) (now («data» .entry)) (now (page .exit)) (answerOf house code bytes strips (now (page .entry)) (now («data» .entry))) ⌝ }
+{
+    answer_word(page::writing::write(code, bytes, strips, page, data))
+}
+
+// Makes every byte of the page 0 at a temperature from 50 to 400 tenths of a degree.
+#[no_mangle]
+pub extern "C" fn segrunov_erase(bytes: u32, strips: u32, page: &mut [u8], tenths: i16) -> u64
+    ensures { λ r. ⌜ r ≡ completionWord (completionOf (first-of (shapeGround bytes strips (length (now (page .entry)))) (eraseGround tenths))) ⌝ }
+    ensures { λ _. ⌜ now (page .exit) ≡ kept (first-of (shapeGround bytes strips (length (now (page .entry)))) (eraseGround tenths)) (replicate (length (now (page .entry))) 0) (now (page .entry)) ⌝ }
+{
+    completion_word(page::erasing::erase(bytes, strips, page, tenths))
+}

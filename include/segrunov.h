@@ -1,0 +1,79 @@
+/*
+ * Segrunov: rewriting a flash page by coset codes.
+ *
+ * A page has S strips of 6*L bytes each, one after another. Three bits are a cell; its level, 0 to 3, is how many of them are one, and only an erase
+ * lowers it. A strip holds L bytes of data. A write raises cells so that the page reads as the data: it picks the cheapest of all pages that read as
+ * the data with no cell lowered (a step from level 0 to 1 costs 16, from 1 to 2 costs 20, from 2 to 3 costs 28), and among equals the one with the
+ * lower level at the first cell that differs.
+ *
+ * ARGUMENTS, the same in every call
+ *   code      SEGRUNOV_SHORT (3) or SEGRUNOV_LONG (7)
+ *   bytes     L, the data bytes of a strip, 1 to 64
+ *   strips    S, the strips of the page, 1 to 64
+ *   page      6*L*S bytes, page_len of them
+ *   data      L*S bytes, data_len of them, strip 0 first
+ *   tenths    the temperature in tenths of a degree Celsius
+ * Every value of the types is allowed and answered; no call asks anything of a number. A pointer must lead to as many bytes as its length says; with
+ * length 0 it may be NULL. Buffers of one call must not overlap, and nobody else may write to them during the call.
+ *
+ * THE ANSWER is one number. Its upper half, SEGRUNOV_NUMBER, is 0 where the call is done, else the number of the refusal. Its lower half,
+ * SEGRUNOV_VALUE, is the cost of a write or price that is done, the strip's number where the page is spent, and 0 in every other case.
+ * The grounds are tested in the order of their numbers, and the first that applies is the answer. With any refusal no byte is changed: not the
+ * page, not the data, not the buffer, also not the strips before a spent one.
+ *
+ * RESOURCES. No heap, no global state, no lock: calls on different buffers may run at the same time. Every call returns. Stack: SEGRUNOV_STACK
+ * bytes at most. The C library must supply memcpy and memset; nothing else is needed.
+ */
+#ifndef SEGRUNOV_H
+#define SEGRUNOV_H
+
+#include <stddef.h>
+#include <stdint.h>
+
+#ifdef __cplusplus
+extern "C" {
+#endif
+
+/* The two codes. */
+#define SEGRUNOV_SHORT UINT32_C(3)
+#define SEGRUNOV_LONG UINT32_C(7)
+
+/* The bytes of a page, and of its data, for L and S within their limits. */
+#define SEGRUNOV_PAGE_BYTES(bytes, strips) ((size_t)6 * (size_t)(bytes) * (size_t)(strips))
+#define SEGRUNOV_DATA_BYTES(bytes, strips) ((size_t)(bytes) * (size_t)(strips))
+
+/* The two halves of an answer. */
+#define SEGRUNOV_NUMBER(answer) ((uint32_t)((answer) >> 32))
+#define SEGRUNOV_VALUE(answer) ((uint32_t)((answer) & UINT64_C(0xffffffff)))
+
+/* The numbers of an answer: 1 to 5 from the input, in this order; 7 and 8 from the state, after those. 6 belongs to the run program. */
+#define SEGRUNOV_DONE UINT32_C(0)
+#define SEGRUNOV_CODE UINT32_C(1)        /* the code is neither 3 nor 7 */
+#define SEGRUNOV_BYTES UINT32_C(2)       /* L is not from 1 to 64 */
+#define SEGRUNOV_STRIPS UINT32_C(3)      /* S is not from 1 to 64 */
+#define SEGRUNOV_PAGE_LENGTH UINT32_C(4) /* the page is not 6*L*S bytes long */
+#define SEGRUNOV_DATA_LENGTH UINT32_C(5) /* the data, or the buffer for it, is not L*S bytes long */
+#define SEGRUNOV_SPENT UINT32_C(7)       /* no page reads as the data with no cell lowered: erase it first */
+#define SEGRUNOV_TEMPERATURE UINT32_C(8) /* an erase outside 50 to 400 tenths of a degree */
+
+/* The most that one write costs, and the stack that a call needs at most, in bytes. */
+#define SEGRUNOV_MAX_COST UINT32_C(1835008)
+#define SEGRUNOV_STACK 12288
+
+/* Fills the buffer with what the page reads as. Refused by 1 to 5. */
+uint64_t segrunov_read(uint32_t code, uint32_t bytes, uint32_t strips, const uint8_t *page, size_t page_len, uint8_t *data, size_t data_len);
+
+/* The answer that segrunov_write gives on the same input. Nothing is changed. Refused by 1 to 5 and 7. */
+uint64_t segrunov_price(uint32_t code, uint32_t bytes, uint32_t strips, const uint8_t *page, size_t page_len, const uint8_t *data, size_t data_len);
+
+/* Writes the data into the page at the least cost. Refused by 1 to 5 and 7; the value of a 7 is the lowest strip that takes no pattern. */
+uint64_t segrunov_write(uint32_t code, uint32_t bytes, uint32_t strips, uint8_t *page, size_t page_len, const uint8_t *data, size_t data_len);
+
+/* Makes every byte of the page 0. Refused by 2 to 4 and 8. */
+uint64_t segrunov_erase(uint32_t bytes, uint32_t strips, uint8_t *page, size_t page_len, int16_t tenths);
+
+#ifdef __cplusplus
+}
+#endif
+
+#endif

@@ -1,0 +1,306 @@
+/*
+ * The known cells of document 01, through include/segrunov.h, as a firmware would call it: refusals in their order, nothing changed by them, guard
+ * bytes around every buffer. The exit status is 0 where every check holds.
+ *
+ * With FREESTANDING it is built with no C library: it brings the two functions that the archive needs, and ends by the system's exit.
+ */
+#include "segrunov.h"
+
+enum { GUARD = 8, PAGE = 12, DATA = 2 };
+
+static const uint8_t GUARD_BYTE = 0xa5;
+
+/* A buffer between guard bytes. */
+struct guarded {
+    uint8_t bytes[GUARD + PAGE + GUARD];
+};
+
+static unsigned checks;
+static unsigned failures;
+
+static void report(const char *what, int holds);
+
+static void check(const char *what, int holds)
+{
+    checks++;
+    if (!holds) {
+        failures++;
+        report(what, holds);
+    }
+}
+
+static uint8_t *inside(struct guarded *g)
+{
+    return g->bytes + GUARD;
+}
+
+static void fill(struct guarded *g, const uint8_t *from, size_t n)
+{
+    size_t i;
+    for (i = 0; i < sizeof g->bytes; i++) {
+        g->bytes[i] = GUARD_BYTE;
+    }
+    for (i = 0; i < n; i++) {
+        inside(g)[i] = from[i];
+    }
+}
+
+/* Whether a buffer has these bytes and its guards are whole. */
+static int holds(const struct guarded *g, const uint8_t *expected, size_t n)
+{
+    size_t i;
+    for (i = 0; i < sizeof g->bytes; i++) {
+        const uint8_t want = i >= GUARD && i < GUARD + n ? expected[i - GUARD] : GUARD_BYTE;
+        if (g->bytes[i] != want) {
+            return 0;
+        }
+    }
+    return 1;
+}
+
+static uint64_t answer(uint32_t number, uint32_t value)
+{
+    return ((uint64_t)number << 32) + value;
+}
+
+/* A write with L = 1: the page and data before, the answer, and the page after. */
+struct known_write {
+    const char *what;
+    uint32_t code;
+    uint32_t strips;
+    uint8_t before[PAGE];
+    uint8_t data[DATA];
+    uint32_t number;
+    uint32_t value;
+    uint8_t after[PAGE];
+};
+
+static const struct known_write KNOWN_WRITES[] = {
+    {"erased, write 00", 3, 1, {0}, {0x00}, 0, 0, {0}},
+    {"erased, write 01", 3, 1, {0}, {0x01}, 0, 48, {0x41, 0x02}},
+    {"erased, write 40", 3, 1, {0}, {0x40}, 0, 16, {0, 0, 0, 0, 0x10}},
+    {"erased, write 80", 3, 1, {0}, {0x80}, 0, 16, {0, 0, 0, 0, 0, 0x20}},
+    {"erased, write 80 with code 7", 7, 1, {0}, {0x80}, 0, 16, {0, 0, 0, 0, 0, 0x20}},
+    {"full, write fe", 3, 1, {0xff, 0xff, 0xff, 0xff, 0xff, 0xff}, {0xfe}, 0, 0, {0xff, 0xff, 0xff, 0xff, 0xff, 0xff}},
+    {"full, write 1e with code 7", 7, 1, {0xff, 0xff, 0xff, 0xff, 0xff, 0xff}, {0x1e}, 0, 0, {0xff, 0xff, 0xff, 0xff, 0xff, 0xff}},
+    {"full, write 80", 3, 1, {0xff, 0xff, 0xff, 0xff, 0xff, 0xff}, {0x80}, 7, 0, {0xff, 0xff, 0xff, 0xff, 0xff, 0xff}},
+    {"two strips, write 80 40", 3, 2, {0}, {0x80, 0x40}, 0, 32, {0, 0, 0, 0, 0, 0x20, 0, 0, 0, 0, 0x10, 0}},
+    {"strip 1 full, write 80 00", 3, 2, {0, 0, 0, 0, 0, 0, 0xff, 0xff, 0xff, 0xff, 0xff, 0xff}, {0x80, 0x00}, 7, 1,
+     {0, 0, 0, 0, 0, 0, 0xff, 0xff, 0xff, 0xff, 0xff, 0xff}},
+    {"strip 1 full, write 80 fe", 3, 2, {0, 0, 0, 0, 0, 0, 0xff, 0xff, 0xff, 0xff, 0xff, 0xff}, {0x80, 0xfe}, 0, 16,
+     {0, 0, 0, 0, 0, 0x20, 0xff, 0xff, 0xff, 0xff, 0xff, 0xff}},
+};
+
+static void known_writes(void)
+{
+    size_t i;
+    for (i = 0; i < sizeof KNOWN_WRITES / sizeof *KNOWN_WRITES; i++) {
+        const struct known_write *k = &KNOWN_WRITES[i];
+        const size_t page_len = SEGRUNOV_PAGE_BYTES(1, k->strips);
+        const size_t data_len = SEGRUNOV_DATA_BYTES(1, k->strips);
+        struct guarded page, data, back;
+        fill(&page, k->before, page_len);
+        fill(&data, k->data, data_len);
+        check(k->what, segrunov_price(k->code, 1, k->strips, inside(&page), page_len, inside(&data), data_len) == answer(k->number, k->value));
+        check(k->what, holds(&page, k->before, page_len));
+        check(k->what, segrunov_write(k->code, 1, k->strips, inside(&page), page_len, inside(&data), data_len) == answer(k->number, k->value));
+        check(k->what, holds(&page, k->after, page_len));
+        check(k->what, holds(&data, k->data, data_len));
+        if (k->number == SEGRUNOV_DONE) {
+            fill(&back, k->data, 0);
+            check(k->what, segrunov_read(k->code, 1, k->strips, inside(&page), page_len, inside(&back), data_len) == 0);
+            check(k->what, holds(&back, k->data, data_len));
+            check(k->what, holds(&page, k->after, page_len));
+        }
+    }
+}
+
+/* Seven writes one after another on one page. */
+static void known_run(void)
+{
+    static const uint32_t costs[] = {16, 16, 20, 20, 28, 28, 32};
+    static const uint8_t erased[6] = {0};
+    struct guarded page;
+    size_t i;
+    fill(&page, erased, 6);
+    for (i = 0; i < sizeof costs / sizeof *costs; i++) {
+        const uint8_t data[1] = {(uint8_t)(i % 2 == 0 ? 0x80 : 0x00)};
+        check("80, 00, 80, .. from erased", segrunov_write(3, 1, 1, inside(&page), 6, data, 1) == answer(0, costs[i]));
+    }
+}
+
+/* A refusal from the input, for read, price and write alike. */
+struct known_refusal {
+    const char *what;
+    uint32_t code;
+    uint32_t bytes;
+    uint32_t strips;
+    size_t page_len;
+    size_t data_len;
+    uint32_t number;
+};
+
+static const struct known_refusal KNOWN_REFUSALS[] = {
+    {"code 4", 4, 1, 1, 6, 1, 1},
+    {"code 4 before L = 0", 4, 0, 1, 6, 1, 1},
+    {"code 0", 0, 1, 1, 6, 1, 1},
+    {"the largest code", UINT32_MAX, 1, 1, 6, 1, 1},
+    {"L = 0", 3, 0, 1, 6, 1, 2},
+    {"L = 65", 3, 65, 1, 6, 1, 2},
+    {"L = 0 before S = 0", 3, 0, 0, 6, 1, 2},
+    {"the largest L", 3, UINT32_MAX, 1, 6, 1, 2},
+    {"S = 0", 3, 1, 0, 6, 1, 3},
+    {"S = 65", 3, 1, 65, 6, 1, 3},
+    {"S = 65 before the page", 7, 1, 65, 5, 1, 3},
+    {"the largest S", 3, 1, UINT32_MAX, 6, 1, 3},
+    {"a page of 5 bytes", 3, 1, 1, 5, 1, 4},
+    {"a page of 7 bytes", 7, 1, 1, 7, 1, 4},
+    {"a page of 7 bytes before the data", 7, 1, 1, 7, 2, 4},
+    {"no page", 3, 1, 1, 0, 1, 4},
+    {"no data", 3, 1, 1, 6, 0, 5},
+    {"two bytes of data", 3, 1, 1, 6, 2, 5},
+};
+
+static void known_refusals(void)
+{
+    static const uint8_t bytes[PAGE] = {1, 2, 3, 4, 5, 6, 7, 8, 9, 10, 11, 12};
+    size_t i;
+    for (i = 0; i < sizeof KNOWN_REFUSALS / sizeof *KNOWN_REFUSALS; i++) {
+        const struct known_refusal *k = &KNOWN_REFUSALS[i];
+        const uint64_t expected = answer(k->number, 0);
+        struct guarded page, data;
+        uint8_t *const page_at = k->page_len == 0 ? NULL : inside(&page);
+        uint8_t *const data_at = k->data_len == 0 ? NULL : inside(&data);
+        fill(&page, bytes, k->page_len);
+        fill(&data, bytes, k->data_len);
+        check(k->what, segrunov_read(k->code, k->bytes, k->strips, page_at, k->page_len, data_at, k->data_len) == expected);
+        check(k->what, segrunov_price(k->code, k->bytes, k->strips, page_at, k->page_len, data_at, k->data_len) == expected);
+        check(k->what, segrunov_write(k->code, k->bytes, k->strips, page_at, k->page_len, data_at, k->data_len) == expected);
+        check(k->what, holds(&page, bytes, k->page_len));
+        check(k->what, holds(&data, bytes, k->data_len));
+    }
+}
+
+/* An erase of a page whose bytes are all 0x5a. */
+struct known_erase {
+    const char *what;
+    uint32_t bytes;
+    uint32_t strips;
+    size_t page_len;
+    int16_t tenths;
+    uint32_t number;
+};
+
+static const struct known_erase KNOWN_ERASES[] = {
+    {"erase at 49", 1, 1, 6, 49, 8},
+    {"erase at 50", 1, 1, 6, 50, 0},
+    {"erase at 400", 1, 2, 12, 400, 0},
+    {"erase at 401", 1, 1, 6, 401, 8},
+    {"erase at -1", 1, 1, 6, -1, 8},
+    {"erase at -32768", 1, 1, 6, INT16_MIN, 8},
+    {"erase at 32767", 1, 1, 6, INT16_MAX, 8},
+    {"erase, L = 0 before 401", 0, 1, 6, 401, 2},
+    {"erase, S = 65", 1, 65, 6, 200, 3},
+    {"erase, a page of 5 bytes before 49", 1, 1, 5, 49, 4},
+};
+
+static void known_erases(void)
+{
+    size_t i;
+    for (i = 0; i < sizeof KNOWN_ERASES / sizeof *KNOWN_ERASES; i++) {
+        const struct known_erase *k = &KNOWN_ERASES[i];
+        uint8_t before[PAGE];
+        uint8_t erased[PAGE];
+        struct guarded page;
+        size_t j;
+        for (j = 0; j < PAGE; j++) {
+            before[j] = 0x5a;
+            erased[j] = 0;
+        }
+        fill(&page, before, k->page_len);
+        check(k->what, segrunov_erase(k->bytes, k->strips, inside(&page), k->page_len, k->tenths) == answer(k->number, 0));
+        check(k->what, holds(&page, k->number == SEGRUNOV_DONE ? erased : before, k->page_len));
+    }
+}
+
+static void all(void)
+{
+    known_writes();
+    known_run();
+    known_refusals();
+    known_erases();
+}
+
+#ifdef FREESTANDING
+
+#ifdef __cplusplus
+extern "C" {
+#endif
+void *memcpy(void *to, const void *from, size_t n);
+void *memset(void *to, int value, size_t n);
+void _start(void);
+#ifdef __cplusplus
+}
+#endif
+
+void *memcpy(void *to, const void *from, size_t n)
+{
+    volatile uint8_t *t = (volatile uint8_t *)to;
+    const uint8_t *f = (const uint8_t *)from;
+    while (n-- > 0) {
+        *t++ = *f++;
+    }
+    return to;
+}
+
+void *memset(void *to, int value, size_t n)
+{
+    volatile uint8_t *t = (volatile uint8_t *)to;
+    while (n-- > 0) {
+        *t++ = (uint8_t)value;
+    }
+    return to;
+}
+
+static void report(const char *what, int result)
+{
+    (void)what;
+    (void)result;
+}
+
+static void leave(long status)
+{
+    __asm__ volatile("syscall" : : "a"(60L), "D"(status) : "rcx", "r11", "memory");
+}
+
+void _start(void)
+{
+    /* The system enters with the stack at a multiple of 16, where a function expects it eight below. */
+    __asm__ volatile("andq $-16, %rsp");
+    all();
+    leave(failures == 0 && checks > 0 ? 0 : 1);
+    for (;;) {
+    }
+}
+
+#else
+
+#include <stdio.h>
+
+static void report(const char *what, int result)
+{
+    (void)fprintf(stderr, "client: %s: %d\n", what, result);
+}
+
+int main(void)
+{
+    all();
+    if (failures != 0) {
+        (void)printf("client: %u of %u checks failed\n", failures, checks);
+        return 1;
+    }
+    (void)printf("client: %u checks hold\n", checks);
+    return 0;
+}
+
+#endif
