@@ -11,6 +11,7 @@ use Rattle.page.specs.Shape.{oneTo64}
 use Rattle.page.specs.Refusals.{first-of, codeGround, bytesGround, stripsGround, pageGround, dataGround, shapeGround, ground}
 use Rattle.page.specs.Answers.{completionOf}
 use Rattle.page.specs.declared.Refusal.{Refusal}
+use Rattle.page.specs.declared.Completion.{Completion}
 use Rattle.page.specs.declared.Completion.the-variants.{Done, Refused}
 
 -- no ground where neither of two applies
@@ -37,6 +38,7 @@ shape-in-order L S page e =
     (no-ground (oneTo64 L) _ (p .0), no-ground (oneTo64 S) _ (q .0), eqb-true page (6 * L * S) (no-ground (eqb page (6 * L * S)) _ (q .1)))
 
 module _ (code L S page content : ℕ) (e : ground code L S page content ≡ none) where
+  -- where a call has no ground, none of its parts has one
   grounds : (codeGround code ≡ none) × ((shapeGround L S page ≡ none) × (dataGround L S content ≡ none))
   unfolding ground
   grounds = let p = neither (codeGround code) (first-of (shapeGround L S page) (dataGround L S content)) e in (p .0, neither (shapeGround L S page) (dataGround L S content) (p .1))
@@ -66,3 +68,8 @@ done-none (some r) e = let z : _≡_ {A = ℕ} 0 1 = cc in absurd (omega arith)
 pub refused-some : (g : Option Refusal) {r : Refusal} → completionOf g ≡ Refused r → g ≡ some r
 refused-some none e = let z : _≡_ {A = ℕ} 0 1 = cc in absurd (omega arith)
 refused-some (some s) e = cc
+
+-- and it is that of whatever is tested after it
+pub refused-first : (g h : Option Refusal) (c : Completion) {r : Refusal} → c ≡ completionOf g → c ≡ Refused r → c ≡ completionOf (first-of g h)
+refused-first none h c e f = let z : _≡_ {A = ℕ} 0 1 = cc in absurd (omega arith)
+refused-first (some s) h c e f = e

@@ -6,7 +6,9 @@ pub mod Levels
 pub mod Demand
 pub mod Summing
 pub mod Turning
+pub mod Fitting
 pub mod Judging
 pub mod Kept
 pub mod Ledgers
 pub mod Carried
+pub mod Rounds

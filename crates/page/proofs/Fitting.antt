@@ -1,0 +1,128 @@
+-- A strip within the page: what the limits say, which strips lie in a page, and parts that are stored one by one.
+use mathlib.Core.Path.{_≡_, refl, sym, _∙_, ap}
+use mathlib.Core.Bool.{Bool, true, false, _&&_}
+use mathlib.Core.List.{List, [], _++_}
+use Prim.Native.Nat.{ℕ, suc, _+_, _*_, _-_, _/_, _%_, _<_, _≤_}
+use native.Mathlib.Omega.{arith}
+use native.Mathlib.Nat.{mul-le-mul-left, mul-div-le, lt-mul-div-succ, div-add-mod, add-sub-cancel-left}
+use lib.Dec.{leb}
+use lib.ListN.{length, getD, take, drop, length-drop, take-append-drop}
+use lib.Seq.{ext-getD, getD-take, getD-drop, length-take-le, take-at, drop-at, take-append-le, drop-append-le}
+use borrow.Rule.Slice.PartMut.{same-len-mid}
+use borrow.Author.Count.{below-more}
+use borrow.Author.Tests.{le-leb, lt-leb, leb-true}
+use Rattle.page.specs.Shape.{strip, part, oneTo64, inPage, stripOf}
+use Rattle.page.proofs.Parts.{within, part-number, part-place}
+
+-- two tests that hold together hold each
+both : (a b : Bool) → (a && b) ≡ true → (a ≡ true) × (b ≡ true)
+both true b e = (refl, e)
+both false b e = (e, let z : _≡_ {A = ℕ} 0 1 = cc in absurd (omega arith))
+
+-- THE LIMITS. What a number from 1 to 64 is
+pub one-to-64 : (n : ℕ) → oneTo64 n ≡ true → (1 ≤ n) × (n ≤ 64)
+unfolding oneTo64
+one-to-64 n e = let p = both (leb 1 n) (leb n 64) e in (leb-true 1 n (p .0), leb-true n 64 (p .1))
+
+module _ (n : ℕ) where
+  -- a number from 1 to 64
+  pub limits-in : 1 ≤ n → n ≤ 64 → oneTo64 n ≡ true
+  unfolding oneTo64
+  limits-in l h = simp (le-leb _ _ l, le-leb _ _ h)
+
+  -- a number below 1
+  pub limits-below : n < 1 → oneTo64 n ≡ false
+  unfolding oneTo64
+  limits-below l = simp (lt-leb _ _ l)
+
+  -- a number above 64
+  pub limits-above : 64 < n → oneTo64 n ≡ false
+  unfolding oneTo64
+  limits-above h = let l : 1 ≤ n = omega arith in simp (le-leb _ _ l, lt-leb _ _ h)
+
+-- THE PAGE'S END. Part k of parts of n places ends within size places where it is one of the whole parts
+pub part-ends : (n k size : ℕ) → k < size / n → n * k + n ≤ size
+part-ends n k size h = omega (arith, within n k (size / n) h, mul-div-le size n)
+
+-- and beyond them where it is not
+part-beyond : (n k size : ℕ) → 0 < n → size / n ≤ k → size < n * k + n
+part-beyond n k size p h =
+    let m : n * (size / n + 1) ≤ n * (k + 1) = mul-le-mul-left n (omega arith) in
+    let e : n * (k + 1) ≡ n * k + n = omega arith in
+    omega (arith, lt-mul-div-succ size p)
+
+module _ (L k : ℕ) (page : List ℕ) where
+  -- no strip where L is outside its limits
+  pub strip-outside : oneTo64 L ≡ false → stripOf L k page ≡ []
+  unfolding stripOf inPage
+  strip-outside e = simp e
+
+  -- none where it ends beyond the page's end
+  pub strip-beyond : oneTo64 L ≡ true → length page / (6 * L) ≤ k → stripOf L k page ≡ []
+  unfolding stripOf inPage
+  strip-beyond e h =
+      let l : length page < 6 * L * suc k = omega (arith, part-beyond (6 * L) k (length page) (omega (arith, one-to-64 L e)) h) in
+      simp (e, lt-leb _ _ l)
+
+  -- the strip where it ends within the page
+  pub strip-inside : oneTo64 L ≡ true → 6 * L * k + 6 * L ≤ length page → stripOf L k page ≡ strip L k page
+  unfolding stripOf inPage
+  strip-inside e h = let l : 6 * L * suc k ≤ length page = omega arith in simp (e, le-leb _ _ l)
+
+-- each of the S strips of a page lies in it
+pub strip-there : (L S k : ℕ) (page : List ℕ) → oneTo64 L ≡ true → length page ≡ 6 * L * S → k < S → stripOf L k page ≡ strip L k page
+strip-there L S k page e p h = strip-inside L k page e (omega (arith, within (6 * L) k S h))
+
+-- PARTS ONE BY ONE. Place i of part k
+part-at : (w k : ℕ) (x : List ℕ) (i : ℕ) → i < w → getD (part w k x) i 0 ≡ getD x (w * k + i) 0
+unfolding part
+part-at w k x i h = rw (getD-take w (drop (w * k) x) i 0 h, getD-drop (w * k) x i 0)
+
+-- the same parts, the same list
+pub parts-same : (w S : ℕ) (x y : List ℕ) → length x ≡ w * S → length y ≡ w * S → ((k : ℕ) → k < S → part w k x ≡ part w k y) → x ≡ y
+parts-same w S x y p q e = ext-getD 0 x y (p ∙ sym q) each
+  where
+    each : (i : ℕ) → i < length x → getD x i 0 ≡ getD y i 0
+    each i h =
+        let l : i < w * S = omega arith in
+        let m = part-place w S i l in
+        ap (λ (n : ℕ). getD x n 0) (sym (div-add-mod i w)) ∙ sym (part-at w (i / w) x (i % w) m)
+        ∙ ap (λ (z : List ℕ). getD z (i % w) 0) (e (i / w) (part-number w S i l))
+        ∙ part-at w (i / w) y (i % w) m ∙ ap (λ (n : ℕ). getD y n 0) (div-add-mod i w)
+
+-- part j of a list is that of its front where it lies there
+part-front : (w j : ℕ) (p q : List ℕ) → w * j + w ≤ length p → part w j (p ++ q) ≡ part w j p
+unfolding part
+part-front w j p q h =
+    let a : w * j ≤ length p = omega arith in
+    let b : w ≤ length (drop (w * j) p) = omega (arith, length-drop (w * j) p) in
+    rw (drop-append-le (w * j) p q, take-append-le w (drop (w * j) p) q)
+
+-- part k as the code lends it has w places
+pub lent-length : (w k : ℕ) (x : List ℕ) → w * k + w ≤ length x → length (take (w * k + w - w * k) (drop (w * k) x)) ≡ w
+lent-length w k x h = rw (add-sub-cancel-left (w * k) w) (length-take-le w (drop (w * k) x) (omega (arith, length-drop (w * k) x)))
+
+-- part k stored: the list is as long as it was
+pub stored-length : (w k : ℕ) (x y : List ℕ) → w * k + w ≤ length x → length y ≡ w → length (take (w * k) x ++ (y ++ drop (w * k + w - w * k) (drop (w * k) x))) ≡ length x
+stored-length w k x y h l = same-len-mid (w * k) (w * k + w - w * k) x y (l ∙ sym (lent-length w k x h))
+
+-- part k stored: the parts before it and it are those of f, as a loop has them after turn k
+pub part-more : (w k : ℕ) (x y : List ℕ) (f : ℕ → List ℕ) → w * k + w ≤ length x → length y ≡ w → y ≡ f k → ((j : ℕ) → j < k → part w j x ≡ f j)
+    → (j : ℕ) → j < k + 1 → part w j (take (w * k) x ++ (y ++ drop (w * k + w - w * k) (drop (w * k) x))) ≡ f j
+unfolding part
+part-more w k x y f h l e p = below-more (λ (j : ℕ). part w j (take (w * k) x ++ (y ++ rest)) ≡ f j) k before (here ∙ e)
+  where
+    rest : List ℕ
+    rest = drop (w * k + w - w * k) (drop (w * k) x)
+
+    front : length (take (w * k) x) ≡ w * k
+    front = length-take-le (w * k) x (let z : w * k ≤ length x = omega arith in z)
+
+    before : (j : ℕ) → j < k → part w j (take (w * k) x ++ (y ++ rest)) ≡ f j
+    before j m =
+        let z : w * j + w ≤ length (take (w * k) x) = omega (arith, front, within w j k m) in
+        part-front w j (take (w * k) x) (y ++ rest) z ∙ sym (part-front w j (take (w * k) x) (drop (w * k) x) z)
+        ∙ ap (part w j) (take-append-drop (w * k) x) ∙ p j m
+
+    here : part w k (take (w * k) x ++ (y ++ rest)) ≡ y
+    here = rw (drop-at (take (w * k) x) (y ++ rest) (w * k) front) (take-at y rest w l)
