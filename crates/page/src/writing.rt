@@ -17,6 +17,7 @@ ghost use Rattle.cells.specs.Bytes.{bitOf, bytesOf};
 ghost use Rattle.cells.specs.Raising.{raisedTo};
 ghost use Rattle.cells.specs.Climbs.{house};
 ghost use Rattle.codes.specs.Codes.{generatorsOf};
+ghost use Rattle.trellis.specs.Strip.{Dear, stepsOf};
 ghost use Rattle.trellis.specs.Backward.{decisionAt};
 ghost use Rattle.trellis.specs.Forward.{followed, carriedTo};
 ghost use Rattle.page.specs.Shape.{Sized, strip, part};
@@ -112,6 +113,7 @@ fn carry_strips(code: Code, bytes: usize, strips: usize, page: &mut [u8], data: 
 // Plans every strip, and carries the plans out only where each has one.
 fn write_strips(code: Code, weights: [u8; 3], bytes: usize, strips: usize, page: &mut [u8], data: &[u8]) -> Answer
     requires { ⌜ Sized bytes strips (now page) (now «data») ⌝ }
+    requires { ⌜ Dear (stepsOf weights) ⌝ }
     ensures { λ r. ⌜ r ≡ answered none (pageWrite (generatorsOf code) weights bytes strips (now (page .entry)) (now («data» .entry))) (spentStrip (generatorsOf code) weights bytes strips (now (page .entry)) (now («data» .entry))) ⌝ }
     ensures { λ r. ⌜ now (page .exit) ≡ turned none (pageWrite (generatorsOf code) weights bytes strips (now (page .entry)) (now («data» .entry))) (now (page .entry)) ⌝ }
 {
