@@ -55,6 +55,16 @@ named-proper Long = long-proper
 pub proper : (c : Code) → Proper (generatorsOf c)
 proper c = named-proper (c .name)
 
+-- and the second generator of each name begins with 1 too
+named-second : (n : Name) → digit (named n .memory) (named n .g2) 0 ≡ 1
+unfolding digit
+named-second Short = refl
+named-second Long = refl
+
+-- so does that of every code
+pub second-leads : (c : Code) → digit (generatorsOf c .memory) (generatorsOf c .g2) 0 ≡ 1
+second-leads c = named-second (c .name)
+
 -- WORDS READ AS THE DATA just where the paper's sums give it: a and b are the bits of the words
 module _ (G : Generators) (lead : digit (G .memory) (G .g1) 0 ≡ 1) (n : ℕ) (W : List (List Bool)) (a b d : ℕ → ℕ) (bits : (t : ℕ) → d t < 2)
     (first : Agree n (bit 0 W) (λ t. odd (a t))) (second : Agree n (bit 1 W) (λ t. odd (b t))) where

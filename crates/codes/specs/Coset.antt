@@ -7,7 +7,7 @@
 use mathlib.Core.Path.{_≡_}
 use mathlib.Core.Bool.{Bool, true, false}
 use mathlib.Core.List.{List, [], _∷_}
-use Prim.Native.Nat.{ℕ, zero, suc, _<_}
+use Prim.Native.Nat.{ℕ, suc, _<_}
 use lib.ListN.{getD, length}
 use Rattle.codes.specs.Sequences.{_+₂_, Bits, _⊕_, conv, Agree}
 use Rattle.codes.specs.Registers.{quotient}

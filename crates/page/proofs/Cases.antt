@@ -75,10 +75,64 @@ module _ (code L S : ℕ) (page content : List ℕ) where
 -- the table, evaluated
 evaluated : AllSay answerTabled pageTabled cases
 unfolding answerTabled pageTabled stripTabled write-table table step look grow stages labels quotient register push dot branch next wanted sums joined better beats before lexltb parity-choice keep-or-raise odd weightOf cellsOf encoderOf digit listOf bitOf level dataOf unmarked strip part all first-none numbered ground codeGround shapeGround bytesGround stripsGround pageGround dataGround oneTo64 raisedTo bytesOf number raises raise triple levelAt readPage dataBit sumOf ago firstBit secondBit stripLevels
-evaluated =
-    ((refl, refl), ((refl, refl), ((refl, refl), ((refl, refl), ((refl, refl), ((refl, refl), ((refl, refl), ((refl, refl), ((refl, refl),
-    ((refl, refl), ((refl, refl), ((refl, refl), (refl, (refl, ((refl, refl), ((refl, refl), ((refl, refl), ((refl, refl), ((refl, refl),
-    tt)))))))))))))))))))
+evaluated = (
+  (refl, refl),
+  (
+    (refl, refl),
+    (
+      (refl, refl),
+      (
+        (refl, refl),
+        (
+          (refl, refl),
+          (
+            (refl, refl),
+            (
+              (refl, refl),
+              (
+                (refl, refl),
+                (
+                  (refl, refl),
+                  (
+                    (refl, refl),
+                    (
+                      (refl, refl),
+                      (
+                        (refl, refl),
+                        (
+                          refl,
+                          (
+                            refl,
+                            (
+                              (refl, refl),
+                              (
+                                (refl, refl),
+                                (
+                                  (refl, refl),
+                                  (
+                                    (refl, refl),
+                                    (
+                                      (refl, refl),
+                                      tt,
+                                    ),
+                                  ),
+                                ),
+                              ),
+                            ),
+                          ),
+                        ),
+                      ),
+                    ),
+                  ),
+                ),
+              ),
+            ),
+          ),
+        ),
+      ),
+    ),
+  ),
+)
 
 -- THE THEOREM: the table holds of the answer and the page of a write with the house's weights
 pub cases-hold : AllSay (answerOf house) (pageOf house) cases

@@ -1,5 +1,5 @@
 -- The laws of a page: its parts, the strips within it, its reading, the grounds of a refusal, the census, its strips one after the other, demand 3,
--- the calls' promises, the ledger, the table of known cases and the bounds.
+-- the calls' promises, the ledger, the table of known cases, the bounds and the rounds of the loops.
 pub mod Parts
 pub mod Fitting
 pub mod Readings
@@ -15,3 +15,4 @@ pub mod Ledgers
 pub mod Carried
 pub mod Cases
 pub mod Bounds
+pub mod Rounds

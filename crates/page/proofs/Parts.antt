@@ -70,6 +70,8 @@ part-length L S k content e h = length-take-le L (drop (L * k) content) (omega (
 -- which is bytes where the data is
 pub part-octets : (L S k : ℕ) (content : List ℕ) → length content ≡ L * S → k < S → Octets content → Octets (part L k content)
 unfolding part
-part-octets L S k content e h b = record { below = λ q l.
-    let m : q < L = omega (arith, part-length L S k content e h) in
-    rw (getD-take L (drop (L * k) content) q 0 m, getD-drop (L * k) content q 0) (b .below (L * k + q) (omega (arith, within L k S h))) }
+part-octets L S k content e h b = record {
+  below = λ q l.
+      let m : q < L = omega (arith, part-length L S k content e h) in
+      rw (getD-take L (drop (L * k) content) q 0 m, getD-drop (L * k) content q 0) (b .below (L * k + q) (omega (arith, within L k S h)));
+}

@@ -5,9 +5,8 @@
 --   kept                 what a refusal leaves as it was
 use mathlib.Core.List.{List}
 use mathlib.Core.Option.{Option, none, some}
-use Prim.Native.Nat.{ℕ, _+_, _*_}
+use Prim.Native.Nat.{ℕ}
 use lib.ListN.{length}
-use Rattle.cells.specs.Climbs.{house}
 use Rattle.cells.specs.Raising.{raisedTo}
 use Rattle.trellis.specs.Best as Search
 use Rattle.trellis.specs.Demand.{levelAt}

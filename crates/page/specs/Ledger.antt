@@ -5,7 +5,7 @@
 --   counted            the raises since the last accepted erase, after a call
 --   played, tallied    the page and the count after a sequence of calls
 use mathlib.Core.List.{List, [], _∷_}
-use mathlib.Core.Option.{Option, none, some}
+use mathlib.Core.Option.{Option}
 use Prim.Native.Nat.{ℕ, _+_, _*_, _-_, _/_}
 use lib.IntN.{ℤ}
 use lib.ListN.{length, replicate}

@@ -3,7 +3,7 @@
 --   shapeGround, ground  the grounds of erase and census; of read, price and write
 --   eraseGround          from the state: an erase outside 50 to 400
 --   refusalNumber        the paper's number of a refusal
-use mathlib.Core.Bool.{Bool, cond, _||_}
+use mathlib.Core.Bool.{cond, _||_}
 use mathlib.Core.Option.{Option, none, some}
 use Prim.Native.Nat.{ℕ, _*_}
 use lib.Dec.{eqb}

@@ -1,9 +1,10 @@
 // The calls on a page: read, price, write, erase and census, on numbers and byte slices. Each takes every input, and refuses what is not in order.
-pub mod shape;
-pub mod reading;
-pub mod writing;
-pub mod erasing;
 pub mod counting;
+pub mod erasing;
+pub mod reading;
+pub mod shape;
+pub mod writing;
+
 use trellis::Outcome;
 ghost use mathlib.Core.Path.{_≡_};
 ghost use Rattle.page.specs.Totals.{noTotal, added, answerFor};

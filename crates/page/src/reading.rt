@@ -31,7 +31,13 @@ pub fn read(code: u32, bytes: u32, strips: u32, page: &[u8], data: &mut [u8]) ->
     let judged = shape::judge(code, bytes, strips, page.len(), data.len());
     match judged {
         Completion::Done => {
-            read_strips(shape::code_of(code), bytes as usize, strips as usize, page, data);
+            read_strips(
+                shape::code_of(code),
+                bytes as usize,
+                strips as usize,
+                page,
+                data,
+            );
             judged
         }
         Completion::Refused(_) => judged,

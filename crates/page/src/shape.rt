@@ -58,7 +58,11 @@ pub fn judge(code: u32, bytes: u32, strips: u32, page: usize, data: usize) -> Co
 pub fn code_of(code: u32) -> Code
     ensures { λ r. ⌜ generatorsOf r ≡ numbered code ⌝ }
 {
-    if code == 3 { Code::short() } else { Code::long() }
+    if code == 3 {
+        Code::short()
+    } else {
+        Code::long()
+    }
 }
 
 // Strip k of the caller's page, as that part; the empty part where L is not from 1 to 64 or the strip lies beyond the page's end.

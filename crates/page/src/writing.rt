@@ -17,6 +17,7 @@ ghost use Rattle.cells.specs.Bytes.{bitOf, bytesOf};
 ghost use Rattle.cells.specs.Raising.{raisedTo};
 ghost use Rattle.cells.specs.Climbs.{house};
 ghost use Rattle.codes.specs.Codes.{generatorsOf};
+ghost use Rattle.trellis.specs.Strip.{Dear, stepsOf};
 ghost use Rattle.trellis.specs.Backward.{decisionAt};
 ghost use Rattle.trellis.specs.Forward.{followed, carriedTo};
 ghost use Rattle.page.specs.Shape.{Sized, strip, part};
@@ -26,7 +27,14 @@ ghost use Rattle.page.specs.Promise.{Wrote};
 ghost use Rattle.page.specs.Plans.{Planned, Carried};
 
 // What the data of the whole page costs.
-fn price_strips(code: Code, weights: [u8; 3], bytes: usize, strips: usize, page: &[u8], data: &[u8]) -> Answer
+fn price_strips(
+    code: Code,
+    weights: [u8; 3],
+    bytes: usize,
+    strips: usize,
+    page: &[u8],
+    data: &[u8],
+) -> Answer
     requires { ⌜ Sized bytes strips (now page) (now «data») ⌝ }
     ensures { λ r. ⌜ r ≡ answered none (pageWrite (generatorsOf code) weights bytes strips (now (page .entry)) (now («data» .entry))) (spentStrip (generatorsOf code) weights bytes strips (now (page .entry)) (now («data» .entry))) ⌝ }
 {
@@ -89,7 +97,14 @@ fn plan_strips(
 }
 
 // Carries the digits out, strip by strip.
-fn carry_strips(code: Code, bytes: usize, strips: usize, page: &mut [u8], data: &[u8], digits: &[u8])
+fn carry_strips(
+    code: Code,
+    bytes: usize,
+    strips: usize,
+    page: &mut [u8],
+    data: &[u8],
+    digits: &[u8],
+)
     requires { ⌜ Sized bytes strips (now page) (now «data») ⌝ }
     requires { ⌜ length (now digits) ≡ bytes * strips ⌝ }
     ensures { λ _. ⌜ Carried (generatorsOf code) bytes strips (now (page .entry)) (now («data» .entry)) (now (digits .entry)) (now (page .exit)) ⌝ }
@@ -110,8 +125,16 @@ fn carry_strips(code: Code, bytes: usize, strips: usize, page: &mut [u8], data: 
 }
 
 // Plans every strip, and carries the plans out only where each has one.
-fn write_strips(code: Code, weights: [u8; 3], bytes: usize, strips: usize, page: &mut [u8], data: &[u8]) -> Answer
+fn write_strips(
+    code: Code,
+    weights: [u8; 3],
+    bytes: usize,
+    strips: usize,
+    page: &mut [u8],
+    data: &[u8],
+) -> Answer
     requires { ⌜ Sized bytes strips (now page) (now «data») ⌝ }
+    requires { ⌜ Dear (stepsOf weights) ⌝ }
     ensures { λ r. ⌜ r ≡ answered none (pageWrite (generatorsOf code) weights bytes strips (now (page .entry)) (now («data» .entry))) (spentStrip (generatorsOf code) weights bytes strips (now (page .entry)) (now («data» .entry))) ⌝ }
     ensures { λ r. ⌜ now (page .exit) ≡ turned none (pageWrite (generatorsOf code) weights bytes strips (now (page .entry)) (now («data» .entry))) (now (page .entry)) ⌝ }
 {

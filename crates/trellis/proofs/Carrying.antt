@@ -165,7 +165,7 @@ module _ (G : Generators) (strip content : List ℕ) (u : ℕ → ℕ) where
       let p : suc (2 * t) ≡ 2 * t + 1 = omega arith in
       let q : suc (2 * t + 1) ≡ 2 * (t + 1) = omega arith in
       let one : s₁ ≡ raisedTo strip (carriedBelow (2 * t + 1)) =
-          e₁ ∙ ap (λ (l : List ℕ). shown l (2 * t) a) e ∙ carried-more (2 * t) a (omega arith) la (ea ∙ sym (wanted-even t)) ∙ ap (λ (n : ℕ). raisedTo strip (carriedBelow n)) p in
+      e₁ ∙ ap (λ (l : List ℕ). shown l (2 * t) a) e ∙ carried-more (2 * t) a (omega arith) la (ea ∙ sym (wanted-even t)) ∙ ap (λ (n : ℕ). raisedTo strip (carriedBelow n)) p in
       e₂ ∙ ap (λ (l : List ℕ). shown l (2 * t + 1) b) one ∙ carried-more (2 * t + 1) b (omega arith) lb (eb ∙ sym (wanted-odd t)) ∙ ap (λ (n : ℕ). raisedTo strip (carriedBelow n)) q
 
 -- the state a stage later

@@ -152,8 +152,16 @@ module _ (G : Generators) (W : List ℕ) (K : Suits G W) where
   unfolding by1 branchCost
   by-second after f g s h =
       let z : 2 * s % 64 + 1 ≡ (2 * s + 1) % 64 = omega arith in
-      rw (words-at s h, word-first G (2 * s + 0), word-second G (2 * s + 0), pick-other f (firstOf G (2 * s + 0)), pick-other g (secondOf G (2 * s + 0)), z,
-        ← parity-flip (G .memory) (G .g1) s (K .proper .leads), ← parity-flip (G .memory) (G .g2) s (K .second-leads))
+      rw (
+        words-at s h,
+        word-first G (2 * s + 0),
+        word-second G (2 * s + 0),
+        pick-other f (firstOf G (2 * s + 0)),
+        pick-other g (secondOf G (2 * s + 0)),
+        z,
+        ← parity-flip (G .memory) (G .g1) s (K .proper .leads),
+        ← parity-flip (G .memory) (G .g2) s (K .second-leads),
+      )
 
   -- the tie: whether the bit by the digit 1 is the one that a first cell at level l shows
   pub tie-is : (l s : ℕ) → s < 64 → pick (getD (wordsOf G) s 0 % 2) (l % 2) (1 - l % 2) ≡ one-if (Bool·beq (odd l) (firstOf G (2 * s + 1)))

@@ -1,7 +1,7 @@
 -- Room in the state beyond what the generators reach changes no write: so both codes may run through one trellis.
 use mathlib.Core.Path.{_≡_, refl, ap}
 use mathlib.Core.List.{List}
-use mathlib.Core.Option.{Option, none, some}
+use mathlib.Core.Option.{Option, some}
 use Prim.Native.Nat.{ℕ, suc}
 use lib.ListN.{length}
 use Rattle.codes.specs.Sequences.{Bits}

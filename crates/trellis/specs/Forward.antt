@@ -9,7 +9,6 @@ use Prim.Native.Nat.{ℕ, zero, suc, _+_, _*_, _/_, _%_, _^_}
 use mathlib.Core.Bool.{cond}
 use mathlib.Core.List.{List}
 use lib.Dec.{eqb}
-use Rattle.cells.specs.Bytes.{bitOf}
 use Rattle.cells.specs.Levels.{level}
 use Rattle.cells.specs.Raising.{raisedCell, canRise}
 use Rattle.codes.specs.Generators.{Generators}

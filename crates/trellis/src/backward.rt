@@ -1,8 +1,8 @@
 // From the last stage to the first: what the data of a strip costs, and the digits that the states take. The caller makes the words of the code once, for
 // every strip.
-use codes::Code;
 use crate::Outcome;
 use crate::stage::stage;
+use codes::Code;
 ghost use mathlib.Core.Path.{_≡_};
 ghost use Prim.Native.Nat.{ℕ, _*_, _<_, _≤_};
 ghost use lib.ListN.{length, getD};

@@ -1,7 +1,7 @@
 // From the first stage to the last: the digits that are taken from state 0, and raising the cells that they want raised.
-use codes::Code;
 use crate::Outcome;
 use crate::backward::decide;
+use codes::Code;
 ghost use mathlib.Core.Path.{_≡_};
 ghost use Prim.Native.Nat.{ℕ, _+_, _*_, _<_, _≤_};
 ghost use lib.ListN.{length, getD};

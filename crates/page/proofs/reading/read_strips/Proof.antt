@@ -72,7 +72,7 @@ loop-again c =
     let m = lent-length (a .bytes) (l .k) (l .«data») (fit t) in
     let n = r .kept .1 .1 .0 ∙ m in
     let y : r .last .1 .1 .0 ≡ readStrip (generatorsOf (a .code)) (a .bytes) (strip (a .bytes) (l .k) (a .page .now)) =
-        r .ensures ∙ ap₂ (readStrip (generatorsOf (a .code))) m (c .before .before .before .before .strip .ensures ∙ strip-there (a .bytes) (a .strips) (l .k) (a .page .now) (s .pre .bytes-in) (s .pre .page-is) (t .loop-test .taken)) in (
+    r .ensures ∙ ap₂ (readStrip (generatorsOf (a .code))) m (c .before .before .before .before .strip .ensures ∙ strip-there (a .bytes) (a .strips) (l .k) (a .page .now) (s .pre .bytes-in) (s .pre .page-is) (t .loop-test .taken)) in (
       stored-length (a .bytes) (l .k) (l .«data») (r .last .1 .1 .0) (fit t) n ∙ l .inv .0,
       omega arith,
       part-more (a .bytes) (l .k) (l .«data») (r .last .1 .1 .0) (λ j. readStrip (generatorsOf (a .code)) (a .bytes) (strip (a .bytes) j (a .page .now))) (fit t) n y (l .inv .2),

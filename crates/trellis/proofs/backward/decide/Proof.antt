@@ -90,7 +90,7 @@ loop-again c =
     let e : l .t ≡ suc (l .t - 1) = omega (arith, c .before .before .before .before .loop-test .taken) in
     let digits = held-digits (generatorsOf (a .code)) (d .steps-of .result) (a .strip .now) (a .«data» .now) _ (l .inv .0) e (s .pre .0 .words-are) (c .stage-before .ensures .0) in (
       held-more (generatorsOf (a .code)) (d .steps-of .result) (a .strip .now) (a .«data» .now) _ (l .inv .0) e (s .pre .0 .words-are)
-      (proper (a .code)) (d .before .first-taps .ensures .0) (c .before .before .before .bit .ensures) (c .before .before .back .ensures) (c .stage-before .ensures .1),
+          (proper (a .code)) (d .before .first-taps .ensures .0) (c .before .before .before .bit .ensures) (c .before .before .back .ensures) (c .stage-before .ensures .1),
       simp length-set (l .inv .1),
       λ W q. store-back (l .decisions) _ (l .t - 1) (c .stage-before .result) _ (omega (arith, l .inv .0 .within, s .pre .0 .most)) (digits W q) (λ k h. l .inv .2 W q k (omega arith)),
     )

@@ -39,14 +39,16 @@ cast-stage c = search needs
 
 stage-requires : tie.Need-stage-requires
 stage-requires c κs =
-    let p = c .before .before .before .before .before .before .before .before .pre in
-    ((p .states, search needs), record {
-      costs = p .costs-le;
-      a0-le = search needs;
-      a1-le = search needs;
-      b0-le = search needs;
-      b1-le = search needs;
-    })
+    let p = c .before .before .before .before .before .before .before .before .pre in (
+      (p .states, search needs),
+      record {
+        costs = p .costs-le;
+        a0-le = search needs;
+        a1-le = search needs;
+        b0-le = search needs;
+        b1-le = search needs;
+      },
+    )
 
 returns : tie.Need-returns
 returns c =

@@ -114,9 +114,9 @@ loop-again c =
       state-next u (l .t) _ _ (l .inv .2) d,
       r,
       carried-stage G (a .strip .now) (a .«data» .now) u (l .t) _ _ _ _ _ (omega arith) (omega arith) (omega arith)
-      (first-wanted G u (l .t) _ _ _ _ first (l .inv .2) d (p .before .parity .ensures .0))
-      (second-wanted G (a .«data» .now) u (l .t) _ _ _ _ _ (s .second-taps .ensures .0) (l .inv .2) d (p .parity2 .ensures .0) r)
-      (l .inv .4) (c .before .before .before .before .before .before .raise-if .ensures) (c .before .before .raise-if2 .ensures),
+          (first-wanted G u (l .t) _ _ _ _ first (l .inv .2) d (p .before .parity .ensures .0))
+          (second-wanted G (a .«data» .now) u (l .t) _ _ _ _ _ (s .second-taps .ensures .0) (l .inv .2) d (p .parity2 .ensures .0) r)
+          (l .inv .4) (c .before .before .before .before .before .before .raise-if .ensures) (c .before .before .raise-if2 .ensures),
     )
 
 same-length : tie.Need-same-length Inv-loop μ-loop

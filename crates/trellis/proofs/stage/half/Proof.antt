@@ -98,7 +98,7 @@ add-digits c =
     let y = c .before .before .before .branch-cost2 in
     let g = c .before .before .pick in
     let more = half-more (a .after .now) (a .words .now) (a .at) (a .a0) (a .a1) (a .b0) (a .b1) (a .low) (l .i)
-        (s .pre .whole) (s .pre .place) t (l .inv .2) (x .ensures .0) (y .ensures .0) (g .ensures .0) (c .before .mark .ensures) in
+    (s .pre .whole) (s .pre .place) t (l .inv .2) (x .ensures .0) (y .ensures .0) (g .ensures .0) (c .before .mark .ensures) in
     let bit = digit-le 64 (a .after .now) (a .words .now) (a .a0) (a .a1) (a .b0) (a .b1) (a .low) in
     rw more (record { fits = number-fits (l .i + 1) 32 _ (λ k. omega (arith, bit (a .at + k))) (omega arith) })
 
@@ -118,7 +118,7 @@ loop-again c =
     let y = c .before .before .before .branch-cost2 in
     let g = c .before .before .pick in
     let more = half-more (a .after .now) (a .words .now) (a .at) (a .a0) (a .a1) (a .b0) (a .b1) (a .low) (l .i)
-        (s .pre .whole) (s .pre .place) t (l .inv .2) (x .ensures .0) (y .ensures .0) (g .ensures .0) (c .before .mark .ensures) in
+    (s .pre .whole) (s .pre .place) t (l .inv .2) (x .ensures .0) (y .ensures .0) (g .ensures .0) (c .before .mark .ensures) in
     let e = half-after (a .at) (l .i) (s .pre .whole) (s .pre .place) t in
     let cost = lesser-is 64 (a .after .now) (a .words .now) (a .a0) (a .a1) (a .b0) (a .b1) (a .at + l .i) (2 * l .i) e (x .ensures .0) (y .ensures .0) in (
       search needs,

@@ -1,0 +1,264 @@
+-- One turn of the loops over a page's strips: what is lent, the strip's outcome, and what the total, the digits and the page are after it. Then what the
+-- whole write and its calls make of that.
+use mathlib.Core.Path.{_≡_, refl, sym, _∙_, ap}
+use mathlib.Core.Bool.{true}
+use mathlib.Core.List.{List, _++_}
+use mathlib.Core.Option.{Option, none, some}
+use Prim.Native.Nat.{ℕ, suc, _+_, _*_, _-_, _<_, _≤_}
+use native.Mathlib.Omega.{arith}
+use native.Mathlib.Nat.{not-suc-le-zero, add-sub-cancel-left, sub-zero, mul-le-mul}
+use lib.ListN.{length, getD, take, drop, length-append}
+use lib.Seq.{drop-drop, take-at, drop-at, length-take-le}
+use Rattle.cells.specs.Bytes.{bitOf, bytesOf, Octets}
+use Rattle.cells.specs.Climbs.{house}
+use Rattle.cells.specs.Raising.{raisedTo}
+use Rattle.cells.proofs.Bytes.{length-bytesOf}
+use Rattle.cells.proofs.Raising.{raisedTo-length}
+use Rattle.codes.specs.Generators.{Generators}
+use Rattle.codes.specs.Codes.{generatorsOf}
+use Rattle.codes.specs.declared.Code.{Code}
+use Rattle.codes.proofs.Encoders.{proper, second-leads}
+use Rattle.codes.proofs.Parities.{memory-bounds}
+use Rattle.trellis.specs.Best as Search
+use Rattle.trellis.specs.Strip.{Dear, stepsOf}
+use Rattle.trellis.specs.Backward.{wordsOf, costsOver, decisionAt, Shaped}
+use Rattle.trellis.specs.Forward.{followed, carriedTo}
+use Rattle.trellis.specs.Outcomes.{outcomeOf}
+use Rattle.trellis.specs.Wide.{outcomeFor}
+use Rattle.trellis.specs.declared.Outcome.{Outcome}
+use Rattle.trellis.proofs.Prices.{Suits}
+use Rattle.trellis.proofs.Program.{outcome-is}
+use Rattle.page.specs.Shape.{strip, part, stripOf, Sized}
+use Rattle.page.specs.Computed.{stripWrite, pageWrite, spentStrip}
+use Rattle.page.specs.Totals.{noTotal, added, totalFrom, answerFor}
+use Rattle.page.specs.Refusals.{ground, numbered}
+use Rattle.page.specs.Answers.{completionOf, answered, turned, answerOf, pageOf}
+use Rattle.page.specs.Promise.{Wrote}
+use Rattle.page.specs.Plans.{Planned, Carried}
+use Rattle.page.specs.declared.Refusal.{Refusal}
+use Rattle.page.specs.declared.Total.{Total}
+use Rattle.page.specs.declared.Answer.{Answer}
+use Rattle.page.specs.declared.Answer.the-variants as A
+use Rattle.page.specs.declared.Completion.{Completion}
+use Rattle.page.specs.declared.Completion.the-variants as C
+use Rattle.page.proofs.Parts.{within, strip-length}
+use Rattle.page.proofs.Fitting.{one-to-64, strip-there, part-more, lent-length, stored-length}
+use Rattle.page.proofs.Summing.{page-answers, total-spent, total-same}
+use Rattle.page.proofs.Carried.{strip-below, carried-page}
+use Rattle.page.proofs.Judging.{in-order, done-none, refused-some}
+use Rattle.page.proofs.Kept.{house-kept}
+
+-- every code suits weights of three bytes
+pub suits : (c : Code) (W : List ℕ) → length W ≡ 3 → ((i : ℕ) → getD W i 0 ≤ 255) → Suits (generatorsOf c) W
+suits c W three bytes = record { proper = proper c; reach = memory-bounds (c .name) .1; second-leads = second-leads c; three = three; bytes = bytes }
+
+-- the part that a turn lends
+lent : (L k : ℕ) (x : List ℕ) → take (L * k + L - L * k) (drop (L * k) x) ≡ part L k x
+unfolding part
+lent L k x = ap (λ (n : ℕ). take n (drop (L * k) x)) (add-sub-cancel-left (L * k) L)
+
+-- in a turn the strip ends within the page
+pub strip-fits : {L S : ℕ} {page content : List ℕ} → Sized L S page content → {k : ℕ} → k < S → 6 * L * k + 6 * L ≤ length page
+strip-fits {L} {S} Z {k} h = omega (arith, Z .page-is, within (6 * L) k S h)
+
+-- and its part within the data
+pub part-fits : {L S : ℕ} {page content : List ℕ} → Sized L S page content → {k : ℕ} → k < S → L * k + L ≤ length content
+part-fits {L} {S} Z {k} h = omega (arith, Z .data-is, within L k S h)
+
+-- THE PLANS of the strips before k
+pub record PlannedTo (G : Generators) (W : List ℕ) (L S : ℕ) (page content digits : List ℕ) (k : ℕ) : Type 0 where
+  pub size : length digits ≡ L * S
+  pub so-far : (j : ℕ) → j < k → part L j digits ≡ bytesOf L (followed (decisionAt G W (strip L j page) (part L j content) (8 * L)))
+
+-- at first
+pub planned-none : {G : Generators} {W : List ℕ} {L S : ℕ} {page content digits : List ℕ} → length digits ≡ L * S → PlannedTo G W L S page content digits 0
+planned-none e = record { size = e; so-far = λ j h. absurd (not-suc-le-zero h) }
+
+-- TURN k, with the strip x that `strip` gave
+module _ {L S : ℕ} {page content : List ℕ} (Z : Sized L S page content) {k : ℕ} (h : k < S) {x : List ℕ} (is : x ≡ stripOf L k page) where
+  -- it is strip k
+  strip-is : x ≡ strip L k page
+  strip-is = is ∙ strip-there L S k page (Z .bytes-in) (Z .page-is) h
+
+  -- its part of the data has L bytes
+  data-length : length (take (L * k + L - L * k) (drop (L * k) content)) ≡ L
+  data-length = lent-length L k content (part-fits Z h)
+
+  -- the strip and the part are in order
+  pub turn-shaped : {G : Generators} {words : List ℕ} → words ≡ wordsOf G → Shaped G words x (take (L * k + L - L * k) (drop (L * k) content))
+  turn-shaped w = record { words-are = w; size = ap length strip-is ∙ strip-length L S k page (Z .page-is) h ∙ ap (λ (n : ℕ). 6 * n) (sym data-length); most = omega (arith, data-length, one-to-64 L (Z .bytes-in)) }
+
+  -- its outcome is that of the strip's write
+  pub turn-outcome : {G : Generators} {W : List ℕ} → Suits G W → {o : Outcome} → let d = take (L * k + L - L * k) (drop (L * k) content) in
+      o ≡ outcomeOf (getD (costsOver G W x d (8 * length d) (8 * length d)) 0 0) → o ≡ outcomeFor (stripWrite G W L S page content k)
+  unfolding stripWrite
+  turn-outcome {G} {W} K e = (rw (data-length, lent L k content, strip-is) at e) ∙ outcome-is G W K L (one-to-64 L (Z .bytes-in) .1) (strip L k page) (part L k content)
+
+  -- with its digits the strips before it and it are planned
+  pub planned-more : {G : Generators} {W digits ys : List ℕ} → PlannedTo G W L S page content digits k → let d = take (L * k + L - L * k) (drop (L * k) content) in
+      ys ≡ bytesOf (length d) (followed (decisionAt G W x d (8 * length d))) → PlannedTo G W L S page content (take (L * k) digits ++ (ys ++ drop (L * k + L - L * k) (drop (L * k) digits))) (k + 1)
+  planned-more {G} {W} {digits} {ys} p e =
+      let own = rw (data-length, lent L k content, strip-is) at e in
+      let own-length : length ys ≡ L = ap length own ∙ length-bytesOf L _ in
+      let fits : L * k + L ≤ length digits = omega (arith, p .size, within L k S h) in
+      record {
+        size = stored-length L k digits ys fits own-length ∙ p .size;
+        so-far = part-more L k digits ys (λ j. bytesOf L (followed (decisionAt G W (strip L j page) (part L j content) (8 * L)))) fits own-length own (p .so-far);
+      }
+
+-- THE TOTAL after k strips: with the outcomes of the others it comes to the page's answer
+pub record Reached (G : Generators) (W : List ℕ) (L S : ℕ) (page content : List ℕ) (total : Total) (k : ℕ) : Type 0 where
+  pub comes-to : answerFor (totalFrom total (λ i. outcomeFor (stripWrite G W L S page content (k + i))) (S - k)) ≡ answered none (pageWrite G W L S page content) (spentStrip G W L S page content)
+
+module _ {G : Generators} {W : List ℕ} {L S : ℕ} {page content : List ℕ} where
+  -- at first
+  pub reached-none : Suits G W → Sized L S page content → {t : Total} → t ≡ noTotal → Reached G W L S page content t 0
+  reached-none K Z e = record {
+    comes-to = rw (e, sub-zero S) (ap answerFor (total-same noTotal _ (λ i. outcomeFor (stripWrite G W L S page content i)) S (λ i h. ap (λ (j : ℕ). outcomeFor (stripWrite G W L S page content j)) (omega arith)))
+        ∙ page-answers G W L S page content (one-to-64 S (Z .strips-in) .1) (λ k h a. strip-below G W K L S (one-to-64 L (Z .bytes-in) .1) page content k a));
+  }
+
+  -- with one more strip
+  pub reached-more : {t u : Total} {k : ℕ} {o : Outcome} → Reached G W L S page content t k → k < S → o ≡ outcomeFor (stripWrite G W L S page content k) → u ≡ added t o → Reached G W L S page content u (k + 1)
+  unfolding totalFrom
+  reached-more {t} {u} {k} {o} r h e f =
+      let s : S - k ≡ suc (S - (k + 1)) = omega arith in
+      let e₀ : o ≡ outcomeFor (stripWrite G W L S page content (k + 0)) = e ∙ ap (λ (j : ℕ). outcomeFor (stripWrite G W L S page content j)) (omega arith) in
+      record {
+        comes-to = ap answerFor (total-same u _ (λ i. outcomeFor (stripWrite G W L S page content (k + suc i))) (S - (k + 1)) (λ i l. ap (λ (j : ℕ). outcomeFor (stripWrite G W L S page content j)) (omega arith)))
+            ∙ rw (f, e₀) (rw s at (r .comes-to));
+      }
+
+  -- a total that is spent answers
+  pub reached-spent : {t : Total} {k : ℕ} {r : Answer} → Reached G W L S page content t k → t .spent ≡ true → r ≡ answerFor t → r ≡ answered none (pageWrite G W L S page content) (spentStrip G W L S page content)
+  reached-spent {t} {k} g e f = f ∙ sym (ap answerFor (total-spent t _ (S - k) e)) ∙ g .comes-to
+
+  -- and the page has no write
+  pub spent-none : {t : Total} {k : ℕ} → Reached G W L S page content t k → t .spent ≡ true → (a : Search.Answer) → pageWrite G W L S page content ≡ some a → ⊥
+  spent-none {t} g e a f =
+      let s : A.Spent (t .strips) ≡ answered none (some a) (spentStrip G W L S page content) = rw (e, f) at (reached-spent g e refl) in
+      let z : _≡_ {A = ℕ} 0 1 = cc in omega arith
+
+  -- after all strips it answers
+  pub reached-all : {t : Total} {k : ℕ} {r : Answer} → Reached G W L S page content t k → S ≤ k → r ≡ answerFor t → r ≡ answered none (pageWrite G W L S page content) (spentStrip G W L S page content)
+  unfolding totalFrom
+  reached-all {k = k} g h f = let z : S - k ≡ 0 = omega arith in f ∙ (rw z at (g .comes-to))
+
+-- THE PAGE with the digits of the strips before k carried out
+pub record CarriedUpTo (G : Generators) (L S : ℕ) (before content digits page : List ℕ) (k : ℕ) : Type 0 where
+  pub size : length page ≡ length before
+  pub so-far : (j : ℕ) → j < k → strip L j page ≡ raisedTo (strip L j before) (carriedTo G (strip L j before) (part L j content) (bitOf (part L j digits)))
+  pub rest : drop (6 * L * k) page ≡ drop (6 * L * k) before
+
+-- what is left of a list after part k is stored is what was left of the list before
+rest-more : (w k : ℕ) (x y before : List ℕ) → w * k + w ≤ length x → length y ≡ w → drop (w * k) x ≡ drop (w * k) before
+    → drop (w * (k + 1)) (take (w * k) x ++ (y ++ drop (w * k + w - w * k) (drop (w * k) x))) ≡ drop (w * (k + 1)) before
+rest-more w k x y before h l e =
+    let n : w * (k + 1) ≡ w * k + w = omega arith in
+    let m : w * k + w - w * k ≡ w = omega arith in
+    rw (n, m, ← drop-drop w (w * k) (take (w * k) x ++ (y ++ drop w (drop (w * k) x))), drop-at (take (w * k) x) (y ++ drop w (drop (w * k) x)) (w * k) (length-take-le (w * k) x (omega arith)), drop-at y (drop w (drop (w * k) x)) w l, e)
+    (drop-drop w (w * k) before)
+
+-- at first
+pub carried-none : {G : Generators} {L S : ℕ} {before content digits : List ℕ} → CarriedUpTo G L S before content digits before 0
+carried-none = record { size = refl; so-far = λ j h. absurd (not-suc-le-zero h); rest = refl }
+
+-- with one more strip
+pub carried-more : {G : Generators} {L S : ℕ} {before content digits page ys : List ℕ} {k : ℕ} → CarriedUpTo G L S before content digits page k → length before ≡ 6 * L * S → k < S
+    → ys ≡ raisedTo (take (6 * L * k + 6 * L - 6 * L * k) (drop (6 * L * k) page)) (carriedTo G (take (6 * L * k + 6 * L - 6 * L * k) (drop (6 * L * k) page)) (take (L * k + L - L * k) (drop (L * k) content)) (bitOf (take (L * k + L - L * k) (drop (L * k) digits))))
+    → CarriedUpTo G L S before content digits (take (6 * L * k) page ++ (ys ++ drop (6 * L * k + 6 * L - 6 * L * k) (drop (6 * L * k) page))) (k + 1)
+unfolding strip part
+carried-more {G} {L} {S} {before} {content} {digits} {page} {ys} {k} p z h e =
+    let own = rw (lent (6 * L) k page, lent L k content, lent L k digits, p .rest) at e in
+    let own-length : length ys ≡ 6 * L = ap length own ∙ raisedTo-length _ _ ∙ strip-length L S k before z h in
+    let fits : 6 * L * k + 6 * L ≤ length page = omega (arith, p .size, within (6 * L) k S h) in
+    record {
+      size = stored-length (6 * L) k page ys fits own-length ∙ p .size;
+      so-far = part-more (6 * L) k page ys (λ j. raisedTo (strip L j before) (carriedTo G (strip L j before) (part L j content) (bitOf (part L j digits)))) fits own-length own (p .so-far);
+      rest = rest-more (6 * L) k page ys before fits own-length (p .rest);
+    }
+
+-- THE DIGITS of all strips are at most 4,096 bytes
+pub whole-most : {L S : ℕ} {page content : List ℕ} → Sized L S page content → L * S ≤ 4096
+whole-most {L} {S} Z = mul-le-mul {n₁ = L} {m₁ = S} {n₂ = 64} {m₂ = 64} (one-to-64 L (Z .bytes-in) .1) (one-to-64 S (Z .strips-in) .1)
+
+-- the first n places of a list
+pub front-length : (n : ℕ) (x : List ℕ) → n ≤ length x → length (take (n - 0) x) ≡ n
+front-length n x h = rw (sub-zero n) (length-take-le n x h)
+
+-- lie within it where they were stored there
+pub front-fits : (n : ℕ) (y rest : List ℕ) → length y ≡ n → n ≤ length (y ++ rest)
+front-fits n y rest e = omega (arith, length-append y rest)
+
+-- and hold what was
+pub front-back : (n : ℕ) (y rest : List ℕ) → length y ≡ n → take (n - 0) (y ++ rest) ≡ y
+front-back n y rest e = rw (sub-zero n) (take-at y rest n e)
+
+-- THE PAGE that a write leaves, by the plans' answer
+module _ {G : Generators} {W : List ℕ} (K : Suits G W) (D : Dear (stepsOf W)) {L S : ℕ} {before content : List ℕ} (Z : Sized L S before content)
+    {r : Answer} (e : r ≡ answered none (pageWrite G W L S before content) (spentStrip G W L S before content)) where
+  -- where it is done, each strip is carried out as it was planned
+  pub done-page : {digits after : List ℕ} {cost : ℕ} → r ≡ A.Done cost → Planned G W L S before content digits → Carried G L S before content digits after → after ≡ turned none (pageWrite G W L S before content) before
+  done-page {digits} {after} {cost} f p c = go (pageWrite G W L S before content) refl
+    where
+      go : (w : Option Search.Answer) → pageWrite G W L S before content ≡ w → after ≡ turned none w before
+      go (some a) q = carried-page G W K D L S (one-to-64 L (Z .bytes-in) .1) before content (Z .page-is) digits after a q p c
+      go none q = absurd (let z : _≡_ {A = ℕ} 0 1 = cc in omega arith)
+
+  -- where it is spent, nothing is changed
+  pub spent-page : {n : ℕ} → r ≡ A.Spent n → before ≡ turned none (pageWrite G W L S before content) before
+  spent-page {n} f = go (pageWrite G W L S before content) e
+    where
+      go : (w : Option Search.Answer) → r ≡ answered none w (spentStrip G W L S before content) → before ≡ turned none w before
+      go none h = refl
+      go (some a) h = absurd (let z : _≡_ {A = ℕ} 0 1 = cc in omega arith)
+
+  -- and it is not refused
+  pub not-refused : {q : Refusal} → r ≡ A.Refused q → ⊥
+  not-refused {q} f = go (pageWrite G W L S before content) e
+    where
+      go : (w : Option Search.Answer) → r ≡ answered none w (spentStrip G W L S before content) → ⊥
+      go none h = let z : _≡_ {A = ℕ} 0 1 = cc in omega arith
+      go (some a) h = let z : _≡_ {A = ℕ} 0 1 = cc in omega arith
+
+-- THE CALLS. What `judge` answered
+pub record Judged (code L S : ℕ) (before content : List ℕ) (j : Completion) : Type 0 where
+  pub by : j ≡ completionOf (ground code L S (length before) (length content))
+
+module _ {code L S : ℕ} {before content : List ℕ} {j : Completion} (J : Judged code L S before content j) where
+  -- where it is done there is no ground
+  no-ground : j ≡ C.Done → ground code L S (length before) (length content) ≡ none
+  no-ground e = done-none _ (sym (J .by) ∙ e)
+
+  -- so the call is in order
+  pub sized-by : j ≡ C.Done → Sized L S before content
+  sized-by e = let i = in-order code L S (length before) (length content) (no-ground e) in record { bytes-in = i .0; strips-in = i .1; page-is = i .2; data-is = i .3 }
+
+  -- answers as its strips do
+  pub in-order-answer : j ≡ C.Done → {G : Generators} {W : List ℕ} {r : Answer} → G ≡ numbered code → W ≡ house
+      → r ≡ answered none (pageWrite G W L S before content) (spentStrip G W L S before content) → r ≡ answerOf house code L S before content
+  unfolding answerOf
+  in-order-answer e g w f = rw (no-ground e, ← g, ← w) f
+
+  -- and leaves the page that they do
+  pub in-order-page : j ≡ C.Done → {G : Generators} {W after : List ℕ} → G ≡ numbered code → W ≡ house → after ≡ turned none (pageWrite G W L S before content) before → after ≡ pageOf house code L S before content
+  unfolding pageOf
+  in-order-page e g w f = rw (no-ground e, ← g, ← w) f
+
+  -- where it is refused, that is the ground
+  the-ground : {q : Refusal} → j ≡ C.Refused q → ground code L S (length before) (length content) ≡ some q
+  the-ground e = refused-some _ (sym (J .by) ∙ e)
+
+  -- and the answer
+  pub refused-answer : {q : Refusal} → j ≡ C.Refused q → A.Refused q ≡ answerOf house code L S before content
+  unfolding answerOf
+  refused-answer e = rw (the-ground e)
+
+  -- and nothing is changed
+  pub refused-page : {q : Refusal} → j ≡ C.Refused q → before ≡ pageOf house code L S before content
+  unfolding pageOf
+  refused-page e = rw (the-ground e)
+
+-- such an answer and such a page keep the promise
+pub kept-by : {code L S : ℕ} {before content after : List ℕ} {r : Answer} → Octets content → after ≡ pageOf house code L S before content → r ≡ answerOf house code L S before content → Wrote house code L S before content after r
+kept-by {code} {L} {S} {before} {content} b p e = rw (p, e) (house-kept code L S before content b)

@@ -1,0 +1,164 @@
+-- The invariant: with the outcomes of the strips from k on, the total comes to the page's answer, and the parts of the digits before k are the strips' plans.
+use mathlib.Core.Path.{sym, _∙_}
+use Prim.Native.Nat.{_+_, _*_, _-_, _≤_}
+use native.Mathlib.Omega.{arith}
+use lib.ListN.{length}
+use mir.Syntax.{w8}
+use borrow.Author.Needs.{needs, elem-fits}
+use Rattle.codes.specs.Codes.{generatorsOf}
+use Rattle.trellis.proofs.Prices.{Suits}
+use Rattle.page.proofs.Fitting.{lent-length}
+use Rattle.page.proofs.Rounds.{suits, part-fits, turn-shaped, turn-outcome, PlannedTo, planned-none, planned-more, Reached, reached-none, reached-more, reached-spent, spent-none, reached-all}
+use Rattle.page.proofs.writing.plan_strips.Statement.{statement}
+use Rattle.page.proofs.writing.plan_strips.Tie as tie
+
+abbrev Inv-loop : tie.InvT-loop
+Inv-loop code weights bytes strips page «data» digits₀ words total₀ k₀ digits total k =
+    (Reached (generatorsOf code) weights bytes strips page «data» total k) × (PlannedTo (generatorsOf code) weights bytes strips page «data» digits k)
+
+abbrev μ-loop : tie.MeasureT-loop
+μ-loop code weights bytes strips page «data» digits₀ words total₀ k₀ digits total k = strips - k
+
+-- the code suits the weights
+suited : (c : tie.Start Inv-loop μ-loop) → Suits (generatorsOf (c .args .code)) (c .args .weights)
+suited c = suits (c .args .code) (c .args .weights) (c .good .1 .0 .1 .0 .1) (λ i. let h = elem-fits w8 w8 (c .args .weights) _ i (c .good .1 .0 .1 .1) tt .fits in omega arith)
+
+-- in a turn the part ends within the data
+fit : (c : tie.In-loop Inv-loop μ-loop) → let a = c .before .before .before .before .before .before .before .args in a .bytes * c .before .loop .k + a .bytes ≤ length (a .«data» .now)
+fit c = part-fits (c .before .before .before .before .before .before .before .pre .0) (c .loop-test .taken)
+
+-- and within the digits
+fit-digits : (c : tie.In-loop Inv-loop μ-loop) → let a = c .before .before .before .before .before .before .before .args in a .bytes * c .before .loop .k + a .bytes ≤ length (c .before .loop .digits)
+fit-digits c = omega (arith, fit c, c .before .loop .inv .1 .size, c .before .before .before .before .before .before .before .pre .0 .data-is)
+
+-- after a turn the total has one more strip
+turned : (c : tie.After-add Inv-loop μ-loop) → let l = c .before .before .before .before .before .before .before .before .before in
+    let a = l .before .before .before .before .before .before .args in
+    Reached (generatorsOf (a .code)) (a .weights) (a .bytes) (a .strips) (a .page .now) (a .«data» .now) (c .add .result) (l .loop .k + 1)
+turned c =
+    let t = c .before .before .before .before .before .before .before .before in
+    let s = t .before .before .before .before .before .before .before in
+    let is = c .before .before .before .before .before .before .strip .ensures in
+    reached-more (t .before .loop .inv .0) (t .loop-test .taken) (turn-outcome (s .pre .0) (t .loop-test .taken) is (suited s) (c .before .before .before .plan-strip .ensures .0)) (c .add .ensures)
+
+words-of-requires : tie.Need-words-of-requires Inv-loop μ-loop
+words-of-requires c κs = search needs
+
+new-requires : tie.Need-new-requires Inv-loop μ-loop
+new-requires c κs = search needs
+
+loop-holds : tie.Need-loop-holds Inv-loop μ-loop
+loop-holds c =
+    let s = c .before .before .before .before .before in
+    (reached-none (suited s) (s .pre .0) (c .new .ensures), planned-none (s .pre .1))
+
+mul-a : tie.Need-mul-a Inv-loop μ-loop
+mul-a c = omega (arith, fit c)
+
+strip-requires : tie.Need-strip-requires Inv-loop μ-loop
+strip-requires c κs = search needs
+
+add-plan-strip : tie.Need-add-plan-strip Inv-loop μ-loop
+add-plan-strip c = omega (arith, fit (c .before .before))
+
+sub-plan-strip : tie.Need-sub-plan-strip Inv-loop μ-loop
+sub-plan-strip c = search needs
+
+part-plan-strip-start : tie.Need-part-plan-strip-start Inv-loop μ-loop
+part-plan-strip-start c = search needs
+
+part-plan-strip-end : tie.Need-part-plan-strip-end Inv-loop μ-loop
+part-plan-strip-end c = fit (c .before .before)
+
+add-plan-strip-2 : tie.Need-add-plan-strip-2 Inv-loop μ-loop
+add-plan-strip-2 c = omega (arith, fit (c .before .before .before))
+
+sub-plan-strip-2 : tie.Need-sub-plan-strip-2 Inv-loop μ-loop
+sub-plan-strip-2 c = search needs
+
+part-plan-strip-start-2 : tie.Need-part-plan-strip-start-2 Inv-loop μ-loop
+part-plan-strip-start-2 c = search needs
+
+part-plan-strip-end-2 : tie.Need-part-plan-strip-end-2 Inv-loop μ-loop
+part-plan-strip-end-2 c = fit-digits (c .before .before .before)
+
+plan-strip-requires : tie.Need-plan-strip-requires Inv-loop μ-loop
+plan-strip-requires c κs =
+    let t = c .before .before .before .before in
+    let n = t .before .before .before in
+    let s = n .before .before .before .before in
+    let a = s .args in
+    let l = t .before .loop in (
+      turn-shaped (s .pre .0) (t .loop-test .taken) (c .before .before .strip .ensures) (n .words-of .ensures),
+      lent-length (a .bytes) (l .k) (l .digits) (fit-digits t) ∙ sym (lent-length (a .bytes) (l .k) (a .«data» .now) (fit t)),
+    )
+
+add-requires : tie.Need-add-requires Inv-loop μ-loop
+add-requires c κs = search needs
+
+answer-requires : tie.Need-answer-requires Inv-loop μ-loop
+answer-requires c κs = search needs
+
+same-length : tie.Need-same-length Inv-loop μ-loop
+same-length c = search needs
+
+returns : tie.Need-returns Inv-loop μ-loop
+returns c =
+    let r = turned (c .before .before) in
+    let e = c .before .if1 .taken in
+    (reached-spent r e (c .answer .ensures), record { planned = λ a f. absurd (spent-none r e a f) })
+
+add-k : tie.Need-add-k Inv-loop μ-loop
+add-k c = search needs
+
+loop-less : tie.Need-loop-less Inv-loop μ-loop
+loop-less c = search needs
+
+loop-again : tie.Need-loop-again Inv-loop μ-loop
+loop-again c =
+    let t = c .before .before .before .before .before .before .before .before .before in
+    let s = t .before .before .before .before .before .before .before in
+    let is = c .before .before .before .before .before .before .before .strip .ensures in
+    (turned (c .before), planned-more (s .pre .0) (t .loop-test .taken) is (t .before .loop .inv .1) (c .before .before .before .before .plan-strip .ensures .1))
+
+answer-requires-2 : tie.Need-answer-requires-2 Inv-loop μ-loop
+answer-requires-2 c κs = search needs
+
+same-length-2 : tie.Need-same-length-2 Inv-loop μ-loop
+same-length-2 c = search needs
+
+returns-2 : tie.Need-returns-2 Inv-loop μ-loop
+returns-2 c =
+    let l = c .before .before .loop in
+    (reached-all (l .inv .0) (c .before .loop-test .left) (c .answer2 .ensures), record { planned = λ a e j h. l .inv .1 .so-far j (omega (arith, c .before .loop-test .left)) })
+
+pub plan-strips-spec : {M : Type 1} → statement M
+plan-strips-spec =
+    tie.close
+    (tie.spec
+    Inv-loop
+    μ-loop
+    words-of-requires
+    new-requires
+    loop-holds
+    mul-a
+    strip-requires
+    add-plan-strip
+    sub-plan-strip
+    part-plan-strip-start
+    part-plan-strip-end
+    add-plan-strip-2
+    sub-plan-strip-2
+    part-plan-strip-start-2
+    part-plan-strip-end-2
+    plan-strip-requires
+    add-requires
+    answer-requires
+    same-length
+    returns
+    add-k
+    loop-less
+    loop-again
+    answer-requires-2
+    same-length-2
+    returns-2)

@@ -1,0 +1,117 @@
+-- The invariant: with the outcomes of the strips from k on, the total comes to the page's answer. A total that is spent stays, so it may answer at once.
+use Prim.Native.Nat.{_+_, _*_, _-_, _≤_}
+use native.Mathlib.Omega.{arith}
+use lib.ListN.{length}
+use mir.Syntax.{w8}
+use borrow.Author.Needs.{needs, elem-fits}
+use Rattle.codes.specs.Codes.{generatorsOf}
+use Rattle.trellis.proofs.Prices.{Suits}
+use Rattle.page.proofs.Rounds.{suits, part-fits, turn-shaped, turn-outcome, Reached, reached-none, reached-more, reached-spent, reached-all}
+use Rattle.page.proofs.writing.price_strips.Statement.{statement}
+use Rattle.page.proofs.writing.price_strips.Tie as tie
+
+abbrev Inv-loop : tie.InvT-loop
+Inv-loop code weights bytes strips page «data» words total₀ k₀ total k = Reached (generatorsOf code) weights bytes strips page «data» total k
+
+abbrev μ-loop : tie.MeasureT-loop
+μ-loop code weights bytes strips page «data» words total₀ k₀ total k = strips - k
+
+-- the code suits the weights
+suited : (c : tie.Start Inv-loop μ-loop) → Suits (generatorsOf (c .args .code)) (c .args .weights)
+suited c = suits (c .args .code) (c .args .weights) (c .good .1 .0 .1 .0 .1) (λ i. let h = elem-fits w8 w8 (c .args .weights) _ i (c .good .1 .0 .1 .1) tt .fits in omega arith)
+
+-- in a turn the part ends within the data
+fit : (c : tie.In-loop Inv-loop μ-loop) → let a = c .before .before .before .before .before .before .args in a .bytes * c .before .loop .k + a .bytes ≤ length (a .«data» .now)
+fit c = part-fits (c .before .before .before .before .before .before .pre) (c .loop-test .taken)
+
+-- after a turn the total has one more strip
+turned : (c : tie.After-add Inv-loop μ-loop) → let l = c .before .before .before .before .before .before in let a = l .before .before .before .before .before .args in
+    Reached (generatorsOf (a .code)) (a .weights) (a .bytes) (a .strips) (a .page .now) (a .«data» .now) (c .add .result) (l .loop .k + 1)
+turned c =
+    let t = c .before .before .before .before .before in
+    let s = t .before .before .before .before .before .before in
+    reached-more (t .before .loop .inv) (t .loop-test .taken) (turn-outcome (s .pre) (t .loop-test .taken) (c .before .before .before .strip .ensures) (suited s) (c .before .price-strip .ensures)) (c .add .ensures)
+
+words-of-requires : tie.Need-words-of-requires Inv-loop μ-loop
+words-of-requires c κs = search needs
+
+new-requires : tie.Need-new-requires Inv-loop μ-loop
+new-requires c κs = search needs
+
+loop-holds : tie.Need-loop-holds Inv-loop μ-loop
+loop-holds c =
+    let s = c .before .before .before .before in
+    reached-none (suited s) (s .pre) (c .new .ensures)
+
+mul-a : tie.Need-mul-a Inv-loop μ-loop
+mul-a c = omega (arith, fit c)
+
+strip-requires : tie.Need-strip-requires Inv-loop μ-loop
+strip-requires c κs = search needs
+
+add-price-strip : tie.Need-add-price-strip Inv-loop μ-loop
+add-price-strip c = omega (arith, fit (c .before .before))
+
+sub-price-strip : tie.Need-sub-price-strip Inv-loop μ-loop
+sub-price-strip c = search needs
+
+part-price-strip-start : tie.Need-part-price-strip-start Inv-loop μ-loop
+part-price-strip-start c = search needs
+
+part-price-strip-end : tie.Need-part-price-strip-end Inv-loop μ-loop
+part-price-strip-end c = fit (c .before .before)
+
+price-strip-requires : tie.Need-price-strip-requires Inv-loop μ-loop
+price-strip-requires c κs =
+    let t = c .before .before .before in
+    let n = t .before .before .before in
+    turn-shaped (n .before .before .before .pre) (t .loop-test .taken) (c .before .strip .ensures) (n .words-of .ensures)
+
+add-requires : tie.Need-add-requires Inv-loop μ-loop
+add-requires c κs = search needs
+
+answer-requires : tie.Need-answer-requires Inv-loop μ-loop
+answer-requires c κs = search needs
+
+returns : tie.Need-returns Inv-loop μ-loop
+returns c = reached-spent (turned (c .before .before)) (c .before .if1 .taken) (c .answer .ensures)
+
+add-k : tie.Need-add-k Inv-loop μ-loop
+add-k c = search needs
+
+loop-less : tie.Need-loop-less Inv-loop μ-loop
+loop-less c = search needs
+
+loop-again : tie.Need-loop-again Inv-loop μ-loop
+loop-again c = turned (c .before)
+
+answer-requires-2 : tie.Need-answer-requires-2 Inv-loop μ-loop
+answer-requires-2 c κs = search needs
+
+returns-2 : tie.Need-returns-2 Inv-loop μ-loop
+returns-2 c = reached-all (c .before .before .loop .inv) (c .before .loop-test .left) (c .answer2 .ensures)
+
+pub price-strips-spec : {M : Type 1} → statement M
+price-strips-spec =
+    tie.close
+    (tie.spec
+    Inv-loop
+    μ-loop
+    words-of-requires
+    new-requires
+    loop-holds
+    mul-a
+    strip-requires
+    add-price-strip
+    sub-price-strip
+    part-price-strip-start
+    part-price-strip-end
+    price-strip-requires
+    add-requires
+    answer-requires
+    returns
+    add-k
+    loop-less
+    loop-again
+    answer-requires-2
+    returns-2)
