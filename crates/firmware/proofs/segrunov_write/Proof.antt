@@ -1,0 +1,21 @@
+-- The answer is the call's, in one word.
+use borrow.Author.Needs.{needs}
+use Rattle.firmware.proofs.segrunov_write.Statement.{statement}
+use Rattle.firmware.proofs.segrunov_write.Tie as tie
+
+write-requires : tie.Need-write-requires
+write-requires c κs = search needs
+
+answer-word-requires : tie.Need-answer-word-requires
+answer-word-requires c κs = search needs
+
+same-length : tie.Need-same-length
+same-length c = search needs
+
+returns : tie.Need-returns
+returns c =
+    let w = c .before .before .before .write .ensures in
+    (rw (w .0) at (c .answer-word .ensures), (w .1 .0, rw (w .0) at (w .1 .1)))
+
+pub segrunov-write-spec : {M : Type 1} → statement M
+segrunov-write-spec = tie.close (tie.spec write-requires answer-word-requires same-length returns)
