@@ -57,7 +57,13 @@ fn completion_word(completion: Completion) -> u64
 
 // Fills a buffer of L·S bytes with what the page reads as.
 #[no_mangle]
-pub extern "C" fn segrunov_read(code: u32, bytes: u32, strips: u32, page: &[u8], data: &mut [u8]) -> u64
+pub extern "C" fn segrunov_read(
+    code: u32,
+    bytes: u32,
+    strips: u32,
+    page: &[u8],
+    data: &mut [u8],
+) -> u64
     ensures { λ r. ⌜ r ≡ completionWord (completionOf (ground code bytes strips (length (now (page .entry))) (length (now («data» .entry))))) ⌝ }
     ensures { λ _. ⌜ now («data» .exit) ≡ kept (ground code bytes strips (length (now (page .entry))) (length (now («data» .entry)))) (readPage (numbered code) bytes strips (now (page .entry))) (now («data» .entry)) ⌝ }
 {
@@ -66,7 +72,13 @@ pub extern "C" fn segrunov_read(code: u32, bytes: u32, strips: u32, page: &[u8],
 
 // What a write of the same data would answer; nothing is changed.
 #[no_mangle]
-pub extern "C" fn segrunov_price(code: u32, bytes: u32, strips: u32, page: &[u8], data: &[u8]) -> u64
+pub extern "C" fn segrunov_price(
+    code: u32,
+    bytes: u32,
+    strips: u32,
+    page: &[u8],
+    data: &[u8],
+) -> u64
     ensures { λ r. ⌜ r ≡ answerWord (answerOf house code bytes strips (now (page .entry)) (now («data» .entry))) ⌝ }
     ensures { λ _. ⌜ Wrote house code bytes strips (now (page .entry)) (now («data» .entry)) (pageOf house code bytes strips (now (page .entry)) (now («data» .entry))) (answerOf house code bytes strips (now (page .entry)) (now («data» .entry))) ⌝ }
 {
@@ -75,7 +87,13 @@ pub extern "C" fn segrunov_price(code: u32, bytes: u32, strips: u32, page: &[u8]
 
 // Writes the data at the least cost.
 #[no_mangle]
-pub extern "C" fn segrunov_write(code: u32, bytes: u32, strips: u32, page: &mut [u8], data: &[u8]) -> u64
+pub extern "C" fn segrunov_write(
+    code: u32,
+    bytes: u32,
+    strips: u32,
+    page: &mut [u8],
+    data: &[u8],
+) -> u64
     ensures { λ r. ⌜ r ≡ answerWord (answerOf house code bytes strips (now (page .entry)) (now («data» .entry))) ⌝ }
     ensures { λ _. ⌜ now (page .exit) ≡ pageOf house code bytes strips (now (page .entry)) (now («data» .entry)) ⌝ }
     ensures { λ _. ⌜ Wrote house code bytes strips (now (page .entry)) (now («data» .entry)) (now (page .exit)) (answerOf house code bytes strips (now (page .entry)) (now («data» .entry))) ⌝ }

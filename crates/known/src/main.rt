@@ -40,6 +40,88 @@ fn raise(mut strip: [u8; 6], cell: u32) -> [u8; 6] {
     strip
 }
 
+// A call's answer as C sees it: its number and its value.
+fn print_answer(name: &[u8], answer: u64) {
+    io::write_all(STDOUT_FILENO, name);
+    io::write_all(STDOUT_FILENO, b" ");
+    io::print_decimal(STDOUT_FILENO, answer / 4294967296);
+    io::write_all(STDOUT_FILENO, b" ");
+    io::print_decimal(STDOUT_FILENO, answer % 4294967296);
+    io::write_all(STDOUT_FILENO, b"\n");
+}
+
+// A read, a price and a write of one byte, and the page after them.
+fn call(name: &[u8], code: u32, bytes: u32, strips: u32, page: &mut [u8]) {
+    let mut data = [0x80u8; 1];
+    io::write_all(STDOUT_FILENO, name);
+    io::write_all(STDOUT_FILENO, b"\n");
+    print_answer(
+        b"  price",
+        firmware::segrunov_price(code, bytes, strips, page, &data),
+    );
+    print_answer(
+        b"  write",
+        firmware::segrunov_write(code, bytes, strips, page, &data),
+    );
+    print_answer(
+        b"  read",
+        firmware::segrunov_read(code, bytes, strips, page, &mut data),
+    );
+    io::write_all(STDOUT_FILENO, b"  page ");
+    print_bytes(page);
+    io::write_all(STDOUT_FILENO, b" data ");
+    print_bytes(&data);
+    io::write_all(STDOUT_FILENO, b"\n");
+}
+
+// An erase, and the page after it.
+fn erase(name: &[u8], tenths: i16) {
+    let mut page = [0x5au8; 6];
+    print_answer(name, firmware::segrunov_erase(1, 1, &mut page, tenths));
+    io::write_all(STDOUT_FILENO, b"  page ");
+    print_bytes(&page);
+    io::write_all(STDOUT_FILENO, b"\n");
+}
+
+// A count, after a space.
+fn print_count(n: u32) {
+    io::write_all(STDOUT_FILENO, b" ");
+    io::print_decimal(STDOUT_FILENO, n as u64);
+}
+
+// The number of cells of strip 0 at each level.
+fn census(strip: [u8; 6]) {
+    let counted = page::counting::census(1, 1, &strip);
+    let row = counted.rows[0];
+    io::write_all(STDOUT_FILENO, b"census");
+    print_count(row.counts[0]);
+    print_count(row.counts[1]);
+    print_count(row.counts[2]);
+    print_count(row.counts[3]);
+    io::write_all(STDOUT_FILENO, b"\n");
+}
+
+// The calls that the paper says are refused, and those beside them that are done.
+fn calls() {
+    call(b"code 3", 3, 1, 1, &mut [0u8; 6]);
+    call(b"code 7", 7, 1, 1, &mut [0u8; 6]);
+    call(b"code 4", 4, 1, 1, &mut [0u8; 6]);
+    call(b"L = 0", 3, 0, 1, &mut [0u8; 6]);
+    call(b"L = 65", 3, 65, 1, &mut [0u8; 6]);
+    call(b"S = 0", 3, 1, 0, &mut [0u8; 6]);
+    call(b"S = 65", 3, 1, 65, &mut [0u8; 6]);
+    call(b"a page of 5 bytes", 3, 1, 1, &mut [0u8; 5]);
+    call(b"a page of 7 bytes", 3, 1, 1, &mut [0u8; 7]);
+    erase(b"erase at 49", 49);
+    erase(b"erase at 50", 50);
+    erase(b"erase at 400", 400);
+    erase(b"erase at 401", 401);
+    erase(b"erase at -1", -1);
+    erase(b"erase at -32768", -32768);
+    census([0x41, 0x02, 0, 0, 0, 0]);
+    census([0xff, 0xff, 0xff, 0xff, 0xff, 0xff]);
+}
+
 fn main() {
     read(Code::short(), b"code 3 ", [0, 0, 0, 0, 0, 0]);
     read(Code::short(), b"code 3 ", [1, 0, 0, 0, 0, 0]);
@@ -67,4 +149,5 @@ fn main() {
         cells::climb(cells::house_weights(), 0, 3) as u64,
     );
     io::write_all(STDOUT_FILENO, b"\n");
+    calls();
 }

@@ -1,0 +1,902 @@
+// Judges the library, through its C interface, by a search of another author: the shortest paths of Boost.Graph.
+//
+//   compare [SEED [FACTOR]]
+//
+// The graph and the reading are made from document 01 alone. A vertex is a stage of a strip with the bits of the cells of the last m stages, all that
+// the sum for a data bit needs of the past. An edge is a choice of levels for the two cells of a stage: neither below its old level, the data bit
+// right. Its weight is the cost of the two climbs. Boost gives the distance of every vertex to the end of the strip; a walk from the start along edges
+// that lose no cost, the lowest levels first, is then the write that document 01 asks for, ties included. At the first disagreement the whole case is
+// printed and the exit status is 1. FACTOR multiplies the number of random cases.
+
+#include "segrunov.h"
+
+#include <boost/graph/compressed_sparse_row_graph.hpp>
+#include <boost/graph/dag_shortest_paths.hpp>
+#include <boost/property_map/property_map.hpp>
+
+#include <algorithm>
+#include <array>
+#include <cstddef>
+#include <cstdint>
+#include <cstdio>
+#include <cstdlib>
+#include <limits>
+#include <random>
+#include <string>
+#include <utility>
+#include <vector>
+
+namespace {
+
+using Bytes = std::vector<std::uint8_t>;
+using Levels = std::vector<unsigned>;
+
+// ---------------------------------------------------------------- document 01: shape, cells, codes, cost
+
+constexpr std::uint32_t kMost = 64;  // of L and of S
+constexpr unsigned kFull = 3;        // the highest level
+constexpr std::array<std::uint32_t, kFull> kStepCost = {16, 20, 28};
+
+struct Code {
+  std::uint32_t name;
+  unsigned memory;
+  unsigned g1;
+  unsigned g2;
+};
+
+constexpr std::array<Code, 2> kCodes = {Code{3, 2, 07, 05}, Code{7, 6, 0171, 0133}};
+
+struct Shape {
+  std::uint32_t bytes;   // L
+  std::uint32_t strips;  // S
+};
+
+std::size_t strip_length(Shape shape) { return std::size_t{6} * shape.bytes; }
+std::size_t page_length(Shape shape) { return strip_length(shape) * shape.strips; }
+std::size_t data_length(Shape shape) { return std::size_t{1} * shape.bytes * shape.strips; }
+
+unsigned bit_at(const Bytes& bytes, std::size_t k) { return (bytes[k / 8] >> (k % 8)) & 1U; }
+void flip_bit(Bytes& bytes, std::size_t k) { bytes[k / 8] = static_cast<std::uint8_t>(bytes[k / 8] ^ (1U << (k % 8))); }
+
+unsigned level_of(const Bytes& strip, std::size_t cell) {
+  return bit_at(strip, 3 * cell) + bit_at(strip, 3 * cell + 1) + bit_at(strip, 3 * cell + 2);
+}
+
+void raise_once(Bytes& strip, std::size_t cell) {
+  std::size_t k = 3 * cell;
+  while (bit_at(strip, k) == 1) ++k;
+  flip_bit(strip, k);
+}
+
+// Whether the cell's ones are its lowest bits, as in a page that only the library has written since the last erase.
+bool ones_first(const Bytes& strip, std::size_t cell) {
+  return bit_at(strip, 3 * cell) >= bit_at(strip, 3 * cell + 1) && bit_at(strip, 3 * cell + 1) >= bit_at(strip, 3 * cell + 2);
+}
+
+Levels levels_of(const Bytes& strip) {
+  Levels levels(strip.size() * 8 / 3);
+  for (std::size_t cell = 0; cell < levels.size(); ++cell) levels[cell] = level_of(strip, cell);
+  return levels;
+}
+
+std::uint32_t climb_cost(unsigned from, unsigned to) {
+  std::uint32_t cost = 0;
+  for (unsigned level = from; level < to; ++level) cost += kStepCost[level];
+  return cost;
+}
+
+// Digit i of a generator: the leftmost, digit 0, belongs to the present stage.
+unsigned digit(const Code& code, unsigned generator, unsigned i) { return (generator >> (code.memory - i)) & 1U; }
+
+// The sum for a data bit; bit i of a and of b belongs to the cells i stages ago.
+unsigned data_sum(const Code& code, unsigned a, unsigned b) {
+  unsigned sum = 0;
+  for (unsigned i = 0; i <= code.memory; ++i) {
+    sum += digit(code, code.g2, i) * ((a >> i) & 1U) + digit(code, code.g1, i) * ((b >> i) & 1U);
+  }
+  return sum % 2;
+}
+
+Bytes part(const Bytes& bytes, std::size_t number, std::size_t length) {
+  const auto first = bytes.begin() + static_cast<std::ptrdiff_t>(number * length);
+  return Bytes(first, first + static_cast<std::ptrdiff_t>(length));
+}
+
+void put_part(Bytes& bytes, std::size_t number, const Bytes& piece) {
+  std::copy(piece.begin(), piece.end(), bytes.begin() + static_cast<std::ptrdiff_t>(number * piece.size()));
+}
+
+Bytes read_strip(const Code& code, const Bytes& strip) {
+  const Levels levels = levels_of(strip);
+  Bytes data(strip.size() / 6, 0);
+  unsigned a = 0;
+  unsigned b = 0;
+  for (std::size_t t = 0; t < 8 * data.size(); ++t) {
+    a = (a << 1) | (levels[2 * t] % 2);
+    b = (b << 1) | (levels[2 * t + 1] % 2);
+    if (data_sum(code, a, b) == 1) flip_bit(data, t);
+  }
+  return data;
+}
+
+Bytes read_page(const Code& code, Shape shape, const Bytes& page) {
+  Bytes data(data_length(shape));
+  for (std::size_t k = 0; k < shape.strips; ++k) put_part(data, k, read_strip(code, part(page, k, strip_length(shape))));
+  return data;
+}
+
+// ---------------------------------------------------------------- the search
+
+// What follows a state, for every choice of the two cells' bits. A state holds the bits a, then b, of the last m stages, the newest worth 1.
+class Trellis {
+ public:
+  struct Step {
+    unsigned data_bit;
+    unsigned next;
+  };
+
+  explicit Trellis(const Code& code) : states_(std::size_t{1} << (2 * code.memory)), steps_(4 * states_) {
+    const unsigned mask = (1U << code.memory) - 1;
+    for (unsigned choice = 0; choice < steps_.size(); ++choice) {
+      const unsigned state = choice / 4;
+      const unsigned a = ((state & mask) << 1) | ((choice / 2) % 2);
+      const unsigned b = ((state >> code.memory) << 1) | (choice % 2);
+      steps_[choice] = Step{data_sum(code, a, b), (a & mask) | ((b & mask) << code.memory)};
+    }
+  }
+
+  std::size_t states() const { return states_; }
+  const Step& step(unsigned state, unsigned x, unsigned y) const { return steps_[4 * state + 2 * (x % 2) + y % 2]; }
+
+ private:
+  std::size_t states_;
+  std::vector<Step> steps_;
+};
+
+struct StripPath {
+  bool found = false;
+  std::uint32_t cost = 0;
+  Levels levels;
+  bool tie = false;  // another path costs as much
+};
+
+class StripSearch {
+ public:
+  StripSearch(const Trellis& trellis, Levels old, const Bytes& data)
+      : trellis_(trellis), old_(std::move(old)), data_(data), stages_(8 * data.size()), numbers_((stages_ + 1) * trellis.states(), kEnd) {}
+
+  StripPath least() {
+    collect();
+    measure();
+    return walk();
+  }
+
+ private:
+  using Vertex = std::uint32_t;
+  struct Weight {
+    std::uint32_t cost;
+  };
+  using Graph = boost::compressed_sparse_row_graph<boost::directedS, boost::no_property, Weight, boost::no_property, Vertex, std::uint32_t>;
+
+  static constexpr Vertex kEnd = 0;  // joined to every state after the last stage; as a state's number it says "never reached"
+  static constexpr std::uint32_t kFar = std::numeric_limits<std::uint32_t>::max();
+
+  // Calls visit(x, y, next state, weight) for the edges that leave a state, the lower levels first.
+  template <class Visit>
+  void for_each_edge(std::size_t t, unsigned state, Visit visit) const {
+    for (unsigned x = old_[2 * t]; x <= kFull; ++x) {
+      for (unsigned y = old_[2 * t + 1]; y <= kFull; ++y) {
+        const Trellis::Step& step = trellis_.step(state, x, y);
+        if (step.data_bit != bit_at(data_, t)) continue;
+        visit(x, y, step.next, climb_cost(old_[2 * t], x) + climb_cost(old_[2 * t + 1], y));
+      }
+    }
+  }
+
+  Vertex& number(std::size_t t, unsigned state) { return numbers_[t * trellis_.states() + state]; }
+
+  void join(Vertex from, Vertex to, std::uint32_t cost) {
+    // Turned round, so that one search from the end measures every vertex.
+    edges_.emplace_back(to, from);
+    weights_.push_back(Weight{cost});
+  }
+
+  // Breadth first from state 0, since before stage 0 every bit is 0: only the states that can be reached become vertices.
+  void collect() {
+    std::vector<unsigned> present = {0};
+    number(0, 0) = vertices_++;
+    for (std::size_t t = 0; t < stages_; ++t) {
+      std::vector<unsigned> following;
+      for (const unsigned state : present) {
+        const Vertex from = number(t, state);
+        for_each_edge(t, state, [&](unsigned, unsigned, unsigned next, std::uint32_t cost) {
+          Vertex& to = number(t + 1, next);
+          if (to == kEnd) {
+            to = vertices_++;
+            following.push_back(next);
+          }
+          join(from, to, cost);
+        });
+      }
+      present.swap(following);
+    }
+    for (const unsigned state : present) join(number(stages_, state), kEnd, 0);
+  }
+
+  void measure() {
+    const Graph graph(boost::edges_are_unsorted_multi_pass, edges_.begin(), edges_.end(), weights_.begin(), vertices_);
+    distance_.assign(vertices_, kFar);
+    const auto index = boost::get(boost::vertex_index, graph);
+    const auto distance = boost::make_iterator_property_map(distance_.begin(), index);
+    boost::dag_shortest_paths(graph, kEnd, boost::weight_map(boost::get(&Weight::cost, graph)).distance_map(distance).distance_inf(kFar));
+  }
+
+  // Equal levels lead to equal states, so the lowest levels that lose no cost at each stage are the lowest of the strip.
+  StripPath walk() {
+    StripPath path;
+    path.cost = distance_[number(0, 0)];
+    path.found = path.cost != kFar;
+    unsigned state = 0;
+    for (std::size_t t = 0; path.found && t < stages_; ++t) {
+      const std::uint32_t here = distance_[number(t, state)];
+      unsigned chosen = state;
+      unsigned tight = 0;
+      for_each_edge(t, state, [&](unsigned x, unsigned y, unsigned next, std::uint32_t cost) {
+        const std::uint32_t there = distance_[number(t + 1, next)];
+        if (there == kFar || cost + there != here) return;
+        if (tight++ > 0) return;
+        chosen = next;
+        path.levels.push_back(x);
+        path.levels.push_back(y);
+      });
+      path.tie = path.tie || tight > 1;
+      state = chosen;
+    }
+    return path;
+  }
+
+  const Trellis& trellis_;
+  const Levels old_;
+  const Bytes& data_;
+  const std::size_t stages_;
+  std::vector<Vertex> numbers_;
+  Vertex vertices_ = kEnd + 1;
+  std::vector<std::pair<Vertex, Vertex>> edges_;
+  std::vector<Weight> weights_;
+  std::vector<std::uint32_t> distance_;
+};
+
+std::uint64_t answer_of(std::uint32_t number, std::uint32_t value) { return (std::uint64_t{number} << 32) + value; }
+
+struct PageSearch {
+  std::uint64_t answer = 0;
+  Bytes page;
+  bool tie = false;
+  bool below_one = false;   // a cell is raised in a bit below one of its ones
+  bool late_spent = false;  // spent, though a strip before would have been changed
+};
+
+PageSearch search_page(const Code& code, Shape shape, const Bytes& page, const Bytes& data) {
+  static const std::array<Trellis, 2> trellises = {Trellis(kCodes[0]), Trellis(kCodes[1])};
+  const Trellis& trellis = trellises[code.name == kCodes[0].name ? 0 : 1];
+  PageSearch result;
+  result.page = page;
+  std::uint32_t cost = 0;
+  for (std::uint32_t k = 0; k < shape.strips; ++k) {
+    Bytes strip = part(page, k, strip_length(shape));
+    const Bytes strip_data = part(data, k, shape.bytes);
+    const StripPath path = StripSearch(trellis, levels_of(strip), strip_data).least();
+    if (!path.found) {
+      PageSearch spent;
+      spent.answer = answer_of(SEGRUNOV_SPENT, k);
+      spent.page = page;
+      spent.late_spent = cost > 0;
+      return spent;
+    }
+    for (std::size_t cell = 0; cell < path.levels.size(); ++cell) {
+      for (unsigned level = level_of(strip, cell); level < path.levels[cell]; ++level) {
+        result.below_one = result.below_one || !ones_first(strip, cell);
+        raise_once(strip, cell);
+      }
+    }
+    put_part(result.page, k, strip);
+    cost += path.cost;
+    result.tie = result.tie || path.tie;
+  }
+  result.answer = answer_of(SEGRUNOV_DONE, cost);
+  return result;
+}
+
+// ---------------------------------------------------------------- calls of the library
+
+enum Function : unsigned { kRead, kPrice, kWrite, kErase, kFunctions };
+constexpr std::array<const char*, kFunctions> kFunctionName = {"read", "price", "write", "erase"};
+
+struct Call {
+  Function function;
+  std::uint32_t code;
+  std::uint32_t bytes;
+  std::uint32_t strips;
+  Bytes page;
+  Bytes data;  // of a read: what the buffer holds before
+  std::int16_t tenths;
+};
+
+struct Outcome {
+  std::uint64_t answer;
+  Bytes page;
+  Bytes data;
+};
+
+std::string hex(const Bytes& bytes) {
+  static const char* const digits = "0123456789abcdef";
+  std::string text;
+  for (const unsigned byte : bytes) {
+    text += digits[byte / 16];
+    text += digits[byte % 16];
+  }
+  return text;
+}
+
+void print_outcome(const char* whose, const Outcome& outcome) {
+  std::printf("%s number %lu value %lu\n  page %s\n  data %s\n", whose, static_cast<unsigned long>(SEGRUNOV_NUMBER(outcome.answer)),
+              static_cast<unsigned long>(SEGRUNOV_VALUE(outcome.answer)), hex(outcome.page).c_str(), hex(outcome.data).c_str());
+}
+
+[[noreturn]] void disagree(const char* what, const Call& call, const Outcome& expected, const Outcome& got) {
+  std::printf("compare: DISAGREEMENT: %s\n%s code %lu L %lu S %lu tenths %d page length %zu data length %zu\n", what, kFunctionName[call.function],
+              static_cast<unsigned long>(call.code), static_cast<unsigned long>(call.bytes), static_cast<unsigned long>(call.strips), call.tenths,
+              call.page.size(), call.data.size());
+  print_outcome("before", Outcome{0, call.page, call.data});
+  print_outcome("expected", expected);
+  print_outcome("got", got);
+  std::exit(1);
+}
+
+[[noreturn]] void give_up(const char* what) {
+  std::printf("compare: %s\n", what);
+  std::exit(1);
+}
+
+// A copy of some bytes between guard bytes. The front guard's length differs from buffer to buffer, so that every alignment is met.
+class Guarded {
+ public:
+  Guarded(const Bytes& inner, std::size_t shift) : front_(kGuard + shift % 8), length_(inner.size()), all_(front_ + length_ + kGuard) {
+    for (std::size_t i = 0; i < all_.size(); ++i) all_[i] = pattern(i);
+    std::copy(inner.begin(), inner.end(), all_.begin() + static_cast<std::ptrdiff_t>(front_));
+  }
+
+  // With length 0 the interface also takes a null pointer.
+  std::uint8_t* pointer() { return length_ == 0 && front_ % 2 == 0 ? nullptr : all_.data() + front_; }
+  std::size_t length() const { return length_; }
+
+  Bytes inner() const {
+    const auto first = all_.begin() + static_cast<std::ptrdiff_t>(front_);
+    return Bytes(first, first + static_cast<std::ptrdiff_t>(length_));
+  }
+
+  bool intact() const {
+    for (std::size_t i = 0; i < all_.size(); ++i) {
+      const bool guard = i < front_ || i >= front_ + length_;
+      if (guard && all_[i] != pattern(i)) return false;
+    }
+    return true;
+  }
+
+ private:
+  static constexpr std::size_t kGuard = 32;
+  static std::uint8_t pattern(std::size_t i) { return static_cast<std::uint8_t>(0xa5 ^ (i * 29)); }
+
+  std::size_t front_;
+  std::size_t length_;
+  Bytes all_;
+};
+
+// ---------------------------------------------------------------- the judge
+
+// What was met, so that a run that judged nothing of a kind cannot pass.
+struct Counts {
+  std::array<std::uint64_t, kFunctions> calls{};
+  std::array<std::array<std::uint64_t, 9>, kFunctions> refused{};  // by function and number
+  std::array<std::uint64_t, 2> done{};                            // writes by code, and so on
+  std::array<std::uint64_t, 2> spent{};
+  std::array<std::uint64_t, 2> ties{};
+  std::array<std::uint64_t, 2> below_one{};
+  std::array<std::uint64_t, 2> late_spent{};
+  std::array<std::uint64_t, 2> kept{};
+  std::uint64_t several_grounds = 0;
+};
+
+class Judge {
+ public:
+  explicit Judge(std::uint64_t seed) : random_(seed) {}
+
+  const Counts& counts() const { return counts_; }
+  std::uint64_t calls() const {
+    std::uint64_t sum = 0;
+    for (const std::uint64_t n : counts_.calls) sum += n;
+    return sum;
+  }
+
+  // The standard leaves its distributions to each library; a remainder gives the same cases everywhere.
+  std::uint64_t below(std::uint64_t limit) { return random_() % limit; }
+  bool chance(std::uint64_t of, std::uint64_t in) { return below(in) < of; }
+
+  // Calls the library and holds answer, page, data and guards against the expected outcome.
+  void judge(const Call& call, const Outcome& expected) {
+    Guarded page(call.page, calls());
+    Guarded data(call.data, calls() / 8);
+    ++counts_.calls[call.function];
+    const std::uint64_t answer = perform(call, page, data);
+    const Outcome got = {answer, page.inner(), data.inner()};
+    if (!page.intact() || !data.intact()) disagree("bytes beside a buffer changed", call, expected, got);
+    if (got.answer != expected.answer) disagree("answer", call, expected, got);
+    if (got.page != expected.page) disagree("page", call, expected, got);
+    if (got.data != expected.data) disagree("data", call, expected, got);
+    const std::uint32_t number = SEGRUNOV_NUMBER(answer);
+    if (number != SEGRUNOV_DONE) ++counts_.refused[call.function][number];
+  }
+
+  void judge_refusal(const Call& call, std::uint32_t number, std::uint32_t value = 0) {
+    judge(call, Outcome{answer_of(number, value), call.page, call.data});
+  }
+
+  void judge_read(const Code& code, Shape shape, const Bytes& page, const Bytes& data) {
+    const Call call = {kRead, code.name, shape.bytes, shape.strips, page, random_bytes(data.size()), 0};
+    judge(call, Outcome{0, page, data});
+  }
+
+  // Judges a price and a write of the data, and the read after it. Gives back the page after them.
+  Bytes judge_write(const Code& code, Shape shape, const Bytes& page, const Bytes& data) {
+    const PageSearch least = search_page(code, shape, page, data);
+    price_and_write(code, shape, page, data, least);
+    count_write(code, least);
+    if (SEGRUNOV_NUMBER(least.answer) == SEGRUNOV_DONE) {
+      if (read_page(code, shape, least.page) != data) give_up("the search itself is wrong: its page does not read as the data");
+      judge_read(code, shape, least.page, data);
+    }
+    return least.page;
+  }
+
+  // What the page reads as costs nothing and changes nothing. No search: this is said outright by document 01.
+  void judge_kept(const Code& code, Shape shape, const Bytes& page) {
+    const Bytes data = read_page(code, shape, page);
+    PageSearch least;
+    least.page = page;
+    judge_read(code, shape, page, data);
+    price_and_write(code, shape, page, data, least);
+    ++counts_.kept[code_index(code)];
+  }
+
+  Bytes random_bytes(std::size_t length) {
+    Bytes bytes(length);
+    for (std::uint8_t& byte : bytes) byte = static_cast<std::uint8_t>(below(256));
+    return bytes;
+  }
+
+  // Every bit is one with the given chance.
+  Bytes random_bits(std::size_t length, std::uint64_t of, std::uint64_t in) {
+    Bytes bytes(length, 0);
+    for (std::size_t k = 0; k < 8 * length; ++k) {
+      if (chance(of, in)) flip_bit(bytes, k);
+    }
+    return bytes;
+  }
+
+  // Every cell is full with the given chance, else random.
+  Bytes random_full_cells(std::size_t length, std::uint64_t of, std::uint64_t in) {
+    Bytes bytes = random_bytes(length);
+    for (std::size_t cell = 0; cell < 8 * length / 3; ++cell) {
+      if (!chance(of, in)) continue;
+      while (level_of(bytes, cell) < kFull) raise_once(bytes, cell);
+    }
+    return bytes;
+  }
+
+  static constexpr std::uint64_t kStripKinds = 8;
+  Bytes strip_of_kind(std::uint64_t kind, std::size_t length) {
+    switch (kind) {
+      case 0: return Bytes(length, 0);
+      case 1: return random_bytes(length);
+      case 2: return random_bits(length, 1, 16);
+      case 3: return random_bits(length, 7, 8);
+      case 4: return random_full_cells(length, 3, 4);
+      case 5: return random_full_cells(length, 1, 2);
+      case 6: return random_bits(length, 1, 3);
+      default: return Bytes(length, 0xff);
+    }
+  }
+
+  Bytes random_page(Shape shape) {
+    Bytes page(page_length(shape));
+    const std::uint64_t common = below(kStripKinds);
+    const bool mixed = chance(1, 2);
+    for (std::size_t k = 0; k < shape.strips; ++k) put_part(page, k, strip_of_kind(mixed ? below(kStripKinds) : common, strip_length(shape)));
+    return page;
+  }
+
+  // Data that some page above this one reads as, so that a write of it is done, however full the page.
+  Bytes fitting_data(const Code& code, Shape shape, Bytes page) {
+    const std::size_t cells_in_strip = 16 * std::size_t{shape.bytes};
+    for (std::size_t k = 0; k < shape.strips; ++k) {
+      Bytes strip = part(page, k, strip_length(shape));
+      for (std::size_t cell = 0; cell < cells_in_strip; ++cell) {
+        if (chance(1, 3) && level_of(strip, cell) < kFull) raise_once(strip, cell);
+      }
+      put_part(page, k, strip);
+    }
+    return read_page(code, shape, page);
+  }
+
+  Bytes near_data(const Code& code, Shape shape, const Bytes& page) {
+    Bytes data = read_page(code, shape, page);
+    for (std::uint64_t flips = 1 + below(3); flips > 0; --flips) flip_bit(data, below(8 * data.size()));
+    return data;
+  }
+
+  // Fitting data with one bit changed in the last strip, so that a spent strip comes late.
+  Bytes late_data(const Code& code, Shape shape, const Bytes& page) {
+    Bytes data = fitting_data(code, shape, page);
+    flip_bit(data, 8 * data.size() - 1 - below(8 * std::uint64_t{shape.bytes}));
+    return data;
+  }
+
+  Bytes random_data(const Code& code, Shape shape, const Bytes& page) {
+    switch (below(5)) {
+      case 0: return random_bytes(data_length(shape));
+      case 1: return near_data(code, shape, page);
+      case 2: return late_data(code, shape, page);
+      default: return fitting_data(code, shape, page);
+    }
+  }
+
+  void count_several_grounds() { ++counts_.several_grounds; }
+
+ private:
+  static std::size_t code_index(const Code& code) { return code.name == kCodes[0].name ? 0 : 1; }
+
+  static std::uint64_t perform(const Call& call, Guarded& page, Guarded& data) {
+    switch (call.function) {
+      case kRead: return segrunov_read(call.code, call.bytes, call.strips, page.pointer(), page.length(), data.pointer(), data.length());
+      case kPrice: return segrunov_price(call.code, call.bytes, call.strips, page.pointer(), page.length(), data.pointer(), data.length());
+      case kWrite: return segrunov_write(call.code, call.bytes, call.strips, page.pointer(), page.length(), data.pointer(), data.length());
+      default: return segrunov_erase(call.bytes, call.strips, page.pointer(), page.length(), call.tenths);
+    }
+  }
+
+  void price_and_write(const Code& code, Shape shape, const Bytes& page, const Bytes& data, const PageSearch& least) {
+    judge(Call{kPrice, code.name, shape.bytes, shape.strips, page, data, 0}, Outcome{least.answer, page, data});
+    judge(Call{kWrite, code.name, shape.bytes, shape.strips, page, data, 0}, Outcome{least.answer, least.page, data});
+  }
+
+  void count_write(const Code& code, const PageSearch& least) {
+    const std::size_t i = code_index(code);
+    ++(SEGRUNOV_NUMBER(least.answer) == SEGRUNOV_DONE ? counts_.done : counts_.spent)[i];
+    counts_.ties[i] += least.tie ? 1 : 0;
+    counts_.below_one[i] += least.below_one ? 1 : 0;
+    counts_.late_spent[i] += least.late_spent ? 1 : 0;
+  }
+
+  std::mt19937_64 random_;
+  Counts counts_;
+};
+
+// ---------------------------------------------------------------- the cases
+
+// The known cells of document 01 hold the search itself to the paper before it judges anything.
+void check_search() {
+  struct Known {
+    std::size_t code;
+    Bytes page;
+    Bytes data;
+    std::uint64_t answer;
+    Bytes after;
+  };
+  const Bytes erased(6, 0);
+  const Bytes full(6, 0xff);
+  const Bytes half = {0, 0, 0, 0, 0, 0, 255, 255, 255, 255, 255, 255};
+  const std::vector<Known> table = {
+      {0, erased, {0x00}, 0, erased},
+      {0, erased, {0x01}, 48, {0x41, 0x02, 0, 0, 0, 0}},
+      {0, erased, {0x40}, 16, {0, 0, 0, 0, 0x10, 0}},
+      {0, erased, {0x80}, 16, {0, 0, 0, 0, 0, 0x20}},
+      {1, erased, {0x80}, 16, {0, 0, 0, 0, 0, 0x20}},
+      {0, full, {0xfe}, 0, full},
+      {1, full, {0x1e}, 0, full},
+      {0, full, {0x80}, answer_of(SEGRUNOV_SPENT, 0), full},
+      {0, Bytes(12, 0), {0x80, 0x40}, 32, {0, 0, 0, 0, 0, 0x20, 0, 0, 0, 0, 0x10, 0}},
+      {0, half, {0x80, 0x00}, answer_of(SEGRUNOV_SPENT, 1), half},
+      {0, half, {0x80, 0xfe}, 16, {0, 0, 0, 0, 0, 0x20, 255, 255, 255, 255, 255, 255}},
+  };
+  for (const Known& known : table) {
+    const Shape shape = {1, static_cast<std::uint32_t>(known.data.size())};
+    const PageSearch least = search_page(kCodes[known.code], shape, known.page, known.data);
+    if (least.answer != known.answer || least.page != known.after) give_up("the search itself is wrong: a known cell of document 01");
+  }
+}
+
+void progress(const Judge& judge, const char* section) {
+  std::printf("%s: %llu calls so far\n", section, static_cast<unsigned long long>(judge.calls()));
+  std::fflush(stdout);
+}
+
+void every_data_byte(Judge& judge, const Code& code, const Bytes& page) {
+  const Shape shape = {1, 1};
+  for (unsigned byte = 0; byte < 256; ++byte) judge.judge_write(code, shape, page, Bytes{static_cast<std::uint8_t>(byte)});
+  judge.judge_kept(code, shape, page);
+}
+
+// One-byte strips: each of the 256 data on pages of every kind.
+void small_pages(Judge& judge, unsigned rounds) {
+  for (const Code& code : kCodes) {
+    every_data_byte(judge, code, Bytes(6, 0));
+    every_data_byte(judge, code, Bytes(6, 0xff));
+    for (unsigned round = 0; round < rounds; ++round) {
+      for (std::uint64_t kind = 1; kind + 1 < Judge::kStripKinds; ++kind) every_data_byte(judge, code, judge.strip_of_kind(kind, 6));
+    }
+    progress(judge, "one-byte strips");
+  }
+}
+
+void one_page(Judge& judge, const Code& code, Shape shape) {
+  const Bytes page = judge.random_page(shape);
+  judge.judge_kept(code, shape, page);
+  const Bytes after = judge.judge_write(code, shape, page, judge.random_data(code, shape, page));
+  judge.judge_kept(code, shape, after);
+}
+
+// Any L and S with few bytes in all: the search of the long code has 4096 states a stage.
+Shape random_shape(Judge& judge, std::uint32_t most_bytes) {
+  const auto product = static_cast<std::uint32_t>(1 + judge.below(most_bytes));
+  const auto bytes = static_cast<std::uint32_t>(1 + judge.below(std::min(product, kMost)));
+  return Shape{bytes, std::min(std::max(product / bytes, 1U), kMost)};
+}
+
+void random_shapes(Judge& judge, unsigned rounds) {
+  for (unsigned round = 0; round < rounds; ++round) {
+    for (unsigned i = 0; i < 8; ++i) one_page(judge, kCodes[0], random_shape(judge, 64));
+    for (unsigned i = 0; i < 4; ++i) one_page(judge, kCodes[1], random_shape(judge, 4));
+    one_page(judge, kCodes[1], random_shape(judge, 16));
+    if (round % 20 == 19) progress(judge, "random shapes");
+  }
+}
+
+void fitting_write(Judge& judge, const Code& code, Shape shape, std::uint64_t kind) {
+  const Bytes page = judge.strip_of_kind(kind, page_length(shape));
+  const Bytes after = judge.judge_write(code, shape, page, judge.fitting_data(code, shape, page));
+  judge.judge_kept(code, shape, after);
+}
+
+// The limits of L and S. With the long code the widest page has half its cells full, or the search would not end in time.
+void large_pages(Judge& judge) {
+  for (const Shape shape : {Shape{64, 64}, Shape{64, 1}, Shape{1, 64}, Shape{63, 64}, Shape{64, 63}}) {
+    for (const std::uint64_t kind : {0, 1, 4, 5, 6}) fitting_write(judge, kCodes[0], shape, kind);
+    for (const std::uint64_t kind : {4, 5}) fitting_write(judge, kCodes[1], shape, kind);
+    for (const Code& code : kCodes) judge.judge_kept(code, shape, judge.random_page(shape));
+    progress(judge, "large pages");
+  }
+  for (const std::uint64_t kind : {0, 1, 2, 6}) fitting_write(judge, kCodes[1], Shape{1, 64}, kind);
+  for (const std::uint64_t kind : {0, 1}) fitting_write(judge, kCodes[1], Shape{64, 1}, kind);
+  progress(judge, "large pages");
+}
+
+// From erased until spent and some writes beyond, then an erase. The page is carried along; the judged calls have shown it to be the library's.
+void run_until_spent(Judge& judge, const Code& code, Shape shape, bool small_changes) {
+  const Bytes erased(page_length(shape), 0);
+  Bytes page = erased;
+  unsigned beyond = 0;
+  while (beyond < 4) {
+    const Bytes data = small_changes ? judge.near_data(code, shape, page) : judge.random_bytes(data_length(shape));
+    const std::uint64_t spent_before = judge.counts().refused[kWrite][SEGRUNOV_SPENT];
+    page = judge.judge_write(code, shape, page, data);
+    if (beyond > 0 || judge.counts().refused[kWrite][SEGRUNOV_SPENT] > spent_before) ++beyond;
+  }
+  judge.judge_kept(code, shape, page);
+  const auto tenths = static_cast<std::int16_t>(50 + judge.below(351));
+  judge.judge(Call{kErase, 0, shape.bytes, shape.strips, page, Bytes(), tenths}, Outcome{0, erased, Bytes()});
+}
+
+void runs(Judge& judge, unsigned rounds) {
+  for (unsigned round = 0; round < rounds; ++round) {
+    for (const bool small_changes : {false, true}) {
+      run_until_spent(judge, kCodes[0], random_shape(judge, 16), small_changes);
+      run_until_spent(judge, kCodes[1], random_shape(judge, 2), small_changes);
+    }
+    if (round % 10 == 9) progress(judge, "runs until spent");
+  }
+  run_until_spent(judge, kCodes[0], Shape{64, 2}, false);
+  run_until_spent(judge, kCodes[0], Shape{3, 20}, false);
+  run_until_spent(judge, kCodes[1], Shape{1, 16}, false);
+  run_until_spent(judge, kCodes[1], Shape{6, 1}, false);
+  progress(judge, "runs until spent");
+}
+
+bool within(std::uint32_t number) { return number >= 1 && number <= kMost; }
+
+bool allowed_temperature(std::int16_t tenths) { return tenths >= 50 && tenths <= 400; }
+
+// The grounds of document 01 that apply to a call, in its order; a 7 is left to the caller.
+std::vector<std::uint32_t> grounds(const Call& call) {
+  std::vector<std::uint32_t> numbers;
+  const bool erase = call.function == kErase;
+  const std::uint64_t data_bytes = std::uint64_t{call.bytes} * call.strips;
+  if (!erase && call.code != 3 && call.code != 7) numbers.push_back(SEGRUNOV_CODE);
+  if (!within(call.bytes)) numbers.push_back(SEGRUNOV_BYTES);
+  if (!within(call.strips)) numbers.push_back(SEGRUNOV_STRIPS);
+  // A product beyond 64 bits cannot be the length of any buffer here; the quotient tells without forming it.
+  if (call.page.size() % 6 != 0 || call.page.size() / 6 != data_bytes) numbers.push_back(SEGRUNOV_PAGE_LENGTH);
+  if (!erase && call.data.size() != data_bytes) numbers.push_back(SEGRUNOV_DATA_LENGTH);
+  if (erase && !allowed_temperature(call.tenths)) numbers.push_back(SEGRUNOV_TEMPERATURE);
+  return numbers;
+}
+
+std::uint32_t bad_code(Judge& judge) {
+  const std::array<std::uint32_t, 12> values = {0, 1, 2, 4, 5, 6, 8, 259, 263, 0x80000003U, 0x10007U, 0xffffffffU};
+  return values[judge.below(values.size())];
+}
+
+std::uint32_t bad_number(Judge& judge) {
+  const std::array<std::uint32_t, 10> values = {0, 65, 66, 128, 255, 257, 0x10001U, 0x40000000U, 0x80000001U, 0xffffffffU};
+  return values[judge.below(values.size())];
+}
+
+// Another length than the right one: nothing, a little off, one strip or page more, 2^16 more.
+std::size_t bad_length(Judge& judge, std::size_t right) {
+  switch (judge.below(7)) {
+    case 0: return 0;
+    case 1: return right == 0 ? 1 : right - 1;
+    case 2: return right + 1;
+    case 3: return right + 6;
+    case 4: return 2 * right + 1;
+    case 5: return right / 2;
+    default: return right + 65536;
+  }
+}
+
+std::int16_t bad_temperature(Judge& judge) {
+  const std::array<std::int16_t, 10> values = {49, 401, -1, -32768, 32767, 0, -50, -400, 306, 656};
+  const std::int16_t value = values[judge.below(values.size())];
+  return allowed_temperature(value) ? std::int16_t{401} : value;
+}
+
+// The length that goes with L and S, also with bad ones as far as memory allows, so that often a single ground applies.
+std::size_t length_for(std::uint32_t bytes, std::uint32_t strips, std::size_t factor) {
+  const std::uint64_t product = std::uint64_t{bytes} * strips;
+  return product <= 65536 ? factor * static_cast<std::size_t>(product) : factor;
+}
+
+// A full page and data it cannot take stand under half of the calls, so that 7 competes with the grounds from the input.
+Call spoiled_call(Judge& judge) {
+  const auto function = static_cast<Function>(judge.below(kFunctions));
+  Shape shape = {static_cast<std::uint32_t>(1 + judge.below(4)), static_cast<std::uint32_t>(1 + judge.below(4))};
+  if (judge.chance(1, 8)) shape = Shape{kMost, kMost};
+  // Few of the five items at fault as a rule, now and then any of them.
+  const std::uint64_t set = judge.chance(1, 3) ? std::uint64_t{1} << judge.below(5) : judge.below(32) & judge.below(32);
+  Call call = {function, judge.chance(1, 2) ? 3U : 7U, shape.bytes, shape.strips, Bytes(), Bytes(), 250};
+  if ((set & 1) != 0) call.code = bad_code(judge);
+  if ((set & 2) != 0) call.bytes = bad_number(judge);
+  if ((set & 4) != 0) call.strips = bad_number(judge);
+  std::size_t page_bytes = length_for(call.bytes, call.strips, 6);
+  std::size_t data_bytes = length_for(call.bytes, call.strips, 1);
+  if ((set & 8) != 0) page_bytes = bad_length(judge, page_bytes);
+  if ((set & 16) != 0) data_bytes = bad_length(judge, data_bytes);
+  if (function == kErase && (set & 16) != 0) call.tenths = bad_temperature(judge);
+  call.page = judge.chance(1, 2) ? Bytes(page_bytes, 0xff) : judge.random_bytes(page_bytes);
+  call.data = judge.random_bytes(data_bytes);
+  return call;
+}
+
+void refusals(Judge& judge, unsigned rounds) {
+  for (unsigned round = 0; round < rounds; ++round) {
+    const Call call = spoiled_call(judge);
+    const std::vector<std::uint32_t> numbers = grounds(call);
+    if (numbers.empty()) continue;
+    judge.judge_refusal(call, numbers.front());
+    if (numbers.size() > 1) judge.count_several_grounds();
+  }
+  progress(judge, "refusals");
+}
+
+void erase_at(Judge& judge, Shape shape, std::int16_t tenths) {
+  const Call call = {kErase, 0, shape.bytes, shape.strips, judge.random_page(shape), Bytes(), tenths};
+  if (allowed_temperature(tenths)) {
+    judge.judge(call, Outcome{0, Bytes(call.page.size(), 0), Bytes()});
+  } else {
+    judge.judge_refusal(call, SEGRUNOV_TEMPERATURE);
+  }
+}
+
+void erases(Judge& judge, unsigned rounds) {
+  const std::array<std::int16_t, 14> boundaries = {-32768, -32767, -400, -50, -1, 0, 1, 49, 50, 51, 399, 400, 401, 32767};
+  for (const Shape shape : {Shape{1, 1}, Shape{64, 64}, Shape{64, 1}, Shape{1, 64}, Shape{3, 5}}) {
+    for (const std::int16_t tenths : boundaries) erase_at(judge, shape, tenths);
+  }
+  for (unsigned round = 0; round < rounds; ++round) {
+    const Shape shape = random_shape(judge, 128);
+    erase_at(judge, shape, static_cast<std::int16_t>(static_cast<int>(judge.below(65536)) - 32768));
+    erase_at(judge, shape, static_cast<std::int16_t>(static_cast<int>(judge.below(450)) - 20));
+  }
+  progress(judge, "erases");
+}
+
+// ---------------------------------------------------------------- the verdict
+
+// Prints a count; false if the kind was never met.
+bool met(const char* kind, const char* of, std::uint64_t count) {
+  std::printf("  %-28s %-6s %llu\n", kind, of, static_cast<unsigned long long>(count));
+  return count > 0;
+}
+
+bool met_for_both_codes(const char* kind, const std::array<std::uint64_t, 2>& counts) {
+  const bool with_short = met(kind, "code 3", counts[0]);
+  const bool with_long = met(kind, "code 7", counts[1]);
+  return with_short && with_long;
+}
+
+// The numbers with which a function can refuse.
+std::vector<std::uint32_t> refusals_of(Function function) {
+  switch (function) {
+    case kRead: return {1, 2, 3, 4, 5};
+    case kErase: return {2, 3, 4, 8};
+    default: return {1, 2, 3, 4, 5, 7};
+  }
+}
+
+bool every_kind_met(const Counts& counts) {
+  bool all = true;
+  for (unsigned f = 0; f < kFunctions; ++f) all = met("calls", kFunctionName[f], counts.calls[f]) && all;
+  all = met_for_both_codes("writes done", counts.done) && all;
+  all = met_for_both_codes("writes spent", counts.spent) && all;
+  all = met_for_both_codes("writes with a tie", counts.ties) && all;
+  all = met_for_both_codes("raises of cells out of order", counts.below_one) && all;
+  all = met_for_both_codes("spent after a changed strip", counts.late_spent) && all;
+  all = met_for_both_codes("writes of what is held", counts.kept) && all;
+  for (unsigned f = 0; f < kFunctions; ++f) {
+    for (const std::uint32_t number : refusals_of(static_cast<Function>(f))) {
+      const std::string kind = "refused by " + std::to_string(number);
+      all = met(kind.c_str(), kFunctionName[f], counts.refused[f][number]) && all;
+    }
+  }
+  return met("refused on several grounds", "", counts.several_grounds) && all;
+}
+
+int compare(std::uint64_t seed, unsigned factor) {
+  std::printf("compare: seed %llu factor %u\n", static_cast<unsigned long long>(seed), factor);
+  check_search();
+  Judge judge(seed);
+  small_pages(judge, 5 * factor);
+  random_shapes(judge, 40 * factor);
+  large_pages(judge);
+  runs(judge, 10 * factor);
+  refusals(judge, 4000 * factor);
+  erases(judge, 500 * factor);
+  const bool complete = every_kind_met(judge.counts());
+  if (!complete) give_up("a kind was never met");
+  if (judge.calls() < 20000) give_up("fewer than 20000 calls");
+  std::printf("compare: %llu calls agree (seed %llu)\n", static_cast<unsigned long long>(judge.calls()), static_cast<unsigned long long>(seed));
+  return 0;
+}
+
+// A whole number in decimal, at most the limit; anything else ends the program.
+std::uint64_t number_from(const char* text, std::uint64_t limit) {
+  std::uint64_t value = 0;
+  const char* c = text;
+  for (; *c >= '0' && *c <= '9' && value <= limit; ++c) value = 10 * value + static_cast<std::uint64_t>(*c - '0');
+  if (c == text || *c != '\0' || value > limit) {
+    std::fprintf(stderr, "usage: compare [SEED [FACTOR]]\n");
+    std::exit(2);
+  }
+  return value;
+}
+
+}  // namespace
+
+int main(int argc, char** argv) {
+  const std::uint64_t seed = argc > 1 ? number_from(argv[1], 1000000000000ULL) : 20240117;
+  const std::uint64_t factor = argc > 2 ? number_from(argv[2], 10000) : 1;
+  if (argc > 3 || factor == 0) {
+    std::fprintf(stderr, "usage: compare [SEED [FACTOR]]\n");
+    return 2;
+  }
+  return compare(seed, static_cast<unsigned>(factor));
+}
