@@ -403,6 +403,7 @@ struct Counts {
   std::array<std::uint64_t, 2> ties{};
   std::array<std::uint64_t, 2> below_one{};
   std::array<std::uint64_t, 2> late_spent{};
+  std::array<std::uint64_t, 2> last_spent{};
   std::array<std::uint64_t, 2> kept{};
   std::uint64_t several_grounds = 0;
 };
@@ -575,6 +576,7 @@ class Judge {
     counts_.ties[i] += least.tie ? 1 : 0;
     counts_.below_one[i] += least.below_one ? 1 : 0;
     counts_.late_spent[i] += least.late_spent ? 1 : 0;
+    counts_.last_spent[i] += least.answer == answer_of(SEGRUNOV_SPENT, kMost - 1) ? 1 : 0;
   }
 
   std::mt19937_64 random_;
@@ -633,8 +635,8 @@ void small_pages(Judge& judge, unsigned rounds) {
     every_data_byte(judge, code, Bytes(6, 0xff));
     for (unsigned round = 0; round < rounds; ++round) {
       for (std::uint64_t kind = 1; kind + 1 < Judge::kStripKinds; ++kind) every_data_byte(judge, code, judge.strip_of_kind(kind, 6));
+      if (round % 10 == 9) progress(judge, "one-byte strips");
     }
-    progress(judge, "one-byte strips");
   }
 }
 
@@ -657,7 +659,7 @@ void random_shapes(Judge& judge, unsigned rounds) {
     for (unsigned i = 0; i < 8; ++i) one_page(judge, kCodes[0], random_shape(judge, 64));
     for (unsigned i = 0; i < 4; ++i) one_page(judge, kCodes[1], random_shape(judge, 4));
     one_page(judge, kCodes[1], random_shape(judge, 16));
-    if (round % 20 == 19) progress(judge, "random shapes");
+    if (round % 50 == 49) progress(judge, "random shapes");
   }
 }
 
@@ -667,16 +669,26 @@ void fitting_write(Judge& judge, const Code& code, Shape shape, std::uint64_t ki
   judge.judge_kept(code, shape, after);
 }
 
+// Every strip but the last takes its data, and that one hardly ever does.
+void late_write(Judge& judge, const Code& code, Shape shape) {
+  const Bytes page = judge.random_full_cells(page_length(shape), 3, 4);
+  judge.judge_write(code, shape, page, judge.late_data(code, shape, page));
+}
+
 // The limits of L and S. With the long code the widest page has half its cells full, or the search would not end in time.
 void large_pages(Judge& judge) {
   for (const Shape shape : {Shape{64, 64}, Shape{64, 1}, Shape{1, 64}, Shape{63, 64}, Shape{64, 63}}) {
     for (const std::uint64_t kind : {0, 1, 4, 5, 6}) fitting_write(judge, kCodes[0], shape, kind);
     for (const std::uint64_t kind : {4, 5}) fitting_write(judge, kCodes[1], shape, kind);
-    for (const Code& code : kCodes) judge.judge_kept(code, shape, judge.random_page(shape));
+    for (const Code& code : kCodes) {
+      judge.judge_kept(code, shape, judge.random_page(shape));
+      late_write(judge, code, shape);
+    }
     progress(judge, "large pages");
   }
   for (const std::uint64_t kind : {0, 1, 2, 6}) fitting_write(judge, kCodes[1], Shape{1, 64}, kind);
-  for (const std::uint64_t kind : {0, 1}) fitting_write(judge, kCodes[1], Shape{64, 1}, kind);
+  for (const std::uint64_t kind : {0, 1, 2, 6}) fitting_write(judge, kCodes[1], Shape{64, 1}, kind);
+  for (const std::uint64_t kind : {0, 1}) fitting_write(judge, kCodes[1], Shape{8, 8}, kind);
   progress(judge, "large pages");
 }
 
@@ -702,7 +714,7 @@ void runs(Judge& judge, unsigned rounds) {
       run_until_spent(judge, kCodes[0], random_shape(judge, 16), small_changes);
       run_until_spent(judge, kCodes[1], random_shape(judge, 2), small_changes);
     }
-    if (round % 10 == 9) progress(judge, "runs until spent");
+    if (round % 25 == 24) progress(judge, "runs until spent");
   }
   run_until_spent(judge, kCodes[0], Shape{64, 2}, false);
   run_until_spent(judge, kCodes[0], Shape{3, 20}, false);
@@ -723,7 +735,7 @@ std::vector<std::uint32_t> grounds(const Call& call) {
   if (!erase && call.code != 3 && call.code != 7) numbers.push_back(SEGRUNOV_CODE);
   if (!within(call.bytes)) numbers.push_back(SEGRUNOV_BYTES);
   if (!within(call.strips)) numbers.push_back(SEGRUNOV_STRIPS);
-  // A product beyond 64 bits cannot be the length of any buffer here; the quotient tells without forming it.
+  // Six times the product may pass 64 bits; the quotient tells without forming it.
   if (call.page.size() % 6 != 0 || call.page.size() / 6 != data_bytes) numbers.push_back(SEGRUNOV_PAGE_LENGTH);
   if (!erase && call.data.size() != data_bytes) numbers.push_back(SEGRUNOV_DATA_LENGTH);
   if (erase && !allowed_temperature(call.tenths)) numbers.push_back(SEGRUNOV_TEMPERATURE);
@@ -754,18 +766,18 @@ std::size_t bad_length(Judge& judge, std::size_t right) {
 }
 
 std::int16_t bad_temperature(Judge& judge) {
-  const std::array<std::int16_t, 10> values = {49, 401, -1, -32768, 32767, 0, -50, -400, 306, 656};
-  const std::int16_t value = values[judge.below(values.size())];
-  return allowed_temperature(value) ? std::int16_t{401} : value;
+  const std::array<std::int16_t, 9> values = {49, 401, -1, -32768, 32767, 0, -50, -400, 656};
+  return values[judge.below(values.size())];
 }
 
-// The length that goes with L and S, also with bad ones as far as memory allows, so that often a single ground applies.
+// The length that goes with L and S, also with bad ones as far as memory allows, so that often a single ground applies. The product wraps at 2^32, as
+// a careless one would.
 std::size_t length_for(std::uint32_t bytes, std::uint32_t strips, std::size_t factor) {
-  const std::uint64_t product = std::uint64_t{bytes} * strips;
-  return product <= 65536 ? factor * static_cast<std::size_t>(product) : factor;
+  const std::uint32_t product = bytes * strips;
+  return product <= 65536 ? factor * product : factor;
 }
 
-// A full page and data it cannot take stand under half of the calls, so that 7 competes with the grounds from the input.
+// Half of the pages are full and hardly ever take the random data, so that 7 competes with the grounds from the input.
 Call spoiled_call(Judge& judge) {
   const auto function = static_cast<Function>(judge.below(kFunctions));
   Shape shape = {static_cast<std::uint32_t>(1 + judge.below(4)), static_cast<std::uint32_t>(1 + judge.below(4))};
@@ -850,6 +862,7 @@ bool every_kind_met(const Counts& counts) {
   all = met_for_both_codes("writes with a tie", counts.ties) && all;
   all = met_for_both_codes("raises of cells out of order", counts.below_one) && all;
   all = met_for_both_codes("spent after a changed strip", counts.late_spent) && all;
+  all = met_for_both_codes("spent in strip 63", counts.last_spent) && all;
   all = met_for_both_codes("writes of what is held", counts.kept) && all;
   for (unsigned f = 0; f < kFunctions; ++f) {
     for (const std::uint32_t number : refusals_of(static_cast<Function>(f))) {
@@ -864,12 +877,12 @@ int compare(std::uint64_t seed, unsigned factor) {
   std::printf("compare: seed %llu factor %u\n", static_cast<unsigned long long>(seed), factor);
   check_search();
   Judge judge(seed);
-  small_pages(judge, 5 * factor);
-  random_shapes(judge, 40 * factor);
+  small_pages(judge, 40 * factor);
+  random_shapes(judge, 200 * factor);
   large_pages(judge);
-  runs(judge, 10 * factor);
-  refusals(judge, 4000 * factor);
-  erases(judge, 500 * factor);
+  runs(judge, 50 * factor);
+  refusals(judge, 20000 * factor);
+  erases(judge, 2000 * factor);
   const bool complete = every_kind_met(judge.counts());
   if (!complete) give_up("a kind was never met");
   if (judge.calls() < 20000) give_up("fewer than 20000 calls");
