@@ -3,7 +3,9 @@ use crate::Completion;
 use crate::Refusal;
 use codes::Code;
 ghost use mathlib.Core.Path.{_≡_};
-ghost use lib.ListN.{length};
+ghost use mathlib.Core.List.{List};
+ghost use Prim.Native.Nat.{ℕ, _-_, _≤_};
+ghost use lib.ListN.{length, take, drop};
 ghost use Rattle.codes.specs.Codes.{generatorsOf};
 ghost use Rattle.page.specs.Shape.{oneTo64, stripOf};
 ghost use Rattle.page.specs.Refusals.{shapeGround, ground, numbered};
@@ -65,40 +67,51 @@ pub fn code_of(code: u32) -> Code
     }
 }
 
+// Where a strip stands in its page.
+struct Place {
+    start: usize,
+    end: usize,
+}
+
+// Where strip k stands in a page of this many bytes: from 0 to 0 where L is not from 1 to 64 or the strip lies beyond the page's end.
+fn find(size: usize, bytes: usize, k: usize) -> Place
+    ensures { λ r. ⌜ (r .start ≤ r .end) × (r .end ≤ size) ⌝ }
+    ensures { λ r. ⌜ ((page : List ℕ) → length page ≡ size → take (r .end - r .start) (drop (r .start) page) ≡ stripOf bytes k page) ⌝ }
+{
+    if bytes < 1 {
+        return Place { start: 0, end: 0 };
+    }
+    if bytes > 64 {
+        return Place { start: 0, end: 0 };
+    }
+    let n = 6 * bytes;
+    let whole = size / n;
+    if k >= whole {
+        return Place { start: 0, end: 0 };
+    }
+    let a = n * k;
+    Place {
+        start: a,
+        end: a + n,
+    }
+}
+
 // Strip k of the caller's page, as that part; the empty part where L is not from 1 to 64 or the strip lies beyond the page's end.
 pub fn strip(page: &[u8], bytes: usize, k: usize) -> &[u8]
     ensures { λ r. ⌜ now r ≡ stripOf bytes k (now (page .entry)) ⌝ }
 {
-    if bytes < 1 {
-        return &page[..0];
-    }
-    if bytes > 64 {
-        return &page[..0];
-    }
-    let n = 6 * bytes;
-    let whole = page.len() / n;
-    if k >= whole {
-        return &page[..0];
-    }
-    let a = n * k;
-    &page[a..a + n]
+    let p = find(page.len(), bytes, k);
+    let start = p.start;
+    let end = p.end;
+    &page[start..end]
 }
 
 // The same, to be written.
 pub fn strip_mut(page: &mut [u8], bytes: usize, k: usize) -> &mut [u8]
     ensures { λ r. ⌜ now r ≡ stripOf bytes k (now (page .entry)) ⌝ }
 {
-    if bytes < 1 {
-        return &mut page[..0];
-    }
-    if bytes > 64 {
-        return &mut page[..0];
-    }
-    let n = 6 * bytes;
-    let whole = page.len() / n;
-    if k >= whole {
-        return &mut page[..0];
-    }
-    let a = n * k;
-    &mut page[a..a + n]
+    let p = find(page.len(), bytes, k);
+    let start = p.start;
+    let end = p.end;
+    &mut page[start..end]
 }

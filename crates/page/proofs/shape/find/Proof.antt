@@ -1,0 +1,52 @@
+-- The tests are those of a strip in the page: L within its limits, and k below the number of whole strips.
+use mathlib.Core.Path.{_≡_, sym}
+use mathlib.Core.Bool.{true}
+use Prim.Native.Nat.{_+_, _*_, _≤_}
+use native.Mathlib.Omega.{arith}
+use native.Mathlib.Nat.{add-sub-cancel-left}
+use borrow.Author.Needs.{needs}
+use Rattle.page.specs.Shape.{oneTo64, strip}
+use Rattle.page.proofs.Fitting.{limits-in, limits-below, limits-above, part-ends, strip-outside, strip-beyond, strip-inside}
+use Rattle.page.proofs.shape.find.Statement.{statement}
+use Rattle.page.proofs.shape.find.Tie as tie
+
+-- past the first two tests L is within its limits
+bytes-in : (c : tie.Else2) → oneTo64 (c .before .before .args .bytes) ≡ true
+bytes-in c = limits-in _ (c .before .if1 .left) (c .if2 .left)
+
+-- past the third the strip ends within the page
+fit : (c : tie.Else3) → let a = c .before .before .before .args in 6 * a .bytes * a .k + 6 * a .bytes ≤ a .size
+fit c = part-ends _ _ _ (c .if3 .left)
+
+returns : tie.Need-returns
+returns c = ((omega arith, omega arith), λ page e. sym (strip-outside _ _ page (limits-below _ (c .if1 .taken))))
+
+returns-2 : tie.Need-returns-2
+returns-2 c = ((omega arith, omega arith), λ page e. sym (strip-outside _ _ page (limits-above _ (c .if2 .taken))))
+
+mul-n : tie.Need-mul-n
+mul-n c = search needs
+
+div-whole : tie.Need-div-whole
+div-whole c = search needs
+
+returns-3 : tie.Need-returns-3
+returns-3 c = ((omega arith, omega arith), λ page e. sym (strip-beyond _ _ page (bytes-in (c .before)) (rw e (c .if3 .taken))))
+
+mul-a : tie.Need-mul-a
+mul-a c = omega (arith, fit c)
+
+add-t8 : tie.Need-add-t8
+add-t8 c = omega (arith, fit c)
+
+returns-4 : tie.Need-returns-4
+unfolding strip
+returns-4 c =
+    let a = c .before .before .before .args in (
+      (omega arith, fit c),
+      λ page e.
+          rw (add-sub-cancel-left (6 * a .bytes * a .k) (6 * a .bytes), strip-inside (a .bytes) (a .k) page (bytes-in (c .before)) (rw e (fit c))),
+    )
+
+pub find-spec : {M : Type 1} → statement M
+find-spec = tie.close (tie.spec returns returns-2 mul-n div-whole returns-3 mul-a add-t8 returns-4)
