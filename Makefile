@@ -1,13 +1,21 @@
 # make test    everything: set-up, formatting, documents, every proof, every must-fail edit, every program
+# make run     runs a list of writes: examples/writes.txt, or SCRIPT=file
 # make setup   the Debian packages that the tests need
 # make figures lines of code, definitions and proof by crate
 # make measure stack and time of each call of the C interface
 # make soak    the comparison ten times longer, with a new seed (or SEED=n)
 
-.PHONY: test setup figures measure soak clean
+.PHONY: test run setup figures measure soak clean
 
 test: setup
 	@bash tests/gate
+
+# The program is proved before it is run; what the prover says is shown where it fails.
+SCRIPT = examples/writes.txt
+run: setup
+	@mkdir -p target
+	@rt check run > target/run.log 2>&1 || { cat target/run.log; exit 1; }
+	@target/bin/run < $(SCRIPT)
 
 setup:
 	@bash tests/setup

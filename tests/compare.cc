@@ -2,11 +2,11 @@
 //
 //   compare [SEED [FACTOR]]
 //
-// The graph and the reading are made from document 01 alone. A vertex is a stage of a strip with the bits of the cells of the last m stages, all that
-// the sum for a data bit needs of the past. An edge is a choice of levels for the two cells of a stage: neither below its old level, the data bit
-// right. Its weight is the cost of the two climbs. Boost gives the distance of every vertex to the end of the strip; a walk from the start along edges
-// that lose no cost, the lowest levels first, is then the write that document 01 asks for, ties included. At the first disagreement the whole case is
-// printed and the exit status is 1. FACTOR multiplies the number of random cases.
+// The graph and the reading are made from document 01 alone. A vertex is a stage of a strip with the bits of the cells of the last m stages, all
+// that the sum for a data bit needs of the past. An edge is a choice of levels for the two cells of a stage: neither below its old level, the data
+// bit right. Its weight is the cost of the two climbs. Boost gives the distance of every vertex to the end of the strip; a walk from the start along
+// edges that lose no cost, the lowest levels first, is then the write that document 01 asks for, ties included. At the first disagreement the whole
+// case is printed and the exit status is 1. FACTOR multiplies the number of random cases.
 
 #include "segrunov.h"
 
@@ -586,7 +586,7 @@ class Judge {
 // ---------------------------------------------------------------- the cases
 
 // The known cells of document 01 hold the search itself to the paper before it judges anything.
-void check_search() {
+void check_known_cells() {
   struct Known {
     std::size_t code;
     Bytes page;
@@ -614,6 +614,17 @@ void check_search() {
     const Shape shape = {1, static_cast<std::uint32_t>(known.data.size())};
     const PageSearch least = search_page(kCodes[known.code], shape, known.page, known.data);
     if (least.answer != known.answer || least.page != known.after) give_up("the search itself is wrong: a known cell of document 01");
+  }
+}
+
+void check_known_run() {
+  Bytes page(6, 0);
+  std::uint8_t byte = 0x80;
+  for (const std::uint64_t cost : {16, 16, 20, 20, 28, 28, 32}) {
+    const PageSearch least = search_page(kCodes[0], Shape{1, 1}, page, Bytes{byte});
+    if (least.answer != cost) give_up("the search itself is wrong: the known run of document 01");
+    page = least.page;
+    byte ^= 0x80;
   }
 }
 
@@ -663,6 +674,11 @@ void random_shapes(Judge& judge, unsigned rounds) {
   }
 }
 
+Shape any_shape(Judge& judge) {
+  const auto bytes = static_cast<std::uint32_t>(1 + judge.below(kMost));
+  return Shape{bytes, static_cast<std::uint32_t>(1 + judge.below(kMost))};
+}
+
 void fitting_write(Judge& judge, const Code& code, Shape shape, std::uint64_t kind) {
   const Bytes page = judge.strip_of_kind(kind, page_length(shape));
   const Bytes after = judge.judge_write(code, shape, page, judge.fitting_data(code, shape, page));
@@ -676,7 +692,7 @@ void late_write(Judge& judge, const Code& code, Shape shape) {
 }
 
 // The limits of L and S. With the long code the widest page has half its cells full, or the search would not end in time.
-void large_pages(Judge& judge) {
+void large_pages(Judge& judge, unsigned rounds) {
   for (const Shape shape : {Shape{64, 64}, Shape{64, 1}, Shape{1, 64}, Shape{63, 64}, Shape{64, 63}}) {
     for (const std::uint64_t kind : {0, 1, 4, 5, 6}) fitting_write(judge, kCodes[0], shape, kind);
     for (const std::uint64_t kind : {4, 5}) fitting_write(judge, kCodes[1], shape, kind);
@@ -689,6 +705,11 @@ void large_pages(Judge& judge) {
   for (const std::uint64_t kind : {0, 1, 2, 6}) fitting_write(judge, kCodes[1], Shape{1, 64}, kind);
   for (const std::uint64_t kind : {0, 1, 2, 6}) fitting_write(judge, kCodes[1], Shape{64, 1}, kind);
   for (const std::uint64_t kind : {0, 1}) fitting_write(judge, kCodes[1], Shape{8, 8}, kind);
+  for (unsigned round = 0; round < rounds; ++round) {
+    for (const Code& code : kCodes) late_write(judge, code, Shape{1, 64});
+    one_page(judge, kCodes[0], any_shape(judge));
+    for (const std::uint64_t kind : {4, 5}) fitting_write(judge, kCodes[1], any_shape(judge), kind);
+  }
   progress(judge, "large pages");
 }
 
@@ -875,11 +896,12 @@ bool every_kind_met(const Counts& counts) {
 
 int compare(std::uint64_t seed, unsigned factor) {
   std::printf("compare: seed %llu factor %u\n", static_cast<unsigned long long>(seed), factor);
-  check_search();
+  check_known_cells();
+  check_known_run();
   Judge judge(seed);
   small_pages(judge, 40 * factor);
   random_shapes(judge, 200 * factor);
-  large_pages(judge);
+  large_pages(judge, 30 * factor);
   runs(judge, 50 * factor);
   refusals(judge, 20000 * factor);
   erases(judge, 2000 * factor);

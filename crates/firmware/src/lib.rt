@@ -2,30 +2,16 @@
 // include/segrunov.h.
 use page::Answer;
 use page::Completion;
-use page::Refusal;
+use page::answers;
 ghost use mathlib.Core.Path.{_≡_};
 ghost use Prim.Native.Nat.{_+_, _*_};
 ghost use lib.ListN.{length, replicate};
 ghost use Rattle.cells.specs.Climbs.{house};
 ghost use Rattle.page.specs.Reading.{readPage};
-ghost use Rattle.page.specs.Refusals.{shapeGround, eraseGround, first-of, ground, numbered, refusalNumber};
+ghost use Rattle.page.specs.Refusals.{shapeGround, eraseGround, first-of, ground, numbered};
 ghost use Rattle.page.specs.Answers.{completionOf, kept, answerOf, pageOf};
 ghost use Rattle.page.specs.Promise.{Wrote};
 ghost use Rattle.firmware.specs.Words.{answerWord, completionWord};
-
-// The paper's number of a refusal.
-fn number_of(refusal: Refusal) -> u32
-    ensures { λ r. ⌜ r ≡ refusalNumber refusal ⌝ }
-{
-    match refusal {
-        Refusal::CodeUnknown => 1,
-        Refusal::BytesOutside => 2,
-        Refusal::StripsOutside => 3,
-        Refusal::PageLength => 4,
-        Refusal::DataLength => 5,
-        Refusal::EraseTemperature => 8,
-    }
-}
 
 // A number and a value in one word.
 fn word(number: u32, value: u32) -> u64
@@ -38,21 +24,14 @@ fn word(number: u32, value: u32) -> u64
 fn answer_word(answer: Answer) -> u64
     ensures { λ r. ⌜ r ≡ answerWord answer ⌝ }
 {
-    match answer {
-        Answer::Done(cost) => word(0, cost),
-        Answer::Spent(strip) => word(7, strip),
-        Answer::Refused(refusal) => word(number_of(refusal), 0),
-    }
+    word(answers::number(answer), answers::value(answer))
 }
 
 // The answer of a call that has no cost, in one word.
 fn completion_word(completion: Completion) -> u64
     ensures { λ r. ⌜ r ≡ completionWord completion ⌝ }
 {
-    match completion {
-        Completion::Done => word(0, 0),
-        Completion::Refused(refusal) => word(number_of(refusal), 0),
-    }
+    word(answers::completion_number(completion), 0)
 }
 
 // Fills a buffer of L·S bytes with what the page reads as.

@@ -1,0 +1,226 @@
+#!/usr/bin/env python3
+"""run.py PROGRAM [SEED]: the run program on many inputs, well formed and broken, compared with an independent model of document 01's text.
+
+The model judges lines and writes pages by the paper alone: levels on the branches, every level not below the old one, no digits and no cosets.
+"""
+import random
+import subprocess
+import sys
+
+CODES = {3: (2, 0o7, 0o5), 7: (6, 0o171, 0o133)}
+WEIGHTS = (16, 20, 28)
+HEAD = b"code bytes strips"
+EXAMPLE = b"code bytes strips\n3 1 1\ndata\n80\n00\n80\n"
+EXAMPLE_OUT = b"write answer cost levels\n1 0 16 1\n2 0 16 2\n3 0 20 3\n"
+
+
+# ---- cells and codes
+
+
+def bit(data, k):
+    return data[k // 8] >> (k % 8) & 1
+
+
+def level(page, c):
+    return sum(bit(page, 3 * c + i) for i in range(3))
+
+
+def raised(page, c):
+    k = next(k for k in range(3 * c, 3 * c + 3) if not bit(page, k))
+    page[k // 8] |= 1 << (k % 8)
+
+
+def data_bit(code, a, b):
+    """The sum over the bits of the present stage and the m before it, the present one first."""
+    m, g1, g2 = CODES[code]
+    return sum((g2 >> (m - i) & 1) * a[i] + (g1 >> (m - i) & 1) * b[i] for i in range(m + 1)) % 2
+
+
+def climb(old, new):
+    return sum(WEIGHTS[old:new])
+
+
+def write_strip(code, strip, data):
+    """The strip after the write and its cost, or None: the least cost, then the lowest levels at the first cell that differs."""
+    m = CODES[code][0]
+    best = {((0,) * m, (0,) * m): (0, ())}
+    for t in range(8 * len(data)):
+        old = level(strip, 2 * t), level(strip, 2 * t + 1)
+        following = {}
+        for (a, b), (cost, levels) in best.items():
+            for x in range(old[0], 4):
+                for y in range(old[1], 4):
+                    now_a, now_b = (x % 2, *a), (y % 2, *b)
+                    if data_bit(code, now_a, now_b) != bit(data, t):
+                        continue
+                    state = now_a[:m], now_b[:m]
+                    way = cost + climb(old[0], x) + climb(old[1], y), (*levels, x, y)
+                    if state not in following or way < following[state]:
+                        following[state] = way
+        best = following
+    if not best:
+        return None
+    cost, levels = min(best.values())
+    after = bytearray(strip)
+    for c, wanted in enumerate(levels):
+        for _ in range(level(strip, c), wanted):
+            raised(after, c)
+    return bytes(after), cost
+
+
+def read_strip(code, strip):
+    m = CODES[code][0]
+    stages = len(strip) * 8 // 6
+    a = [0] * m + [level(strip, 2 * t) % 2 for t in range(stages)]
+    b = [0] * m + [level(strip, 2 * t + 1) % 2 for t in range(stages)]
+    data = bytearray(stages // 8)
+    for t in range(stages):
+        data[t // 8] |= data_bit(code, a[t : t + m + 1][::-1], b[t : t + m + 1][::-1]) << (t % 8)
+    return bytes(data)
+
+
+def write_page(code, length, strips, page, data):
+    """The page after, the answer's number and the cost."""
+    after, cost = b"", 0
+    for k in range(strips):
+        strip = page[6 * length * k : 6 * length * (k + 1)]
+        own = data[length * k : length * (k + 1)]
+        # a strip that holds its data costs nothing, and no other page costs nothing: the search is spared
+        found = (strip, 0) if not any(strip) and not any(own) or read_strip(code, strip) == own else write_strip(code, strip, own)
+        if found is None:
+            return page, 7, 0
+        after, cost = after + found[0], cost + found[1]
+    return after, 0, cost
+
+
+# ---- the text
+
+
+def value(text):
+    """A value of line 2, or None."""
+    in_form = 1 <= len(text) <= 5 and all(48 <= c <= 57 for c in text) and (text[0] != 48 or len(text) == 1)
+    return int(text) if in_form else None
+
+
+def values(line):
+    fields = [value(f) for f in line.split(b" ")]
+    return fields if len(fields) == 3 and None not in fields else None
+
+
+def fault(refusal, line):
+    return b"refusal line\n%d %d\n" % (refusal, line)
+
+
+def model(text):
+    lines = text.split(b"\n")
+    unended = lines.pop()  # what follows the last byte 10
+    if len(lines) < 1 or lines[0] != HEAD:
+        return fault(6, 1)
+    given = values(lines[1]) if len(lines) > 1 else None
+    if given is None:
+        return fault(6, 2)
+    code, length, strips = given
+    for refusal, wrong in ((1, code not in CODES), (2, not 1 <= length <= 64), (3, not 1 <= strips <= 64)):
+        if wrong:
+            return fault(refusal, 2)
+    if len(lines) < 3 or lines[2] != b"data":
+        return fault(6, 3)
+    out = b"write answer cost levels\n"
+    page = bytes(6 * length * strips)
+    levels = 0
+    for number, line in enumerate(lines[3:], 1):
+        if number > 1000 or len(line) != 2 * length * strips or any(c not in b"0123456789abcdef" for c in line):
+            return out + fault(6, number + 3)
+        page_after, answer, cost = write_page(code, length, strips, page, bytes.fromhex(line.decode()))
+        if page_after != page:
+            page = page_after
+            levels = sum(bin(byte).count("1") for byte in page)
+        out += b"%d %d %d %d\n" % (number, answer, cost, levels)
+    if unended:
+        out += fault(6, len(lines) + 1)
+    return out
+
+
+# ---- inputs
+
+
+def text_of(code, length, strips, rows):
+    return HEAD + b"\n%d %d %d\ndata\n" % (code, length, strips) + b"".join(row.hex().encode() + b"\n" for row in rows)
+
+
+def well_formed(rng):
+    code = 7 if rng.random() < 0.1 else 3
+    length, strips = (1, 1) if code == 7 else (rng.randint(1, 3), rng.randint(1, 3))
+    rows = rng.randint(0, 3 if code == 7 else 12)
+    few = [bytes(rng.randrange(256) for _ in range(length * strips)) for _ in range(3)]
+    return text_of(code, length, strips, [rng.choice(few) for _ in range(rows)])
+
+
+def broken(rng):
+    """A text with one to three bytes changed, put in or taken out, or cut short."""
+    text = bytearray(well_formed(rng))
+    for _ in range(rng.randint(1, 3)):
+        at = rng.randrange(len(text) + 1)
+        byte = rng.choice(b"\n \r\0" + b"0123456789abcdefABCDEFxX-+." + bytes([rng.randrange(256)]))
+        kind = rng.randrange(4)
+        if kind == 0:
+            text.insert(at, byte)
+        elif kind == 1 and at < len(text):
+            text[at] = byte
+        elif kind == 2 and at < len(text):
+            del text[at]
+        else:
+            del text[at:]
+    return bytes(text)
+
+
+def special():
+    ended = text_of(3, 1, 1, [])
+    yield EXAMPLE
+    for cut in range(len(EXAMPLE)):
+        yield EXAMPLE[:cut]
+    for line_2 in (b"03 1 1", b"3 01 1", b"3 1 00", b"3 1", b"3 1 1 ", b" 3 1 1", b"3  1 1", b"3\t1 1", b"3 1 1\r", b"3 1 -1", b"3 1 100000", b"99999 1 1",
+                   b"000003 1 1", b"4 0 0", b"0 1 1", b"7 0 0", b"3 65 65", b"3 64 65", b"3 1 0", b"3 0 1", b"", b"3 1 1 1", b"3 1 \xb9", b"99999 99999 99999"):
+        yield HEAD + b"\n" + line_2 + b"\ndata\n80\n"
+    for line_4 in (b"8", b"800", b"8g", b"8A", b"FF", b"", b" 80", b"80 ", b"80\r", b"8\0", b"\0\0", b"0x", b"8" * 8192, b"8" * 8193, b"8" * 8194, b"8" * 100000):
+        yield ended + line_4 + b"\n"
+        yield ended + line_4
+    yield HEAD + b"x\n" + b"3 1 1\ndata\n"
+    yield HEAD + b"\n3 1 1\nDATA\n"
+    yield HEAD + b"\n3 1 1\ndata \n"
+    yield b"\n" * 5
+    yield b"\0" * 100
+    row = bytes([0x80]), bytes([0x00])
+    thousand = [row[i % 2] for i in range(1000)]
+    yield text_of(3, 1, 1, thousand)
+    yield text_of(3, 1, 1, thousand) + b"80\n"
+    yield text_of(3, 1, 1, thousand) + b"8"
+    yield text_of(3, 1, 1, thousand) + b"\n"
+    # a line of 8 MB, and 8 MB of lines
+    yield ended + b"0" * 8000000
+    yield text_of(7, 64, 64, [bytes(4096)] * 1000)
+
+
+def main():
+    program, seed = sys.argv[1], int(sys.argv[2]) if len(sys.argv) > 2 else 20261115
+    rng = random.Random(seed)
+    if model(EXAMPLE) != EXAMPLE_OUT:
+        print("run: the model does not give the paper's example")
+        return 1
+    inputs = [*special(), *(well_formed(rng) for _ in range(60)), *(broken(rng) for _ in range(600))]
+    faults = 0
+    for number, text in enumerate(inputs):
+        expected = model(text)
+        faults += b"refusal line\n" in expected
+        got = subprocess.run([program], input=text, stdout=subprocess.PIPE, check=False)
+        if got.returncode != 0 or got.stdout != expected:
+            print(f"run: input {number} of seed {seed}, exit {got.returncode}\n{text[:400]!r}\nexpected\n{expected[-400:]!r}\ngot\n{got.stdout[-400:]!r}")
+            return 1
+    if not 0 < faults < len(inputs):
+        print("run: the inputs were not of both kinds")
+        return 1
+    print(f"run: {len(inputs)} inputs agree with the model, {faults} of them at fault (seed {seed})")
+    return 0
+
+
+sys.exit(main())
