@@ -1,0 +1,53 @@
+-- The length is tested, then the digits.
+use mathlib.Core.Path.{_∙_}
+use native.Mathlib.Omega.{arith}
+use lib.ListN.{length}
+use borrow.Author.Needs.{needs}
+use borrow.Author.Tests.{not-true, not-false}
+use Rattle.script.specs.Lines.{pairs, isData}
+use Rattle.script.proofs.Judged.{data-odd, data-even, kept-false, made-true}
+use Rattle.script.proofs.lines.decode.Statement.{statement}
+use Rattle.script.proofs.lines.decode.Tie as tie
+
+returns : tie.Need-returns
+returns c =
+    let a = c .before .before .before .args in
+    let l = a .line .now in
+    let d = a .«data» .now in
+    kept-false (isData (length d) l) (pairs l) d (data-odd (length d) l (λ e. c .if1 .taken (omega arith)))
+
+returns-2 : tie.Need-returns-2
+returns-2 c =
+    let a = c .before .before .before .before .args in
+    let l = a .line .now in
+    let d = a .«data» .now in
+    kept-false (isData (length d) l) (pairs l) d (data-odd (length d) l (λ e. c .if2 .taken (omega arith)))
+
+all-hex-requires : tie.Need-all-hex-requires
+all-hex-requires c κs = search needs
+
+returns-3 : tie.Need-returns-3
+returns-3 c =
+    let a = c .before .before .before .before .before .before .args in
+    let l = a .line .now in
+    let d = a .«data» .now in
+    kept-false (isData (length d) l) (pairs l) d (data-even (length d) l _ (omega arith) (c .before .all-hex .ensures) ∙ not-true _ (c .if3 .taken))
+
+fill-requires : tie.Need-fill-requires
+fill-requires c κs = search needs
+
+same-length : tie.Need-same-length
+same-length c = search needs
+
+returns-4 : tie.Need-returns-4
+returns-4 c =
+    let a = c .before .before .before .before .before .before .before .before .before .before .args in
+    let l = a .line .now in
+    let d = a .«data» .now in
+    let h = c .before .before .before .before in
+    made-true (isData (length d) l) (pairs l) d (data-even (length d) l _ (omega arith) (h .before .all-hex .ensures) ∙ not-false _ (h .if3 .left)) (c .before .before .fill .ensures)
+
+pub decode-spec : {M : Type 1} → statement M
+decode-spec =
+    tie.close
+    (tie.spec returns returns-2 all-hex-requires returns-3 fill-requires same-length returns-4)

@@ -1,0 +1,21 @@
+-- One byte is stored.
+use native.Mathlib.Omega.{arith}
+use borrow.Author.Needs.{needs}
+use Rattle.script.proofs.Texts.{put-before}
+use Rattle.script.proofs.text.put_byte.Statement.{statement}
+use Rattle.script.proofs.text.put_byte.Tie as tie
+
+sub-at : tie.Need-sub-at
+sub-at c = search needs
+
+slice-write-buffer : tie.Need-slice-write-buffer
+slice-write-buffer c = search needs
+
+same-length : tie.Need-same-length
+same-length c = search needs
+
+returns : tie.Need-returns
+returns c = (omega arith, put-before _ _ _ (c .pre .0) (c .pre .1))
+
+pub put-byte-spec : {M : Type 1} → statement M
+put-byte-spec = tie.close (tie.spec sub-at slice-write-buffer same-length returns)
