@@ -5,8 +5,9 @@
  *   store    price the new image, and write it where the page takes it; where the page is spent, keep the old image and ask for an erase
  *   erase    within the limits of the flash's certificate, 5.0 to 40.0 degrees Celsius
  *
- * The page is worked on in RAM. flash_program must bring the cells of the flash to the levels of the RAM copy; it never has to lower one, so it needs no
- * erase. The two functions of the driver below stand for the real ones.
+ * The page is worked on in RAM. flash_program must bring the cells of the flash to the bits of the RAM copy; it never has to lower one, so it needs no
+ * erase. The three functions of the driver below stand for the real ones. A relay that can lose its supply while it erases keeps the image in a second
+ * page until the first is written again.
  */
 #include <stdbool.h>
 #include <stdio.h>
@@ -32,6 +33,11 @@ static void flash_load(void)
 static void flash_program(void)
 {
     memcpy(flash, page, sizeof page);
+}
+
+static void flash_erase(void)
+{
+    memset(flash, 0, sizeof flash);
 }
 
 enum store_result { STORED, ERASE_WANTED, FAULT };
@@ -67,6 +73,7 @@ static bool erase(const uint8_t *image, int16_t tenths)
     if (SEGRUNOV_NUMBER(segrunov_erase(STRIP_BYTES, STRIPS, page, sizeof page, tenths)) != SEGRUNOV_DONE) {
         return false;
     }
+    flash_erase();
     return store(image) == STORED;
 }
 
@@ -99,5 +106,12 @@ int main(void)
         return 1;
     }
     printf("at 25.0 degrees the page is erased and the image stored\n");
+    /* What a restart would read is what was stored. */
+    {
+        uint8_t again[sizeof image];
+        if (!start(again) || memcmp(again, image, sizeof image) != 0) {
+            return 1;
+        }
+    }
     return PAGE_BYTES == sizeof page ? 0 : 1;
 }
