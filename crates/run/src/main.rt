@@ -1,11 +1,10 @@
 // The run program: reads standard input line by line, hands each line to the library, and prints what it answers. It moves bytes only.
 use libc::STDIN_FILENO;
 use libc::STDOUT_FILENO;
-use script::Ruled;
+use script::Turn;
 use script::Values;
-use script::lines;
 use script::rows;
-use script::text;
+use script::turns;
 
 // Where the run stands: the values of line 2, the number of the line that is being read and how much of it there is, and whether to go on.
 struct Run {
@@ -28,85 +27,46 @@ fn start_mut(s: &mut [u8], n: usize) -> &mut [u8] {
     }
 }
 
-// The next line, with these values.
-fn next(values: Values, number: u64) -> Run {
+// Prints what a line's turn says; then comes the next line.
+fn follow(turn: Turn, number: u64, buffer: &[u8]) -> Run {
+    let values = turn.values;
+    let at = turn.at;
+    if at < buffer.len() {
+        io::write_all(STDOUT_FILENO, &buffer[at..]);
+    }
     Run {
         values,
         number: std::num::wrapping_add_u64(number, 1),
         used: 0,
-        on: true,
+        on: turn.on,
     }
 }
 
-// Prints a fault; the run stops.
-fn fault(values: Values, refusal: u64, number: u64) -> Run {
-    let mut buffer = [0u8; 96];
-    let at = text::fault(&mut buffer, refusal, number);
-    io::write_all(STDOUT_FILENO, &buffer[at..96]);
-    Run {
-        values,
-        number,
-        used: 0,
-        on: false,
-    }
-}
-
-// Line 2.
-fn take_values(values: Values, line: &[u8]) -> Run {
-    match lines::values(line) {
-        Ruled::Given(v) => next(v, 2),
-        Ruled::Fault(r) => fault(values, r as u64, 2),
-    }
-}
-
-// Line 3.
-fn take_head(values: Values, line: &[u8]) -> Run {
-    if !lines::is_data(line) {
-        return fault(values, 6, 3);
-    }
-    let mut buffer = [0u8; 96];
-    let at = text::head(&mut buffer);
-    io::write_all(STDOUT_FILENO, &buffer[at..96]);
-    next(values, 3)
-}
-
-// A write, and its row.
-fn print_row(values: Values, number: u64, page: &mut [u8], data: &[u8]) {
-    let mut buffer = [0u8; 96];
-    let at = rows::write(number, values, page, data, &mut buffer);
-    io::write_all(STDOUT_FILENO, &buffer[at..96]);
-}
-
-// A data line: the first of at most 1,000 is line 4.
-fn take_data(values: Values, number: u64, line: &[u8], page: &mut [u8], data: &mut [u8]) -> Run {
-    if number > 1003 {
-        return fault(values, 6, number);
-    }
-    let n = rows::size(values);
-    let part = start_mut(data, n);
-    if !lines::decode(line, part) {
-        return fault(values, 6, number);
-    }
-    let write = std::num::wrapping_sub_u64(number, 3);
-    print_row(values, write, start_mut(page, 6 * n), part);
-    next(values, number)
-}
-
-// A whole line.
+// A whole line: the first data line is line 4.
 fn take_line(values: Values, number: u64, line: &[u8], page: &mut [u8], data: &mut [u8]) -> Run {
-    if number == 1 {
-        if lines::is_names(line) {
-            return next(values, 1);
-        }
-        return fault(values, 6, 1);
-    }
-    if number == 2 {
-        return take_values(values, line);
+    let mut buffer = [0u8; 96];
+    if number > 3 {
+        let n = rows::size(values);
+        let turn = turns::write(
+            number,
+            values,
+            line,
+            start_mut(page, 6 * n),
+            start_mut(data, n),
+            &mut buffer,
+        );
+        return follow(turn, number, &buffer);
     }
     if number == 3 {
-        return take_head(values, line);
+        let turn = turns::head(values, line, &mut buffer);
+        return follow(turn, number, &buffer);
     }
-    take_data(values, number, line, page, data)
+    if number == 2 {
+        let turn = turns::values(values, line, &mut buffer);
+        return follow(turn, number, &buffer);
+    }
+    let turn = turns::names(values, line, &mut buffer);
+    follow(turn, number, &buffer)
 }
 
 // A byte. Of a line that is too long for its form only the first 8,193 bytes are kept: that many are in no form.
@@ -147,18 +107,19 @@ fn take_bytes(run: Run, bytes: &[u8], line: &mut [u8], page: &mut [u8], data: &m
 fn finish(run: Run) -> Run {
     let values = run.values;
     let number = run.number;
-    if run.used > 0 {
-        return fault(values, 6, number);
+    if run.used == 0 {
+        if number > 3 {
+            return Run {
+                values,
+                number,
+                used: 0,
+                on: false,
+            };
+        }
     }
-    if number < 4 {
-        return fault(values, 6, number);
-    }
-    Run {
-        values,
-        number,
-        used: 0,
-        on: false,
-    }
+    let mut buffer = [0u8; 96];
+    let turn = turns::stop(values, 6, number, &mut buffer);
+    follow(turn, number, &buffer)
 }
 
 // One read; the input ends where nothing comes.

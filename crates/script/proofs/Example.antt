@@ -24,7 +24,7 @@ use Rattle.page.specs.Refusals.{codeGround, bytesGround, stripsGround, pageGrou
 use Rattle.page.specs.Answers.{answerOf, pageOf}
 use Rattle.page.specs.declared.Answer.the-variants as A
 use Rattle.page.proofs.Cases.{stripTabled, answerTabled, pageTabled, answer-tabled, page-tabled}
-use Rattle.script.specs.Text.{onto, decimal, namesText, valuesText, dataText, headText, rowText}
+use Rattle.script.specs.Text.{onto, decimal, namesText, valuesText, dataText, headText, rowText, faultText}
 use Rattle.script.specs.Lines.{same, stepOf, scanOf, fiveDigits, checked, valuesOf, valuesGround, ruledOf, isHex, allHex, nibble, pairs, isData, dataOf}
 use Rattle.script.specs.Rows.{sizeOf, rowAfter, rowOf}
 use Rattle.script.specs.Runs.{linesFrom, linesOf, rowsFrom, fromData, fromValues, fromNames, runOf, exampleInput, exampleOutput}
@@ -41,17 +41,14 @@ six last = 0 ∷ 0 ∷ 0 ∷ 0 ∷ 0 ∷ last ∷ []
 says : List ℕ → List ℕ → ℕ → List ℕ → Type 0
 says before content cost after = (answerOf house 3 1 1 before content ≡ A.Done cost) × (pageOf house 3 1 1 before content ≡ after)
 
-first : says (six 0) (128 ∷ []) 16 (six 32)
+-- the three writes, evaluated
+writes : says (six 0) (128 ∷ []) 16 (six 32) × says (six 32) (0 ∷ []) 16 (six 36) × says (six 36) (128 ∷ []) 20 (six 100)
 unfolding answerTabled pageTabled stripTabled write-table table step look grow stages labels quotient register push dot branch next wanted sums joined better beats before lexltb parity-choice keep-or-raise odd weightOf cellsOf encoderOf digit listOf bitOf level Wide.dataOf unmarked strip part all first-none numbered ground codeGround shapeGround bytesGround stripsGround pageGround dataGround oneTo64 raisedTo bytesOf number raises raise triple levelAt sumOf says six
-first = (answer-tabled 3 1 1 (six 0) (128 ∷ []) ∙ refl, page-tabled 3 1 1 (six 0) (128 ∷ []) ∙ refl)
-
-second : says (six 32) (0 ∷ []) 16 (six 36)
-unfolding answerTabled pageTabled stripTabled write-table table step look grow stages labels quotient register push dot branch next wanted sums joined better beats before lexltb parity-choice keep-or-raise odd weightOf cellsOf encoderOf digit listOf bitOf level Wide.dataOf unmarked strip part all first-none numbered ground codeGround shapeGround bytesGround stripsGround pageGround dataGround oneTo64 raisedTo bytesOf number raises raise triple levelAt sumOf says six
-second = (answer-tabled 3 1 1 (six 32) (0 ∷ []) ∙ refl, page-tabled 3 1 1 (six 32) (0 ∷ []) ∙ refl)
-
-third : says (six 36) (128 ∷ []) 20 (six 100)
-unfolding answerTabled pageTabled stripTabled write-table table step look grow stages labels quotient register push dot branch next wanted sums joined better beats before lexltb parity-choice keep-or-raise odd weightOf cellsOf encoderOf digit listOf bitOf level Wide.dataOf unmarked strip part all first-none numbered ground codeGround shapeGround bytesGround stripsGround pageGround dataGround oneTo64 raisedTo bytesOf number raises raise triple levelAt sumOf says six
-third = (answer-tabled 3 1 1 (six 36) (128 ∷ []) ∙ refl, page-tabled 3 1 1 (six 36) (128 ∷ []) ∙ refl)
+writes = (
+  (answer-tabled 3 1 1 (six 0) (128 ∷ []), page-tabled 3 1 1 (six 0) (128 ∷ [])),
+  (answer-tabled 3 1 1 (six 32) (0 ∷ []), page-tabled 3 1 1 (six 32) (0 ∷ [])),
+  (answer-tabled 3 1 1 (six 36) (128 ∷ []), page-tabled 3 1 1 (six 36) (128 ∷ [])),
+)
 
 -- the row of a write that says this
 row-of : (n : ℕ) (before content : List ℕ) (cost : ℕ) (after : List ℕ) → says before content cost after → rowOf n v before content ≡ rowAfter n v (A.Done cost) after
@@ -71,8 +68,8 @@ known : rows (six 32) (six 36) ≡ headText ++ (rowAfter 1 v (A.Done 16) (six 32
 unfolding rows
 known =
     ap (λ (t : List ℕ). headText ++ t)
-    (ap₂ _++_ (row-of 1 (six 0) (128 ∷ []) 16 (six 32) first)
-    (ap₂ _++_ (row-of 2 (six 32) (0 ∷ []) 16 (six 36) second) (ap (λ (t : List ℕ). t ++ []) (row-of 3 (six 36) (128 ∷ []) 20 (six 100) third))))
+    (ap₂ _++_ (row-of 1 (six 0) (128 ∷ []) 16 (six 32) (writes .0))
+    (ap₂ _++_ (row-of 2 (six 32) (0 ∷ []) 16 (six 36) (writes .1)) (ap (λ (t : List ℕ). t ++ []) (row-of 3 (six 36) (128 ∷ []) 20 (six 100) (writes .2)))))
 
 printed : headText ++ (rowAfter 1 v (A.Done 16) (six 32) ++ (rowAfter 2 v (A.Done 16) (six 36) ++ (rowAfter 3 v (A.Done 20) (six 100) ++ []))) ≡ exampleOutput
 unfolding rowAfter rowText decimal onto raisesOf sumOf level bitOf sizeOf headText exampleOutput six v
@@ -83,6 +80,15 @@ pub example-holds : runOf exampleInput ≡ exampleOutput
 unfolding says
 example-holds =
     listed
-    ∙ ap₂ rows (first .1) (ap (λ (p : List ℕ). pageOf house 3 1 1 p (0 ∷ [])) (first .1) ∙ second .1)
+    ∙ ap₂ rows (writes .0 .1) (ap (λ (p : List ℕ). pageOf house 3 1 1 p (0 ∷ [])) (writes .0 .1) ∙ writes .1 .1)
     ∙ known
     ∙ printed
+
+-- FAULTS: no line at all, line 2 is 03 1 1, line 2 is 4 0 0 (the code is tested first), line 3 is not ended, the data are 8A
+pub faults-hold : (runOf [] ≡ faultText 6 1)
+    × (runOf (namesText ++ 10 ∷ 48 ∷ 51 ∷ 32 ∷ 49 ∷ 32 ∷ 49 ∷ 10 ∷ []) ≡ faultText 6 2)
+    × (runOf (namesText ++ 10 ∷ 52 ∷ 32 ∷ 48 ∷ 32 ∷ 48 ∷ 10 ∷ []) ≡ faultText 1 2)
+    × (runOf (namesText ++ 10 ∷ 51 ∷ 32 ∷ 49 ∷ 32 ∷ 49 ∷ 10 ∷ 100 ∷ 97 ∷ 116 ∷ 97 ∷ []) ≡ faultText 6 3)
+    × (runOf (namesText ++ 10 ∷ 51 ∷ 32 ∷ 49 ∷ 32 ∷ 49 ∷ 10 ∷ 100 ∷ 97 ∷ 116 ∷ 97 ∷ 10 ∷ 56 ∷ 65 ∷ 10 ∷ []) ≡ headText ++ faultText 6 4)
+unfolding runOf linesOf linesFrom fromNames fromValues fromData rowsFrom same ruledOf valuesOf checked scanOf stepOf fiveDigits valuesText decimal onto valuesGround codeGround bytesGround stripsGround oneTo64 namesText dataText sizeOf dataOf isData allHex isHex pairs nibble
+faults-hold = (refl, refl, refl, refl, refl)

@@ -2,6 +2,7 @@
 pub mod lines;
 pub mod rows;
 pub mod text;
+pub mod turns;
 
 // The three values of line 2.
 pub struct Values {
@@ -14,4 +15,11 @@ pub struct Values {
 pub enum Ruled {
     Given(Values),
     Fault(u32),
+}
+
+// What a whole line does: the values of line 2, where the text that is printed starts in the buffer, and whether the run goes on.
+pub struct Turn {
+    pub values: Values,
+    pub at: usize,
+    pub on: bool,
 }
