@@ -11,7 +11,7 @@ use lib.ListN.{length, getD}
 use borrow.Author.Tests.{lt-ltb, le-ltb, ltb-true, eq-eqb, ne-eqb}
 use Rattle.cells.specs.Bytes.{bitOf, Octets}
 use Rattle.cells.specs.Levels.{level}
-use Rattle.cells.specs.Raising.{raise, raises, triple, raisedTo, oneHigher, raisedCell, canRise, withBit, Unset, lowestZero}
+use Rattle.cells.specs.Raising.{raise, raisedTimes, triple, raisedTo, oneHigher, raisedCell, canRise, withBit, Unset, lowestZero}
 use Rattle.cells.proofs.Bytes.{bit-bound, length-bytesOf, bytesOf-bit, bytesOf-same, bytes-bits, octets-bytesOf}
 use Rattle.cells.proofs.Levels.{level-bound}
 use Rattle.cells.proofs.Setting.{same?, length-withBit, bit-same, bit-other, octets-withBit}
@@ -61,19 +61,19 @@ raise-ones (three {x = suc x} {y = suc y} {z = zero} p q r) h = omega arith
 raise-ones (three {x = suc x} {y = suc y} {z = suc z} p q r) h = omega arith
 
 -- several raises leave three bits
-raises-three : (n : ℕ) {l : List ℕ} → Three l → Three (raises n l)
-unfolding raises
-raises-three zero t = t
-raises-three (suc n) t = raise-three (raises-three n t)
+raised-three : (n : ℕ) {l : List ℕ} → Three l → Three (raisedTimes n l)
+unfolding raisedTimes
+raised-three zero t = t
+raised-three (suc n) t = raise-three (raised-three n t)
 
 -- each of several raises adds a one
-raises-ones : (n : ℕ) {l : List ℕ} → Three l → ones l + n ≤ 3 → ones (raises n l) ≡ ones l + n
-unfolding raises
-raises-ones zero t h = omega arith
-raises-ones (suc n) {l} t h =
-    let e : ones (raises n l) ≡ ones l + n = raises-ones n t (omega arith) in
-    let k : ones (raises n l) < 3 = omega arith in
-    raise-ones (raises-three n t) k ∙ omega arith
+raised-ones : (n : ℕ) {l : List ℕ} → Three l → ones l + n ≤ 3 → ones (raisedTimes n l) ≡ ones l + n
+unfolding raisedTimes
+raised-ones zero t h = omega arith
+raised-ones (suc n) {l} t h =
+    let e : ones (raisedTimes n l) ≡ ones l + n = raised-ones n t (omega arith) in
+    let k : ones (raisedTimes n l) < 3 = omega arith in
+    raise-ones (raised-three n t) k ∙ omega arith
 
 -- three ones are raised no more
 raise-full : {l : List ℕ} → Three l → ones l ≡ 3 → raise l ≡ l
@@ -90,33 +90,33 @@ raisedTo-length page to = length-bytesOf (length page) _
 
 module _ (page : List ℕ) (to : ℕ → ℕ) where
   -- bit i of cell c
-  pub raisedTo-bit : (c i : ℕ) → i < 3 → 3 * c + i < 8 * length page → bitOf (raisedTo page to) (3 * c + i) ≡ getD (raises (to c - level page c) (triple page c)) i 0
+  pub raisedTo-bit : (c i : ℕ) → i < 3 → 3 * c + i < 8 * length page → bitOf (raisedTo page to) (3 * c + i) ≡ getD (raisedTimes (to c - level page c) (triple page c)) i 0
   unfolding raisedTo
   raisedTo-bit c i h k =
       let x : (3 * c + i) / 3 ≡ c = omega arith in
       let y : (3 * c + i) % 3 ≡ i = omega arith in
-      bytesOf-bit (length page) _ (λ j. three-bit (raises-three (to (j / 3) - level page (j / 3)) (triple-three page (j / 3))) (j % 3)) (3 * c + i) k
-      ∙ ap₂ (λ (d j : ℕ). getD (raises (to d - level page d) (triple page d)) j 0) x y
+      bytesOf-bit (length page) _ (λ j. three-bit (raised-three (to (j / 3) - level page (j / 3)) (triple-three page (j / 3))) (j % 3)) (3 * c + i) k
+      ∙ ap₂ (λ (d j : ℕ). getD (raisedTimes (to d - level page d) (triple page d)) j 0) x y
 
   -- its levels are the given ones
   pub raisedTo-level : (c : ℕ) → 3 * c + 2 < 8 * length page → level page c ≤ to c → to c ≤ 3 → level (raisedTo page to) c ≡ to c
   unfolding level triple ones
   raisedTo-level c h l m =
       let z : 3 * c + 0 ≡ 3 * c = omega arith in
-      let e : ones (raises (to c - level page c) (triple page c)) ≡ ones (triple page c) + (to c - level page c) = raises-ones _ (triple-three page c) (omega arith) in
+      let e : ones (raisedTimes (to c - level page c) (triple page c)) ≡ ones (triple page c) + (to c - level page c) = raised-ones _ (triple-three page c) (omega arith) in
       let b = ap (bitOf (raisedTo page to)) (sym z) ∙ raisedTo-bit c 0 (omega arith) (omega arith) in
       omega (arith, b, raisedTo-bit c 1 (omega arith) (omega arith), raisedTo-bit c 2 (omega arith) h)
 
   -- a cell that isn't raised keeps its bits
   pub raisedTo-keeps : (c i : ℕ) → i < 3 → 3 * c + i < 8 * length page → to c ≤ level page c → bitOf (raisedTo page to) (3 * c + i) ≡ bitOf page (3 * c + i)
-  unfolding raises
+  unfolding raisedTimes
   raisedTo-keeps c i h k l =
       let e : to c - level page c ≡ 0 = omega arith in
-      raisedTo-bit c i h k ∙ ap (λ (n : ℕ). getD (raises n (triple page c)) i 0) e ∙ triple-bit page c i h
+      raisedTo-bit c i h k ∙ ap (λ (n : ℕ). getD (raisedTimes n (triple page c)) i 0) e ∙ triple-bit page c i h
 
   -- the page raised is the one list of bytes with these bits
   pub raisedTo-only : (after : List ℕ) → length after ≡ length page → Octets after
-      → ((c i : ℕ) → i < 3 → 3 * c + i < 8 * length page → bitOf after (3 * c + i) ≡ getD (raises (to c - level page c) (triple page c)) i 0) → after ≡ raisedTo page to
+      → ((c i : ℕ) → i < 3 → 3 * c + i < 8 * length page → bitOf after (3 * c + i) ≡ getD (raisedTimes (to c - level page c) (triple page c)) i 0) → after ≡ raisedTo page to
   unfolding raisedTo
   raisedTo-only after e b f =
       sym (bytes-bits (length page) after e (λ q h. b .below q (rw e h)))
@@ -126,21 +126,21 @@ module _ (page : List ℕ) (to : ℕ → ℕ) where
 pub raisedTo-same : (page : List ℕ) (to to′ : ℕ → ℕ) → ((c : ℕ) → 3 * c < 8 * length page → to c ≡ to′ c) → raisedTo page to ≡ raisedTo page to′
 unfolding raisedTo
 raisedTo-same page to to′ e =
-    bytesOf-same (length page) _ _ (λ k h. ap (λ (n : ℕ). getD (raises (n - level page (k / 3)) (triple page (k / 3))) (k % 3) 0) (e (k / 3) (omega arith)))
+    bytesOf-same (length page) _ _ (λ k h. ap (λ (n : ℕ). getD (raisedTimes (n - level page (k / 3)) (triple page (k / 3))) (k % 3) 0) (e (k / 3) (omega arith)))
 
 -- to raise each cell to its own level changes nothing
 pub raisedTo-none : (page : List ℕ) → Octets page → raisedTo page (level page) ≡ page
-unfolding raises
+unfolding raisedTimes
 raisedTo-none page o =
     sym (raisedTo-only page (level page) page refl o (λ c i h k.
     let d : 0 ≡ level page c - level page c = omega arith in
-    sym (triple-bit page c i h) ∙ ap (λ (n : ℕ). getD (raises n (triple page c)) i 0) d))
+    sym (triple-bit page c i h) ∙ ap (λ (n : ℕ). getD (raisedTimes n (triple page c)) i 0) d))
 
 -- the numbers of a page raised are bytes
 pub raisedTo-octets : (page : List ℕ) (to : ℕ → ℕ) → Octets (raisedTo page to)
 unfolding raisedTo
 raisedTo-octets page to =
-    octets-bytesOf (length page) _ (λ j. three-bit (raises-three (to (j / 3) - level page (j / 3)) (triple-three page (j / 3))) (j % 3))
+    octets-bytesOf (length page) _ (λ j. three-bit (raised-three (to (j / 3) - level page (j / 3)) (triple-three page (j / 3))) (j % 3))
 
 -- ONE CELL. Two tests that both hold
 both : (a b : Bool) → (a && b) ≡ true → (a ≡ true) × (b ≡ true)
@@ -219,7 +219,7 @@ module _ (page : List ℕ) (to : ℕ → ℕ) (c : ℕ) (inside : 3 * c + 2 < 8 
   module _ (to′ : ℕ → ℕ) (others : (e : ℕ) → (e ≡ c → ⊥) → to′ e ≡ to e) where
     -- to raise it by one is to raise the page to to′, which is one higher there
     pub raisedTo-more : to′ c ≡ suc (level page c) → raisedCell (raisedTo page to) c ≡ raisedTo page to′
-    unfolding raisedCell raises
+    unfolding raisedCell raisedTimes
     raisedTo-more m =
         let q = raisedTo page to in
         let l : length q ≡ length page = raisedTo-length page to in
@@ -230,14 +230,14 @@ module _ (page : List ℕ) (to : ℕ → ℕ) (c : ℕ) (inside : 3 * c + 2 < 8 
         let d : oneHigher q c c - level q c ≡ 1 = omega (arith, oneHigher-same q c) in
         let d′ : to′ c - level page c ≡ 1 = omega arith in
         rw f (raisedTo-bit q (oneHigher q c) c i h (omega arith)
-        ∙ ap₂ (λ (n : ℕ) (b : List ℕ). getD (raises n b) i 0) d triple-still
-        ∙ sym (ap (λ (n : ℕ). getD (raises n (triple page c)) i 0) d′)))
-        (λ f. raisedCell-other q c e i f h k′ ∙ raisedTo-bit page to e i h k ∙ ap (λ (n : ℕ). getD (raises (n - level page e) (triple page e)) i 0) (sym (others e f)))
+        ∙ ap₂ (λ (n : ℕ) (b : List ℕ). getD (raisedTimes n b) i 0) d triple-still
+        ∙ sym (ap (λ (n : ℕ). getD (raisedTimes n (triple page c)) i 0) d′)))
+        (λ f. raisedCell-other q c e i f h k′ ∙ raisedTo-bit page to e i h k ∙ ap (λ (n : ℕ). getD (raisedTimes (n - level page e) (triple page e)) i 0) (sym (others e f)))
         (same? e c))
 
     -- a full cell stays as it is, also where to′ is one higher there
     pub raisedTo-full : level page c ≡ 3 → to′ c ≡ suc (level page c) → raisedTo page to ≡ raisedTo page to′
-    unfolding level triple ones raises
+    unfolding level triple ones raisedTimes
     raisedTo-full f m =
         raisedTo-only page to′ (raisedTo page to) (raisedTo-length page to) (raisedTo-octets page to) (λ e i h k.
         raisedTo-bit page to e i h k ∙
@@ -245,10 +245,10 @@ module _ (page : List ℕ) (to : ℕ → ℕ) (c : ℕ) (inside : 3 * c + 2 < 8 
         (λ g.
         let d : to c - level page c ≡ 0 = omega arith in
         let d′ : to′ c - level page c ≡ 1 = omega arith in
-        rw g (ap (λ (n : ℕ). getD (raises n (triple page c)) i 0) d
+        rw g (ap (λ (n : ℕ). getD (raisedTimes n (triple page c)) i 0) d
         ∙ ap (λ (b : List ℕ). getD b i 0) (sym (raise-full (triple-three page c) f))
-        ∙ sym (ap (λ (n : ℕ). getD (raises n (triple page c)) i 0) d′)))
-        (λ g. ap (λ (n : ℕ). getD (raises (n - level page e) (triple page e)) i 0) (sym (others e g)))
+        ∙ sym (ap (λ (n : ℕ). getD (raisedTimes n (triple page c)) i 0) d′)))
+        (λ g. ap (λ (n : ℕ). getD (raisedTimes (n - level page e) (triple page e)) i 0) (sym (others e g)))
         (same? e c))
 
 -- THE LOWEST ZERO is the first bit
@@ -337,7 +337,7 @@ module _ (page : List ℕ) (c : ℕ) (r : canRise page c ≡ true) where
 
   -- to set the lowest zero is to raise the cell
   pub withBit-raises : Octets page → withBit page (lowestZero page (3 * c)) ≡ raisedCell page c
-  unfolding raisedCell raises
+  unfolding raisedCell raisedTimes
   withBit-raises o =
       let z = lowestZero page (3 * c) in
       let k : Low page c z = low page c (canRise-inside page c r) (canRise-below page c r) in
@@ -345,8 +345,8 @@ module _ (page : List ℕ) (c : ℕ) (r : canRise page c ≡ true) where
       ⊎-elim
       (λ q.
       let d : oneHigher page c c - level page c ≡ 1 = omega (arith, oneHigher-same page c) in
-      rw q (sym (triple-bit (withBit page z) c i h) ∙ ap (λ (l : List ℕ). getD l i 0) (k .bits) ∙ sym (ap (λ (n : ℕ). getD (raises n (triple page c)) i 0) d)))
+      rw q (sym (triple-bit (withBit page z) c i h) ∙ ap (λ (l : List ℕ). getD l i 0) (k .bits) ∙ sym (ap (λ (n : ℕ). getD (raisedTimes n (triple page c)) i 0) d)))
       (λ q.
       let d : oneHigher page c e - level page e ≡ 0 = omega (arith, oneHigher-other page c e q) in
-      bit-other page z (k .unset) (3 * e + i) (λ f. q (omega arith)) ∙ sym (triple-bit page e i h) ∙ sym (ap (λ (n : ℕ). getD (raises n (triple page e)) i 0) d))
+      bit-other page z (k .unset) (3 * e + i) (λ f. q (omega arith)) ∙ sym (triple-bit page e i h) ∙ sym (ap (λ (n : ℕ). getD (raisedTimes n (triple page e)) i 0) d))
       (same? e c))

@@ -1,6 +1,6 @@
 -- Raising: which bit of a cell becomes one, and the bytes after it.
 --   raise bits          the bits of a cell raised by one
---   raises n bits       raised n times
+--   raisedTimes n bits       raised n times
 --   triple page c       the three bits of cell c
 --   raisedTo page to    the page with each cell c raised to the level to c, byte for byte
 --   oneHigher page c    the levels of the page, with cell c one higher
@@ -21,9 +21,9 @@ raise (zero ∷ bits) = 1 ∷ bits
 raise (suc one ∷ bits) = suc one ∷ raise bits
 
 -- 'a cell that isn't raised keeps its bits'; n raises, one after the other
-unfoldable pub raises : ℕ → List ℕ → List ℕ
-raises zero bits = bits
-raises (suc n) bits = raise (raises n bits)
+unfoldable pub raisedTimes : ℕ → List ℕ → List ℕ
+raisedTimes zero bits = bits
+raisedTimes (suc n) bits = raise (raisedTimes n bits)
 
 -- the three bits of a cell
 unfoldable pub triple : List ℕ → ℕ → List ℕ
@@ -31,7 +31,7 @@ triple page c = bitOf page (3 * c) ∷ bitOf page (3 * c + 1) ∷ bitOf page (3 
 
 -- the page with each cell c raised to the level to c: bit k of the page is bit k mod 3 of cell k div 3
 unfoldable pub raisedTo : List ℕ → (ℕ → ℕ) → List ℕ
-raisedTo page to = bytesOf (length page) (λ k. getD (raises (to (k / 3) - level page (k / 3)) (triple page (k / 3))) (k % 3) 0)
+raisedTo page to = bytesOf (length page) (λ k. getD (raisedTimes (to (k / 3) - level page (k / 3)) (triple page (k / 3))) (k % 3) 0)
 
 -- the page's levels, with that of cell c one higher
 unfoldable pub oneHigher : List ℕ → ℕ → ℕ → ℕ

@@ -11,7 +11,7 @@ use lib.Seq.{ext-getD}
 use Rattle.codes.specs.Sequences.{_+₂_, Bits, _⊕_, conv, Agree}
 use Rattle.codes.specs.Registers.{quotient}
 use Rattle.codes.specs.Encoders.{Encoder, InMemory}
-use Rattle.codes.specs.Coset.{bit, Reads, rest, word, Written, Sized}
+use Rattle.codes.specs.Coset.{bit, Reads, rest, word, Written, BitsEach}
 use Rattle.codes.proofs.Sequences.{conv-⊕, conv-comm, ⊕-twice, agree-refl, agree-⊕, agree-conv}
 use Rattle.codes.proofs.Registers.{conv-quotient, quotient-below, quotient-conv}
 
@@ -80,7 +80,7 @@ module _ (E : Encoder) (H : InMemory E) (d : ℕ → Bits) (n : ℕ) (W : List (
     written-reads s = record { each = λ j h. column-reads-below (E .memory) (E .first) (H .first-fits) n _ u _ _ _ (bit-first s) (bit-other s j h) }
 
   -- words that read as the data are those of the digits quotient c_1
-  pub reads-written : Sized (suc (length (E .others))) n W → Reads E d n W → Written E d (quotient (E .memory) (E .first) (bit 0 W)) n W
+  pub reads-written : BitsEach (suc (length (E .others))) n W → Reads E d n W → Written E d (quotient (E .memory) (E .first) (bit 0 W)) n W
   unfolding word bit _⊕_
   reads-written z r = record { at = go }
     where
@@ -97,5 +97,5 @@ module _ (E : Encoder) (H : InMemory E) (d : ℕ → Bits) (n : ℕ) (W : List (
       go t h = ext-getD false (getD W t []) (word E d u t) (z .size t h ∙ ap suc (sym (length-rest (E .memory) (E .first) u t (E .others) d))) (λ j i. at t h j (omega (arith, z .size t h)))
 
   -- both
-  pub coset : Sized (suc (length (E .others))) n W → Reads E d n W ↔ ((u : Bits) × Written E d u n W)
+  pub coset : BitsEach (suc (length (E .others))) n W → Reads E d n W ↔ ((u : Bits) × Written E d u n W)
   coset z = (λ r. (quotient (E .memory) (E .first) (bit 0 W), reads-written z r), λ p. written-reads (p .0) (p .1))

@@ -1,8 +1,8 @@
 -- A code by its name.
 --   generatorsOf c    the memory and the generators of a code
 --   nextOf m s d      the state that follows
---   Row c r           the program's row r holds the code c
---   Carried strip q w the program's windows w hold the cell bits before byte q of the data
+--   TableRow c r           the program's row r holds the code c
+--   WindowsBefore strip q w the program's windows w hold the cell bits before byte q of the data
 use mathlib.Core.Path.{_≡_}
 use mathlib.Core.List.{List}
 use Prim.Native.Nat.{ℕ, _+_, _*_, _%_, _^_}
@@ -31,12 +31,12 @@ abbrev pub nextOf : ℕ → ℕ → ℕ → ℕ
 nextOf m s d = (2 * s + d % 2) % 2 ^ m
 
 -- a row of the program's table holds the memory and the generators of a code
-pub record Row (c : Code) (r : Table) : Type 0 where
+pub record TableRow (c : Code) (r : Table) : Type 0 where
   pub memory-is : r .memory ≡ generatorsOf c .memory
   pub first-is : r .first ≡ generatorsOf c .g1
   pub second-is : r .second ≡ generatorsOf c .g2
 
 -- the program's windows hold the last bits of the first and of the second cells of the stages before byte q
-pub record Carried (strip : List ℕ) (q : ℕ) (w : Windows) : Type 0 where
+pub record WindowsBefore (strip : List ℕ) (q : ℕ) (w : Windows) : Type 0 where
   pub first-is : w .first ≡ windowOf 7 (firstBit (level strip)) (8 * q)
   pub second-is : w .second ≡ windowOf 7 (secondBit (level strip)) (8 * q)

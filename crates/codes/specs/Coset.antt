@@ -3,7 +3,7 @@
 --   Reads E d n W      n words read as the data d
 --   word E d u t       the word of stage t that the digits u write for the data d
 --   Written E d u n W  n words are those that the digits u write
---   Sized k n W        each of n words has k bits
+--   BitsEach k n W        each of n words has k bits
 use mathlib.Core.Path.{_≡_}
 use mathlib.Core.Bool.{Bool, true, false}
 use mathlib.Core.List.{List, [], _∷_}
@@ -37,5 +37,5 @@ pub record Written (E : Encoder) (d : ℕ → Bits) (u : Bits) (n : ℕ) (W : Li
   pub at : (t : ℕ) → t < n → getD W t [] ≡ word E d u t
 
 -- each of n words has k bits
-pub record Sized (k n : ℕ) (W : List (List Bool)) : Type 0 where
+pub record BitsEach (k n : ℕ) (W : List (List Bool)) : Type 0 where
   pub size : (i : ℕ) → i < n → length (getD W i []) ≡ k

@@ -6,7 +6,7 @@ ghost use Rattle.cells.specs.Places.{number};
 ghost use Rattle.cells.specs.Levels.{level};
 ghost use Rattle.codes.specs.Generators.{short, long};
 ghost use Rattle.codes.specs.Reading.{readStrip};
-ghost use Rattle.codes.specs.Codes.{generatorsOf, nextOf, Row, Carried};
+ghost use Rattle.codes.specs.Codes.{generatorsOf, nextOf, TableRow, WindowsBefore};
 ghost use Rattle.codes.specs.Taps.{tapsOf, parityOf, wordOf, labelOf, forthOf, backOf, tappedBit};
 
 enum Name {
@@ -81,9 +81,9 @@ fn taps(memory: u32, generator: u32) -> u32
 
 // Reads byte q of a strip's data, from the windows before it.
 fn read_byte(first: u32, second: u32, strip: &[u8], q: usize, windows: Windows) -> ByteRead
-    requires { ⌜ (q < 64) × Carried (now strip) q windows ⌝ }
+    requires { ⌜ (q < 64) × WindowsBefore (now strip) q windows ⌝ }
     ensures { λ r. ⌜ r .byte ≡ number 8 (λ i. tappedBit first second (level (now (strip .entry))) (8 * q + i)) ⌝ }
-    ensures { λ r. ⌜ Carried (now (strip .entry)) (q + 1) (r .windows) ⌝ }
+    ensures { λ r. ⌜ WindowsBefore (now (strip .entry)) (q + 1) (r .windows) ⌝ }
 {
     let mut a = windows.first;
     let mut b = windows.second;
@@ -122,7 +122,7 @@ impl Code {
     }
 
     fn generators(self) -> Generators
-        ensures { λ r. ⌜ Row self r ⌝ }
+        ensures { λ r. ⌜ TableRow self r ⌝ }
     {
         let name = self.name;
         match name {

@@ -14,7 +14,7 @@ ghost use Rattle.page.specs.Promise.{Wrote};
 ghost use Rattle.firmware.specs.Words.{answerWord, completionWord};
 
 // A number and a value in one word.
-fn word(number: u32, value: u32) -> u64
+fn packed(number: u32, value: u32) -> u64
     ensures { λ r. ⌜ r ≡ number * 4294967296 + value ⌝ }
 {
     number as u64 * 4294967296 + value as u64
@@ -24,14 +24,14 @@ fn word(number: u32, value: u32) -> u64
 fn answer_word(answer: Answer) -> u64
     ensures { λ r. ⌜ r ≡ answerWord answer ⌝ }
 {
-    word(answers::number(answer), answers::value(answer))
+    packed(answers::number(answer), answers::value(answer))
 }
 
 // The answer of a call that has no cost, in one word.
 fn completion_word(completion: Completion) -> u64
     ensures { λ r. ⌜ r ≡ completionWord completion ⌝ }
 {
-    word(answers::completion_number(completion), 0)
+    packed(answers::completion_number(completion), 0)
 }
 
 // Fills a buffer of L·S bytes with what the page reads as.

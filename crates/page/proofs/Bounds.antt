@@ -11,11 +11,11 @@ use Rattle.cells.specs.Levels.{level}
 use Rattle.cells.specs.Climbs.{climb, costOf, house, weightOf}
 use Rattle.cells.proofs.Places.{sumOf-le}
 use Rattle.cells.proofs.Climbs.{climb-stay, climb-step}
-use Rattle.trellis.specs.Best as Search
+use Rattle.trellis.specs.Best.{Solution}
 use Rattle.trellis.proofs.Parity.{house-dear}
 use Rattle.page.specs.Refusals.{ground, numbered}
 use Rattle.page.specs.Computed.{pageWrite}
-use Rattle.page.specs.Answers.{turned, pageOf, answerOf}
+use Rattle.page.specs.Answers.{callPage, pageOf, answerOf}
 use Rattle.page.specs.Promise.{Wrote, done}
 use Rattle.page.specs.declared.Refusal.{Refusal}
 use Rattle.page.specs.declared.Answer.the-variants as A
@@ -31,7 +31,7 @@ module _ (code L S : ℕ) (before content : List ℕ) where
   unfolding pageOf
   write-near c h = go (ground code L S (length before) (length content)) refl (pageWrite (numbered code) house L S before content) refl
     where
-      go : (g : Option Refusal) → ground code L S (length before) (length content) ≡ g → (w : Option Search.Answer) → pageWrite (numbered code) house L S before content ≡ w → level (turned g w before) c ≤ suc (level before c)
+      go : (g : Option Refusal) → ground code L S (length before) (length content) ≡ g → (w : Option Solution) → pageWrite (numbered code) house L S before content ≡ w → level (callPage g w before) c ≤ suc (level before c)
       go (some r) e w f = omega arith
       go none e none f = omega arith
       go none e (some a) f =

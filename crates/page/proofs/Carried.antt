@@ -16,13 +16,13 @@ use Rattle.cells.specs.Raising.{raisedTo}
 use Rattle.cells.proofs.Bytes.{bytesOf-bit}
 use Rattle.cells.proofs.Raising.{raisedTo-length, raisedTo-same}
 use Rattle.codes.specs.Generators.{Generators}
-use Rattle.trellis.specs.Best.{Answer}
+use Rattle.trellis.specs.Best.{Solution}
 use Rattle.trellis.specs.Strip.{Dear, stepsOf}
 use Rattle.trellis.specs.Demand.{levelAt}
 use Rattle.trellis.specs.Backward.{closed, costsOver, decisionAt}
 use Rattle.trellis.specs.Forward.{followed, wantedOf, carriedTo}
-use Rattle.trellis.specs.Outcomes.{judged, outcomeOf}
-use Rattle.trellis.specs.Wide.{outcomeFor}
+use Rattle.trellis.specs.Outcomes.{judged, toldOutcome}
+use Rattle.trellis.specs.Wide.{solutionOutcome}
 use Rattle.trellis.specs.declared.Outcome.the-variants as O
 use Rattle.trellis.proofs.Best.{the-best}
 use Rattle.trellis.proofs.Prices.{Suits}
@@ -33,12 +33,12 @@ use Rattle.page.specs.Shape.{strip, part}
 use Rattle.page.specs.Computed.{stripWrite, pageWrite}
 use Rattle.page.specs.Plans.{Planned, Carried}
 use Rattle.page.proofs.Parts.{strip-length, strip-level, part-number, part-place}
-use Rattle.page.proofs.Levels.{strip-wide}
+use Rattle.page.proofs.Levels.{strip-width}
 use Rattle.page.proofs.Demand.{strip-solves}
 use Rattle.page.proofs.Turning.{raisedTo-strip, pages-same, PartOf, all-each}
 
 -- an outcome that is done has a cost below closed
-done-below : (v c : ℕ) → outcomeOf v ≡ O.Done c → c < closed
+done-below : (v c : ℕ) → toldOutcome v ≡ O.Done c → c < closed
 done-below v c = go (ltb v closed) refl
   where
     go : (b : Bool) → ltb v closed ≡ b → judged b v ≡ O.Done c → c < closed
@@ -46,19 +46,19 @@ done-below v c = go (ltb v closed) refl
     go false e f = absurd (let z : _≡_ {A = ℕ} 0 1 = cc in omega arith)
 
 -- so no strip's write costs as much
-pub strip-below : (G : Generators) (W : List ℕ) → Suits G W → (L S : ℕ) → L ≤ 64 → (before content : List ℕ) (k : ℕ) (a : Answer) → stripWrite G W L S before content k ≡ some a → a .cost < 262144
-unfolding stripWrite outcomeFor
+pub strip-below : (G : Generators) (W : List ℕ) → Suits G W → (L S : ℕ) → L ≤ 64 → (before content : List ℕ) (k : ℕ) (a : Solution) → stripWrite G W L S before content k ≡ some a → a .cost < 262144
+unfolding stripWrite solutionOutcome
 strip-below G W K L S most before content k a e =
-    done-below (getD (costsOver G W (strip L k before) (part L k content) (8 * L) (8 * L)) 0 0) (a .cost) (outcome-is G W K L most (strip L k before) (part L k content) ∙ ap outcomeFor e)
+    done-below (getD (costsOver G W (strip L k before) (part L k content) (8 * L) (8 * L)) 0 0) (a .cost) (outcome-is G W K L most (strip L k before) (part L k content) ∙ ap solutionOutcome e)
 
 module _ (G : Generators) (W : List ℕ) (K : Suits G W) (D : Dear (stepsOf W)) (L S : ℕ) (most : L ≤ 64) (before content : List ℕ) (size : length before ≡ 6 * L * S) where
   -- a strip's write has 16·L levels
-  strip-levels : (k : ℕ) (b : Answer) → stripWrite G W L S before content k ≡ some b → length (b .levels) ≡ 16 * L
+  strip-levels : (k : ℕ) (b : Solution) → stripWrite G W L S before content k ≡ some b → length (b .levels) ≡ 16 * L
   strip-levels k b e =
-      strip-wide G (K .proper .leads) W L S before content k .wide _ _ (the-best (rw e at (strip-solves G (K .proper .leads) (K .reach) W D L S before content size k)) .valid)
+      strip-width G (K .proper .leads) W L S before content k .width _ _ (the-best (rw e at (strip-solves G (K .proper .leads) (K .reach) W D L S before content size k)) .valid)
 
   -- strip k's levels in an answer are those that its own digits carry out
-  pub own-carried : (a : Answer) → pageWrite G W L S before content ≡ some a → (k : ℕ) → k < S → (i : ℕ) → i < 16 * L
+  pub own-carried : (a : Solution) → pageWrite G W L S before content ≡ some a → (k : ℕ) → k < S → (i : ℕ) → i < 16 * L
       → carriedTo G (strip L k before) (part L k content) (followed (decisionAt G W (strip L k before) (part L k content) (8 * L))) i ≡ levelAt (a .levels) (16 * L * k + i)
   unfolding pageWrite stripWrite levelAt
   own-carried a e k h i l =
@@ -67,7 +67,7 @@ module _ (G : Generators) (W : List ℕ) (K : Suits G W) (D : Dear (stepsOf W)) 
       ∙ getD-take (16 * L) (drop (16 * L * k) (a .levels)) i 0 l ∙ getD-drop (16 * L * k) (a .levels) i 0
 
   -- THE PAGE AFTER IT, where there is a write
-  pub carried-page : (digits after : List ℕ) (a : Answer) → pageWrite G W L S before content ≡ some a → Planned G W L S before content digits → Carried G L S before content digits after
+  pub carried-page : (digits after : List ℕ) (a : Solution) → pageWrite G W L S before content ≡ some a → Planned G W L S before content digits → Carried G L S before content digits after
       → after ≡ raisedTo before (levelAt (a .levels))
   carried-page digits after a e p c =
       pages-same L S after (raisedTo before (levelAt (a .levels))) (c .same-size ∙ size) (raisedTo-length before _ ∙ size)
@@ -83,7 +83,7 @@ module _ (G : Generators) (W : List ℕ) (K : Suits G W) (D : Dear (stepsOf W)) 
           digit t m = ap (λ (x : List ℕ). bitOf x t) (p .planned a e k h) ∙ bytesOf-bit L (followed dec) (followed-bound dec) t m
 
   -- NO CELL RISES BY MORE THAN ONE
-  pub one-at-most : (a : Answer) → pageWrite G W L S before content ≡ some a → (c : ℕ) → c < 16 * L * S → levelAt (a .levels) c ≤ suc (level before c)
+  pub one-at-most : (a : Solution) → pageWrite G W L S before content ≡ some a → (c : ℕ) → c < 16 * L * S → levelAt (a .levels) c ≤ suc (level before c)
   unfolding carriedTo
   one-at-most a e c h =
       let k : ℕ = c / (16 * L) in

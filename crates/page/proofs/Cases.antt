@@ -8,7 +8,7 @@ use lib.ListN.{length}
 use Rattle.cells.specs.Places.{listOf, sumOf, number}
 use Rattle.cells.specs.Bytes.{bitOf, bytesOf}
 use Rattle.cells.specs.Levels.{level}
-use Rattle.cells.specs.Raising.{raise, raises, triple, raisedTo}
+use Rattle.cells.specs.Raising.{raise, raisedTimes, triple, raisedTo}
 use Rattle.cells.specs.Climbs.{house, weightOf}
 use Rattle.codes.specs.Generators.{digit}
 use Rattle.codes.specs.Reading.{ago, dataBit, firstBit, secondBit}
@@ -16,7 +16,7 @@ use Rattle.codes.specs.Sequences.{odd}
 use Rattle.codes.specs.Registers.{dot, push, register, quotient}
 use Rattle.codes.specs.Encoders.{encoderOf}
 use Rattle.codes.proofs.Encoders.{encoder-in-memory}
-use Rattle.trellis.specs.Best as Search
+use Rattle.trellis.specs.Best.{Solution}
 use Rattle.trellis.specs.Strip.{stepsOf, cellsOf}
 use Rattle.trellis.specs.Trellis.{before, lexltb, beats, better, joined, all, first-none}
 use Rattle.trellis.specs.Search.{labels, sums, wanted, branch, next, stages}
@@ -31,9 +31,9 @@ use Rattle.trellis.proofs.Table.{write-by-table}
 use Rattle.trellis.proofs.Room.{room-same}
 use Rattle.page.specs.Shape.{strip, part, oneTo64}
 use Rattle.page.specs.Reading.{stripLevels, readPage}
-use Rattle.page.specs.Refusals.{codeGround, bytesGround, stripsGround, pageGround, dataGround, shapeGround, ground, numbered}
+use Rattle.page.specs.Refusals.{codeGround, bytesGround, stripsGround, limitsGround, sizesGround, pageGround, dataGround, shapeGround, ground, numbered}
 use Rattle.page.specs.Computed.{stripWrite, pageWrite, spentStrip}
-use Rattle.page.specs.Answers.{answered, turned, answerOf, pageOf}
+use Rattle.page.specs.Answers.{callAnswer, callPage, answerOf, pageOf}
 use Rattle.page.specs.Known.{AllSay, cases}
 use Rattle.page.specs.declared.Answer.{Answer}
 use Rattle.page.proofs.Kept.{numbered-proper}
@@ -41,7 +41,7 @@ use Rattle.page.proofs.Demand.{wide-in-memory}
 
 -- the writes of the strips by tables of states, with the code's own memory
 module _ (code L S : ℕ) (page content : List ℕ) where
-  unfoldable pub stripTabled : ℕ → Option Search.Answer
+  unfoldable pub stripTabled : ℕ → Option Solution
   stripTabled k = write-table (encoderOf (numbered code)) (dataOf (part L k content)) (parity-choice (stepsOf house)) 2 (8 * L) (unmarked L (strip L k page))
 
   -- they are the strips' writes
@@ -56,25 +56,25 @@ module _ (code L S : ℕ) (page content : List ℕ) where
 -- a call of write, evaluated
 module _ (code L S : ℕ) (page content : List ℕ) where
   unfoldable pub answerTabled : Answer
-  answerTabled = answered (ground code L S (length page) (length content)) (all (stripTabled code L S page content) (listOf S (λ k. k))) (first-none (stripTabled code L S page content) (listOf S (λ k. k)))
+  answerTabled = callAnswer (ground code L S (length page) (length content)) (all (stripTabled code L S page content) (listOf S (λ k. k))) (first-none (stripTabled code L S page content) (listOf S (λ k. k)))
 
   unfoldable pub pageTabled : List ℕ
-  pageTabled = turned (ground code L S (length page) (length content)) (all (stripTabled code L S page content) (listOf S (λ k. k))) page
+  pageTabled = callPage (ground code L S (length page) (length content)) (all (stripTabled code L S page content) (listOf S (λ k. k))) page
 
   -- THE EVALUATED DEFINITION IS THE ONE OF DEMAND 3: the answer
   pub answer-tabled : answerOf house code L S page content ≡ answerTabled
   unfolding answerOf answerTabled pageWrite spentStrip
   answer-tabled =
-      ap (λ (w : ℕ → Option Search.Answer). answered (ground code L S (length page) (length content)) (all w (listOf S (λ k. k))) (first-none w (listOf S (λ k. k)))) (strip-tabled code L S page content)
+      ap (λ (w : ℕ → Option Solution). callAnswer (ground code L S (length page) (length content)) (all w (listOf S (λ k. k))) (first-none w (listOf S (λ k. k)))) (strip-tabled code L S page content)
 
   -- and the page
   pub page-tabled : pageOf house code L S page content ≡ pageTabled
   unfolding pageOf pageTabled pageWrite
-  page-tabled = ap (λ (w : ℕ → Option Search.Answer). turned (ground code L S (length page) (length content)) (all w (listOf S (λ k. k))) page) (strip-tabled code L S page content)
+  page-tabled = ap (λ (w : ℕ → Option Solution). callPage (ground code L S (length page) (length content)) (all w (listOf S (λ k. k))) page) (strip-tabled code L S page content)
 
 -- the table, evaluated
 evaluated : AllSay answerTabled pageTabled cases
-unfolding answerTabled pageTabled stripTabled write-table table step look grow stages labels quotient register push dot branch next wanted sums joined better beats before lexltb parity-choice keep-or-raise odd weightOf cellsOf encoderOf digit listOf bitOf level dataOf unmarked strip part all first-none numbered ground codeGround shapeGround bytesGround stripsGround pageGround dataGround oneTo64 raisedTo bytesOf number raises raise triple levelAt readPage dataBit sumOf ago firstBit secondBit stripLevels
+unfolding answerTabled pageTabled stripTabled write-table table step look grow stages labels quotient register push dot branch next wanted sums joined better beats before lexltb parity-choice keep-or-raise odd weightOf cellsOf encoderOf digit listOf bitOf level dataOf unmarked strip part all first-none numbered ground codeGround limitsGround sizesGround shapeGround bytesGround stripsGround pageGround dataGround oneTo64 raisedTo bytesOf number raisedTimes raise triple levelAt readPage dataBit sumOf ago firstBit secondBit stripLevels
 evaluated = (
   (refl, refl),
   (

@@ -22,7 +22,7 @@ use Rattle.cells.proofs.Raising.{raisedTo-length, raisedTo-level, raisedTo-same
 use Rattle.codes.specs.Generators.{Generators, digit}
 use Rattle.codes.specs.Sequences.{odd}
 use Rattle.codes.specs.Encoders.{InMemory, encoderOf}
-use Rattle.trellis.specs.Best.{Answer, Best, Solves, Wide, All, FirstLower}
+use Rattle.trellis.specs.Best.{Solution, Best, Solves, Width, All, LexLower}
 use Rattle.trellis.specs.Strip.{Dear, stepsOf}
 use Rattle.trellis.specs.Parity.{parity, parity-choice}
 use Rattle.trellis.specs.Demand.{levelAt}
@@ -40,7 +40,7 @@ use Rattle.page.specs.Computed.{stripWrite, pageWrite, spentStrip}
 use Rattle.page.proofs.Parts.{strip-length, part-length, part-octets, place-inside}
 use Rattle.page.proofs.Readings.{cells-same, reads-of, reads-only}
 use Rattle.page.proofs.Strips.{Parts, all-parts, parts-all, ClosedAt, closed-at}
-use Rattle.page.proofs.Levels.{stripProblem, PageLevels, strip-wide, levels-all, all-levels}
+use Rattle.page.proofs.Levels.{stripProblem, PageLevels, strip-width, levels-all, all-levels}
 
 -- the levels of a page as a list
 levelsOf : ℕ → List ℕ → List ℕ
@@ -68,7 +68,7 @@ any [] = no-more
 any (k ∷ l) = and-each tt (any l)
 
 -- lower at the first place is lower at the first cell
-lower-at-first : (n : ℕ) (after other : List ℕ) (y : List ℕ) → length y ≡ n → ((c : ℕ) → c < n → levelAt y c ≡ level after c) → FirstLower y (levelsOf n other) → LowerAtFirst n after other
+lower-at-first : (n : ℕ) (after other : List ℕ) (y : List ℕ) → length y ≡ n → ((c : ℕ) → c < n → levelAt y c ≡ level after c) → LexLower y (levelsOf n other) → LowerAtFirst n after other
 unfolding levelsOf levelAt
 lower-at-first n after other y e f r = record {
   cell = r .place;
@@ -106,10 +106,10 @@ module _ (G : Generators) (lead : digit (G .memory) (G .g1) 0 ≡ 1) (small : G 
   -- so the strips' writes are the page's best
   solved : Solves (All (stripProblem G W L before content) (listOf S (λ k. k))) (pageWrite G W L S before content)
   unfolding pageWrite
-  solved = all-solves (stripWrite G W L S before content) (stripProblem G W L before content) (λ k. 16 * L) Any (λ k n. strip-solves k) (strip-wide G lead W L S before content) (any (listOf S (λ k. k)))
+  solved = all-solves (stripWrite G W L S before content) (stripProblem G W L before content) (λ k. 16 * L) Any (λ k n. strip-solves k) (strip-width G lead W L S before content) (any (listOf S (λ k. k)))
 
-  page-wide : Wide (16 * L * S) (All (stripProblem G W L before content) (listOf S (λ k. k)))
-  page-wide = record { wide = λ c y a. all-levels G lead W L S before content c y a .0 }
+  page-width : Width (16 * L * S) (All (stripProblem G W L before content) (listOf S (λ k. k)))
+  page-width = record { width = λ c y a. all-levels G lead W L S before content c y a .0 }
 
   -- the levels of a page that could be are admitted, at what the change costs
   could-all : (other : List ℕ) → Could G L S before content other → All (stripProblem G W L before content) (listOf S (λ k. k)) (costOf (weightOf W) (16 * L * S) before other) (levelsOf (16 * L * S) other)
@@ -137,17 +137,17 @@ module _ (G : Generators) (lead : digit (G .memory) (G .g1) 0 ≡ 1) (small : G 
   }
 
   -- what an answer's levels are
-  answer-levels : (a : Answer) → pageWrite G W L S before content ≡ some a
+  answer-levels : (a : Solution) → pageWrite G W L S before content ≡ some a
       → (length (a .levels) ≡ 16 * L * S) × PageLevels G L S before content (levelAt (a .levels)) × (a .cost ≡ sumOf (16 * L * S) (λ c. climb (weightOf W) (level before c) (levelAt (a .levels) c)))
   answer-levels a e = all-levels G lead W L S before content (a .cost) (a .levels) (the-best (rw e at solved) .valid)
 
   -- the page raised to them has them
-  pub answer-raised : (a : Answer) → pageWrite G W L S before content ≡ some a → (c : ℕ) → c < 16 * L * S → level (raisedTo before (levelAt (a .levels))) c ≡ levelAt (a .levels) c
+  pub answer-raised : (a : Solution) → pageWrite G W L S before content ≡ some a → (c : ℕ) → c < 16 * L * S → level (raisedTo before (levelAt (a .levels))) c ≡ levelAt (a .levels) c
   answer-raised a e = raised-level (a .levels) (answer-levels a e .1)
 
   -- AN ANSWER: the page raised to its levels is the cheapest
   module _ (fill : length content ≡ L * S) (bytes : Octets content) where
-    pub cheapest : (a : Answer) → pageWrite G W L S before content ≡ some a → Cheapest (weightOf W) G L S before content (raisedTo before (levelAt (a .levels))) (a .cost)
+    pub cheapest : (a : Solution) → pageWrite G W L S before content ≡ some a → Cheapest (weightOf W) G L S before content (raisedTo before (levelAt (a .levels))) (a .cost)
     cheapest a e = record {
       could = levels-could fill bytes (a .levels) (v .1);
       raised = raisedTo-same before (levelAt (a .levels)) (level after) (λ c h. sym (raised-level (a .levels) (v .1) c (omega arith)));
@@ -155,7 +155,7 @@ module _ (G : Generators) (lead : digit (G .memory) (G .g1) 0 ≡ 1) (small : G 
       least = λ other p. cost-least best _ _ (could-all other p);
       among-equals = λ other p f c h n.
           lower-at-first (16 * L * S) after other (a .levels) (v .0) (λ i k. sym (raised-level (a .levels) (v .1) i k))
-          (levels-first (16 * L * S) page-wide best _ _ (could-all other p) f
+          (levels-first (16 * L * S) page-width best _ _ (could-all other p) f
           (λ q. n (raised-level (a .levels) (v .1) c h ∙ ap (λ (l : List ℕ). levelAt l c) q ∙ level-there (16 * L * S) other c h)));
     }
       where
@@ -177,7 +177,7 @@ module _ (G : Generators) (lead : digit (G .memory) (G .g1) 0 ≡ 1) (small : G 
   unfolding pageWrite spentStrip
   first-closed e =
       closed-at (stripProblem G W L before content) S (λ k. k) _
-      (none-first (stripWrite G W L S before content) (stripProblem G W L before content) (λ k. 16 * L) Any (λ k n. strip-solves k) (strip-wide G lead W L S before content) (any (listOf S (λ k. k))) e)
+      (none-first (stripWrite G W L S before content) (stripProblem G W L before content) (λ k. 16 * L) Any (λ k n. strip-solves k) (strip-width G lead W L S before content) (any (listOf S (λ k. k))) e)
 
 -- A STRIP ALONE is a page of one strip
 strip-zero : (L : ℕ) (bytes : List ℕ) → length bytes ≡ 6 * L → strip L 0 bytes ≡ bytes
@@ -205,7 +205,7 @@ module _ (G : Generators) (lead : digit (G .memory) (G .g1) 0 ≡ 1) (small : G 
     -- a pattern that could be is a write of strip k
     pattern-write : (other : List ℕ) → Could G L 1 (strip L k before) (part L k content) other → ((d : ℕ) (y : List ℕ) → stripProblem G W L before content k d y → ⊥) → ⊥
     pattern-write other p closed =
-        let q : Parts (stripProblem G W L (strip L k before) (part L k content)) (16 * L) 1 (λ j. j) _ _ = all-parts (stripProblem G W L (strip L k before) (part L k content)) (16 * L) (strip-wide G lead W L 1 (strip L k before) (part L k content)) 1 (λ j. j) _ _ (could-all G lead small W D L 1 (strip L k before) (part L k content) alone-size other p) in
+        let q : Parts (stripProblem G W L (strip L k before) (part L k content)) (16 * L) 1 (λ j. j) _ _ = all-parts (stripProblem G W L (strip L k before) (part L k content)) (16 * L) (strip-width G lead W L 1 (strip L k before) (part L k content)) 1 (λ j. j) _ _ (could-all G lead small W D L 1 (strip L k before) (part L k content) alone-size other p) in
         let e : 0 < 1 = omega arith in
         closed _ _ (rw same-problem at (q .valid 0 e))
 
@@ -218,7 +218,7 @@ module _ (G : Generators) (lead : digit (G .memory) (G .g1) 0 ≡ 1) (small : G 
     }
       where
         long : length y ≡ 16 * L
-        long = strip-wide G lead W L S before content k .wide d y w
+        long = strip-width G lead W L S before content k .width d y w
 
         one : All (stripProblem G W L (strip L k before) (part L k content)) (listOf 1 (λ j. j)) (sumOf 1 (λ j. d)) y
         one = parts-all (stripProblem G W L (strip L k before) (part L k content)) (16 * L) 1 (λ j. j) (λ j. d) y (long ∙ omega arith) valid

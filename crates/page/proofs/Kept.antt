@@ -12,13 +12,13 @@ use Rattle.cells.specs.Climbs.{house}
 use Rattle.codes.specs.Generators.{short, long, digit}
 use Rattle.codes.specs.Encoders.{Proper}
 use Rattle.codes.proofs.Encoders.{short-proper, long-proper}
-use Rattle.trellis.specs.Best as Search
+use Rattle.trellis.specs.Best.{Solution}
 use Rattle.trellis.specs.Strip.{Dear, stepsOf}
 use Rattle.trellis.proofs.Prices.{Suits}
 use Rattle.trellis.proofs.Parity.{house-dear}
 use Rattle.page.specs.Refusals.{ground, numbered}
 use Rattle.page.specs.Computed.{pageWrite, spentStrip}
-use Rattle.page.specs.Answers.{answered, turned, answerOf, pageOf}
+use Rattle.page.specs.Answers.{callAnswer, callPage, answerOf, pageOf}
 use Rattle.page.specs.Demand.{Could}
 use Rattle.page.specs.Promise.{Wrote, done, spent, refused}
 use Rattle.page.specs.declared.Refusal.{Refusal}
@@ -57,8 +57,8 @@ module _ (W : List ℕ) (D : Dear (stepsOf W)) (code L S : ℕ) (before content 
   unfolding pageOf answerOf
   promise-kept = go (ground code L S (length before) (length content)) refl (pageWrite (numbered code) W L S before content) refl
     where
-      go : (g : Option Refusal) → ground code L S (length before) (length content) ≡ g → (w : Option Search.Answer) → pageWrite (numbered code) W L S before content ≡ w
-          → Wrote W code L S before content (turned g w before) (answered g w (spentStrip (numbered code) W L S before content))
+      go : (g : Option Refusal) → ground code L S (length before) (length content) ≡ g → (w : Option Solution) → pageWrite (numbered code) W L S before content ≡ w
+          → Wrote W code L S before content (callPage g w before) (callAnswer g w (spentStrip (numbered code) W L S before content))
       go (some r) e w f = refused e refl
       go none e (some a) f =
           let i = in-order code L S (length before) (length content) e in

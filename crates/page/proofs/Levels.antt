@@ -16,7 +16,7 @@ use Rattle.cells.proofs.Bytes.{bit-bound}
 use Rattle.codes.specs.Generators.{Generators, digit}
 use Rattle.codes.specs.Reading.{dataBit, firstBit, secondBit}
 use Rattle.codes.specs.Encoders.{encoderOf}
-use Rattle.trellis.specs.Best.{Problem, Wide, All}
+use Rattle.trellis.specs.Best.{Problem, Width, All}
 use Rattle.trellis.specs.Strip.{Cell, stepsOf, Rise, Rewrite}
 use Rattle.trellis.specs.Parity.{parity}
 use Rattle.trellis.specs.Demand.{cellAt, levelAt, CouldBe, pays}
@@ -65,9 +65,9 @@ module _ (G : Generators) (lead : digit (G .memory) (G .g1) 0 ≡ 1) (W : List �
 
   module _ (S : ℕ) (before content : List ℕ) where
     -- every write of a strip has 16·L levels
-    pub strip-wide : (k : ℕ) → Wide (16 * L) (stripProblem G W L before content k)
+    pub strip-width : (k : ℕ) → Width (16 * L) (stripProblem G W L before content k)
     unfolding stripProblem
-    strip-wide k = record { wide = λ c y w. raised-length (w .raised) ∙ length-unmarked (strip L k before) }
+    strip-width k = record { width = λ c y w. raised-length (w .raised) ∙ length-unmarked (strip L k before) }
 
     -- strip j's levels among all levels y
     part-level : (y : List ℕ) (j c : ℕ) → c < 16 * L → levelAt (take (16 * L) (drop (16 * L * j) y)) c ≡ levelAt y (16 * L * j + c)
@@ -114,7 +114,7 @@ module _ (G : Generators) (lead : digit (G .memory) (G .g1) 0 ≡ 1) (W : List �
     )
       where
         q : Parts (stripProblem G W L before content) (16 * L) S (λ k. k) c y
-        q = all-parts (stripProblem G W L before content) (16 * L) strip-wide S (λ k. k) c y a
+        q = all-parts (stripProblem G W L before content) (16 * L) strip-width S (λ k. k) c y a
 
         could : (j : ℕ) (h : j < S) → CouldBe (stepsOf W) G (8 * L) (bitOf (part L j content)) (unmarked L (strip L j before)) (take (16 * L) (drop (16 * L * j) y))
             × (pays (stepsOf W) (unmarked L (strip L j before)) (take (16 * L) (drop (16 * L * j) y)) ≡ q .costs j)

@@ -19,12 +19,12 @@ use Rattle.codes.specs.Codes.{generatorsOf}
 use Rattle.codes.specs.declared.Code.{Code}
 use Rattle.codes.proofs.Encoders.{proper, second-leads}
 use Rattle.codes.proofs.Parities.{memory-bounds}
-use Rattle.trellis.specs.Best as Search
+use Rattle.trellis.specs.Best.{Solution}
 use Rattle.trellis.specs.Strip.{Dear, stepsOf}
 use Rattle.trellis.specs.Backward.{wordsOf, costsOver, decisionAt, Shaped}
 use Rattle.trellis.specs.Forward.{followed, carriedTo}
-use Rattle.trellis.specs.Outcomes.{outcomeOf}
-use Rattle.trellis.specs.Wide.{outcomeFor}
+use Rattle.trellis.specs.Outcomes.{toldOutcome}
+use Rattle.trellis.specs.Wide.{solutionOutcome}
 use Rattle.trellis.specs.declared.Outcome.{Outcome}
 use Rattle.trellis.proofs.Prices.{Suits}
 use Rattle.trellis.proofs.Program.{outcome-is}
@@ -32,7 +32,7 @@ use Rattle.page.specs.Shape.{strip, part, stripOf, Sized}
 use Rattle.page.specs.Computed.{stripWrite, pageWrite, spentStrip}
 use Rattle.page.specs.Totals.{noTotal, added, totalFrom, answerFor}
 use Rattle.page.specs.Refusals.{ground, numbered}
-use Rattle.page.specs.Answers.{completionOf, answered, turned, answerOf, pageOf}
+use Rattle.page.specs.Answers.{completionOf, callAnswer, callPage, answerOf, pageOf}
 use Rattle.page.specs.Promise.{Wrote}
 use Rattle.page.specs.Plans.{Planned, Carried}
 use Rattle.page.specs.declared.Refusal.{Refusal}
@@ -90,7 +90,7 @@ module _ {L S : ℕ} {page content : List ℕ} (Z : Sized L S page content) {k :
 
   -- its outcome is that of the strip's write
   pub turn-outcome : {G : Generators} {W : List ℕ} → Suits G W → {o : Outcome} → let d = take (L * k + L - L * k) (drop (L * k) content) in
-      o ≡ outcomeOf (getD (costsOver G W x d (8 * length d) (8 * length d)) 0 0) → o ≡ outcomeFor (stripWrite G W L S page content k)
+      o ≡ toldOutcome (getD (costsOver G W x d (8 * length d) (8 * length d)) 0 0) → o ≡ solutionOutcome (stripWrite G W L S page content k)
   unfolding stripWrite
   turn-outcome {G} {W} K e = (rw (data-length, lent L k content, strip-is) at e) ∙ outcome-is G W K L (one-to-64 L (Z .bytes-in) .1) (strip L k page) (part L k content)
 
@@ -108,39 +108,39 @@ module _ {L S : ℕ} {page content : List ℕ} (Z : Sized L S page content) {k :
 
 -- THE TOTAL after k strips: with the outcomes of the others it comes to the page's answer
 pub record Reached (G : Generators) (W : List ℕ) (L S : ℕ) (page content : List ℕ) (total : Total) (k : ℕ) : Type 0 where
-  pub comes-to : answerFor (totalFrom total (λ i. outcomeFor (stripWrite G W L S page content (k + i))) (S - k)) ≡ answered none (pageWrite G W L S page content) (spentStrip G W L S page content)
+  pub comes-to : answerFor (totalFrom total (λ i. solutionOutcome (stripWrite G W L S page content (k + i))) (S - k)) ≡ callAnswer none (pageWrite G W L S page content) (spentStrip G W L S page content)
 
 module _ {G : Generators} {W : List ℕ} {L S : ℕ} {page content : List ℕ} where
   -- at first
   pub reached-none : Suits G W → Sized L S page content → {t : Total} → t ≡ noTotal → Reached G W L S page content t 0
   reached-none K Z e = record {
-    comes-to = rw (e, sub-zero S) (ap answerFor (total-same noTotal _ (λ i. outcomeFor (stripWrite G W L S page content i)) S (λ i h. ap (λ (j : ℕ). outcomeFor (stripWrite G W L S page content j)) (omega arith)))
+    comes-to = rw (e, sub-zero S) (ap answerFor (total-same noTotal _ (λ i. solutionOutcome (stripWrite G W L S page content i)) S (λ i h. ap (λ (j : ℕ). solutionOutcome (stripWrite G W L S page content j)) (omega arith)))
         ∙ page-answers G W L S page content (one-to-64 S (Z .strips-in) .1) (λ k h a. strip-below G W K L S (one-to-64 L (Z .bytes-in) .1) page content k a));
   }
 
   -- with one more strip
-  pub reached-more : {t u : Total} {k : ℕ} {o : Outcome} → Reached G W L S page content t k → k < S → o ≡ outcomeFor (stripWrite G W L S page content k) → u ≡ added t o → Reached G W L S page content u (k + 1)
+  pub reached-more : {t u : Total} {k : ℕ} {o : Outcome} → Reached G W L S page content t k → k < S → o ≡ solutionOutcome (stripWrite G W L S page content k) → u ≡ added t o → Reached G W L S page content u (k + 1)
   unfolding totalFrom
   reached-more {t} {u} {k} {o} r h e f =
       let s : S - k ≡ suc (S - (k + 1)) = omega arith in
-      let e₀ : o ≡ outcomeFor (stripWrite G W L S page content (k + 0)) = e ∙ ap (λ (j : ℕ). outcomeFor (stripWrite G W L S page content j)) (omega arith) in
+      let e₀ : o ≡ solutionOutcome (stripWrite G W L S page content (k + 0)) = e ∙ ap (λ (j : ℕ). solutionOutcome (stripWrite G W L S page content j)) (omega arith) in
       record {
-        comes-to = ap answerFor (total-same u _ (λ i. outcomeFor (stripWrite G W L S page content (k + suc i))) (S - (k + 1)) (λ i l. ap (λ (j : ℕ). outcomeFor (stripWrite G W L S page content j)) (omega arith)))
+        comes-to = ap answerFor (total-same u _ (λ i. solutionOutcome (stripWrite G W L S page content (k + suc i))) (S - (k + 1)) (λ i l. ap (λ (j : ℕ). solutionOutcome (stripWrite G W L S page content j)) (omega arith)))
             ∙ rw (f, e₀) (rw s at (r .comes-to));
       }
 
   -- a total that is spent answers
-  pub reached-spent : {t : Total} {k : ℕ} {r : Answer} → Reached G W L S page content t k → t .spent ≡ true → r ≡ answerFor t → r ≡ answered none (pageWrite G W L S page content) (spentStrip G W L S page content)
+  pub reached-spent : {t : Total} {k : ℕ} {r : Answer} → Reached G W L S page content t k → t .spent ≡ true → r ≡ answerFor t → r ≡ callAnswer none (pageWrite G W L S page content) (spentStrip G W L S page content)
   reached-spent {t} {k} g e f = f ∙ sym (ap answerFor (total-spent t _ (S - k) e)) ∙ g .comes-to
 
   -- and the page has no write
-  pub spent-none : {t : Total} {k : ℕ} → Reached G W L S page content t k → t .spent ≡ true → (a : Search.Answer) → pageWrite G W L S page content ≡ some a → ⊥
+  pub spent-none : {t : Total} {k : ℕ} → Reached G W L S page content t k → t .spent ≡ true → (a : Solution) → pageWrite G W L S page content ≡ some a → ⊥
   spent-none {t} g e a f =
-      let s : A.Spent (t .strips) ≡ answered none (some a) (spentStrip G W L S page content) = rw (e, f) at (reached-spent g e refl) in
+      let s : A.Spent (t .strips) ≡ callAnswer none (some a) (spentStrip G W L S page content) = rw (e, f) at (reached-spent g e refl) in
       let z : _≡_ {A = ℕ} 0 1 = cc in omega arith
 
   -- after all strips it answers
-  pub reached-all : {t : Total} {k : ℕ} {r : Answer} → Reached G W L S page content t k → S ≤ k → r ≡ answerFor t → r ≡ answered none (pageWrite G W L S page content) (spentStrip G W L S page content)
+  pub reached-all : {t : Total} {k : ℕ} {r : Answer} → Reached G W L S page content t k → S ≤ k → r ≡ answerFor t → r ≡ callAnswer none (pageWrite G W L S page content) (spentStrip G W L S page content)
   unfolding totalFrom
   reached-all {k = k} g h f = let z : S - k ≡ 0 = omega arith in f ∙ (rw z at (g .comes-to))
 
@@ -196,20 +196,20 @@ front-back n y rest e = rw (sub-zero n) (take-at y rest n e)
 
 -- THE PAGE that a write leaves, by the plans' answer
 module _ {G : Generators} {W : List ℕ} (K : Suits G W) (D : Dear (stepsOf W)) {L S : ℕ} {before content : List ℕ} (Z : Sized L S before content)
-    {r : Answer} (e : r ≡ answered none (pageWrite G W L S before content) (spentStrip G W L S before content)) where
+    {r : Answer} (e : r ≡ callAnswer none (pageWrite G W L S before content) (spentStrip G W L S before content)) where
   -- where it is done, each strip is carried out as it was planned
-  pub done-page : {digits after : List ℕ} {cost : ℕ} → r ≡ A.Done cost → Planned G W L S before content digits → Carried G L S before content digits after → after ≡ turned none (pageWrite G W L S before content) before
+  pub done-page : {digits after : List ℕ} {cost : ℕ} → r ≡ A.Done cost → Planned G W L S before content digits → Carried G L S before content digits after → after ≡ callPage none (pageWrite G W L S before content) before
   done-page {digits} {after} {cost} f p c = go (pageWrite G W L S before content) refl
     where
-      go : (w : Option Search.Answer) → pageWrite G W L S before content ≡ w → after ≡ turned none w before
+      go : (w : Option Solution) → pageWrite G W L S before content ≡ w → after ≡ callPage none w before
       go (some a) q = carried-page G W K D L S (one-to-64 L (Z .bytes-in) .1) before content (Z .page-is) digits after a q p c
       go none q = absurd (let z : _≡_ {A = ℕ} 0 1 = cc in omega arith)
 
   -- where it is spent, nothing is changed
-  pub spent-page : {n : ℕ} → r ≡ A.Spent n → before ≡ turned none (pageWrite G W L S before content) before
+  pub spent-page : {n : ℕ} → r ≡ A.Spent n → before ≡ callPage none (pageWrite G W L S before content) before
   spent-page {n} f = go (pageWrite G W L S before content) e
     where
-      go : (w : Option Search.Answer) → r ≡ answered none w (spentStrip G W L S before content) → before ≡ turned none w before
+      go : (w : Option Solution) → r ≡ callAnswer none w (spentStrip G W L S before content) → before ≡ callPage none w before
       go none h = refl
       go (some a) h = absurd (let z : _≡_ {A = ℕ} 0 1 = cc in omega arith)
 
@@ -217,7 +217,7 @@ module _ {G : Generators} {W : List ℕ} (K : Suits G W) (D : Dear (stepsOf W)) 
   pub not-refused : {q : Refusal} → r ≡ A.Refused q → ⊥
   not-refused {q} f = go (pageWrite G W L S before content) e
     where
-      go : (w : Option Search.Answer) → r ≡ answered none w (spentStrip G W L S before content) → ⊥
+      go : (w : Option Solution) → r ≡ callAnswer none w (spentStrip G W L S before content) → ⊥
       go none h = let z : _≡_ {A = ℕ} 0 1 = cc in omega arith
       go (some a) h = let z : _≡_ {A = ℕ} 0 1 = cc in omega arith
 
@@ -236,12 +236,12 @@ module _ {code L S : ℕ} {before content : List ℕ} {j : Completion} (J : Judg
 
   -- answers as its strips do
   pub in-order-answer : j ≡ C.Done → {G : Generators} {W : List ℕ} {r : Answer} → G ≡ numbered code → W ≡ house
-      → r ≡ answered none (pageWrite G W L S before content) (spentStrip G W L S before content) → r ≡ answerOf house code L S before content
+      → r ≡ callAnswer none (pageWrite G W L S before content) (spentStrip G W L S before content) → r ≡ answerOf house code L S before content
   unfolding answerOf
   in-order-answer e g w f = rw (no-ground e, ← g, ← w) f
 
   -- and leaves the page that they do
-  pub in-order-page : j ≡ C.Done → {G : Generators} {W after : List ℕ} → G ≡ numbered code → W ≡ house → after ≡ turned none (pageWrite G W L S before content) before → after ≡ pageOf house code L S before content
+  pub in-order-page : j ≡ C.Done → {G : Generators} {W after : List ℕ} → G ≡ numbered code → W ≡ house → after ≡ callPage none (pageWrite G W L S before content) before → after ≡ pageOf house code L S before content
   unfolding pageOf
   in-order-page e g w f = rw (no-ground e, ← g, ← w) f
 

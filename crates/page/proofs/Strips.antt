@@ -7,7 +7,7 @@ use native.Mathlib.Nat.{not-suc-le-zero}
 use lib.ListN.{length, take, drop, take-append-drop, length-append, length-drop}
 use lib.Seq.{take-at, drop-at, drop-drop}
 use Rattle.cells.specs.Places.{listOf, sumOf}
-use Rattle.trellis.specs.Best.{Problem, empty, Wide, All, FirstClosed, here, later}
+use Rattle.trellis.specs.Best.{Problem, empty, Width, All, FirstClosed, here, later}
 
 -- c at place 0, and g after it
 cons : ℕ → (ℕ → ℕ) → ℕ → ℕ
@@ -40,12 +40,12 @@ module _ (problem : ℕ → Problem) (w : ℕ) where
           rw (e, d) (q .valid j (omega arith))
 
   -- what is valid for all is valid for each
-  pub all-parts : (wide : (k : ℕ) → Wide w (problem k)) (S : ℕ) (f : ℕ → ℕ) (c : ℕ) (y : List ℕ) → All problem (listOf S f) c y → Parts S f c y
+  pub all-parts : (wide : (k : ℕ) → Width w (problem k)) (S : ℕ) (f : ℕ → ℕ) (c : ℕ) (y : List ℕ) → All problem (listOf S f) c y → Parts S f c y
   unfolding All listOf sumOf
   all-parts wide zero f c y empty = record { costs = λ j. 0; sum = refl; size = let e : w * 0 ≡ 0 = omega arith in sym e; valid = λ j h. absurd (not-suc-le-zero h) }
   all-parts wide (suc S) f c y p =
       rw (p .sum, p .append)
-      (front S f (p .cost₁) (p .cost₂) (p .levels₁) (p .levels₂) (wide (f 0) .wide _ _ (p .valid₁)) (p .valid₁) (all-parts wide S (λ i. f (suc i)) (p .cost₂) (p .levels₂) (p .valid₂)))
+      (front S f (p .cost₁) (p .cost₂) (p .levels₁) (p .levels₂) (wide (f 0) .width _ _ (p .valid₁)) (p .valid₁) (all-parts wide S (λ i. f (suc i)) (p .cost₂) (p .levels₂) (p .valid₂)))
 
   -- and what is valid for each is valid for all
   pub parts-all : (S : ℕ) (f costs : ℕ → ℕ) (y : List ℕ) → length y ≡ w * S → ((j : ℕ) → j < S → problem (f j) (costs j) (take w (drop (w * j) y))) → All problem (listOf S f) (sumOf S costs) y

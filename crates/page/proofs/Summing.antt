@@ -8,13 +8,13 @@ use native.Mathlib.Omega.{arith}
 use native.Mathlib.Nat.{mod-eq-of-lt}
 use Rattle.cells.specs.Places.{listOf}
 use Rattle.codes.specs.Generators.{Generators}
-use Rattle.trellis.specs.Best as Search
+use Rattle.trellis.specs.Best.{Solution}
 use Rattle.trellis.specs.Trellis.{joined, all, first-none}
-use Rattle.trellis.specs.Wide.{outcomeFor}
+use Rattle.trellis.specs.Wide.{solutionOutcome}
 use Rattle.trellis.specs.declared.Outcome.{Outcome}
 use Rattle.trellis.specs.declared.Outcome.the-variants as O
-use Rattle.page.specs.Totals.{noTotal, withOutcome, unlessSpent, added, totalFrom, answerBy, answerFor}
-use Rattle.page.specs.Answers.{answered}
+use Rattle.page.specs.Totals.{noTotal, withOutcome, unlessSpent, added, totalFrom, spentOrDone, answerFor}
+use Rattle.page.specs.Answers.{callAnswer}
 use Rattle.page.specs.Computed.{stripWrite, pageWrite, spentStrip}
 use Rattle.page.specs.declared.Total.{Total}
 use Rattle.page.specs.declared.Answer.{Answer}
@@ -39,31 +39,31 @@ pub record Room (t : Total) (n : ℕ) : Type 0 where
   pub strip-room : t .strips + n < 2 ^ 32
 
 -- what it answers after n more strips, whose writes one after the other are w, or which are first spent at k
-abbrev answersAfter : Total → Option Search.Answer → ℕ → Answer
+abbrev answersAfter : Total → Option Solution → ℕ → Answer
 answersAfter t (some a) k = A.Done (t .cost + a .cost)
 answersAfter t none k = A.Spent (t .strips + k)
 
-module _ (w : ℕ → Option Search.Answer) where
+module _ (w : ℕ → Option Solution) where
   -- no strip's write costs 262,144 or more
   pub Bounded : (ℕ → ℕ) → ℕ → Type 0
-  Bounded g n = (j : ℕ) → j < n → (a : Search.Answer) → w (g j) ≡ some a → a .cost < 262144
+  Bounded g n = (j : ℕ) → j < n → (a : Solution) → w (g j) ≡ some a → a .cost < 262144
 
-  pub total-answers : (n : ℕ) (g : ℕ → ℕ) (t : Total) → Room t n → Bounded g n → answerFor (totalFrom t (λ j. outcomeFor (w (g j))) n) ≡ answersAfter t (all w (listOf n g)) (first-none w (listOf n g))
-  unfolding totalFrom all first-none listOf joined outcomeFor Bounded
+  pub total-answers : (n : ℕ) (g : ℕ → ℕ) (t : Total) → Room t n → Bounded g n → answerFor (totalFrom t (λ j. solutionOutcome (w (g j))) n) ≡ answersAfter t (all w (listOf n g)) (first-none w (listOf n g))
+  unfolding totalFrom all first-none listOf joined solutionOutcome Bounded
   total-answers zero g t r b =
       let e : t .cost % 2 ^ 32 ≡ t .cost = mod-eq-of-lt (omega (arith, r .cost-room)) in
-      ap (λ (s : Bool). answerBy s (t .cost % 2 ^ 32) (t .strips)) (r .unspent) ∙ ap A.Done (e ∙ omega arith)
+      ap (λ (s : Bool). spentOrDone s (t .cost % 2 ^ 32) (t .strips)) (r .unspent) ∙ ap A.Done (e ∙ omega arith)
   total-answers (suc n) g t r b = go (w (g 0)) refl (all w (listOf n (λ i. g (suc i)))) (total-answers n (λ i. g (suc i)))
     where
       -- the outcome is added, since the total is not spent
       adds : (o : Outcome) → added t o ≡ withOutcome t o
       adds o = ap (λ (s : Bool). unlessSpent s t (withOutcome t o)) (r .unspent)
 
-      go : (x : Option Search.Answer) → w (g 0) ≡ x → (q : Option Search.Answer)
-          → ((u : Total) → Room u n → ((j : ℕ) → j < n → (a : Search.Answer) → w (g (suc j)) ≡ some a → a .cost < 262144) → answerFor (totalFrom u (λ j. outcomeFor (w (g (suc j)))) n) ≡ answersAfter u q (first-none w (listOf n (λ i. g (suc i)))))
-          → answerFor (totalFrom (added t (outcomeFor x)) (λ j. outcomeFor (w (g (suc j)))) n) ≡ answersAfter t (joined x q) (elim x [ none ↦ 0 | some a ↦ suc (first-none w (listOf n (λ i. g (suc i)))) ])
+      go : (x : Option Solution) → w (g 0) ≡ x → (q : Option Solution)
+          → ((u : Total) → Room u n → ((j : ℕ) → j < n → (a : Solution) → w (g (suc j)) ≡ some a → a .cost < 262144) → answerFor (totalFrom u (λ j. solutionOutcome (w (g (suc j)))) n) ≡ answersAfter u q (first-none w (listOf n (λ i. g (suc i)))))
+          → answerFor (totalFrom (added t (solutionOutcome x)) (λ j. solutionOutcome (w (g (suc j)))) n) ≡ answersAfter t (joined x q) (elim x [ none ↦ 0 | some a ↦ suc (first-none w (listOf n (λ i. g (suc i)))) ])
       go none e q f =
-          rw (adds O.Spent, total-spent (withOutcome t O.Spent) (λ j. outcomeFor (w (g (suc j)))) n refl) (ap A.Spent (omega arith))
+          rw (adds O.Spent, total-spent (withOutcome t O.Spent) (λ j. solutionOutcome (w (g (suc j)))) n refl) (ap A.Spent (omega arith))
       go (some a) e q f =
           let c : a .cost < 262144 = b 0 (omega arith) a e in
           let s : (t .cost + a .cost) % 2 ^ 64 ≡ t .cost + a .cost = mod-eq-of-lt (omega (arith, r .cost-room)) in
@@ -73,18 +73,18 @@ module _ (w : ℕ → Option Search.Answer) where
           let room : Room u n = record { unspent = refl; cost-room = omega (arith, r .cost-room); strip-room = omega (arith, r .strip-room) } in
           rw v (f u room (λ j h. b (suc j) (omega arith)) ∙ ends q)
         where
-          ends : (q : Option Search.Answer) → answersAfter (record { cost = t .cost + a .cost; strips = t .strips + 1; spent = false }) q (first-none w (listOf n (λ i. g (suc i)))) ≡ answersAfter t (joined (some a) q) (suc (first-none w (listOf n (λ i. g (suc i)))))
+          ends : (q : Option Solution) → answersAfter (record { cost = t .cost + a .cost; strips = t .strips + 1; spent = false }) q (first-none w (listOf n (λ i. g (suc i)))) ≡ answersAfter t (joined (some a) q) (suc (first-none w (listOf n (λ i. g (suc i)))))
           ends none = ap A.Spent (omega arith)
           ends (some d) = ap A.Done (omega arith)
 
 -- THE PAGE: the total over its strips answers as its write does
-pub page-answers : (G : Generators) (W : List ℕ) (L S : ℕ) (before content : List ℕ) → S ≤ 64 → ((k : ℕ) → k < S → (a : Search.Answer) → stripWrite G W L S before content k ≡ some a → a .cost < 262144)
-    → answerFor (totalFrom noTotal (λ k. outcomeFor (stripWrite G W L S before content k)) S) ≡ answered none (pageWrite G W L S before content) (spentStrip G W L S before content)
+pub page-answers : (G : Generators) (W : List ℕ) (L S : ℕ) (before content : List ℕ) → S ≤ 64 → ((k : ℕ) → k < S → (a : Solution) → stripWrite G W L S before content k ≡ some a → a .cost < 262144)
+    → answerFor (totalFrom noTotal (λ k. solutionOutcome (stripWrite G W L S before content k)) S) ≡ callAnswer none (pageWrite G W L S before content) (spentStrip G W L S before content)
 unfolding pageWrite spentStrip Bounded
 page-answers G W L S before content h b =
     total-answers (stripWrite G W L S before content) S (λ k. k) noTotal (record { unspent = refl; cost-room = omega arith; strip-room = omega arith }) b
     ∙ ends (all (stripWrite G W L S before content) (listOf S (λ k. k)))
   where
-    ends : (q : Option Search.Answer) → answersAfter noTotal q (first-none (stripWrite G W L S before content) (listOf S (λ k. k))) ≡ answered none q (first-none (stripWrite G W L S before content) (listOf S (λ k. k)))
+    ends : (q : Option Solution) → answersAfter noTotal q (first-none (stripWrite G W L S before content) (listOf S (λ k. k))) ≡ callAnswer none q (first-none (stripWrite G W L S before content) (listOf S (λ k. k)))
     ends none = ap A.Spent (omega arith)
     ends (some a) = ap A.Done (omega arith)

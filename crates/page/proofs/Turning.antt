@@ -10,10 +10,10 @@ use lib.Seq.{ext-getD, getD-take, getD-drop, length-take-le, take-at, drop-at, d
 use Rattle.cells.specs.Places.{listOf}
 use Rattle.cells.specs.Bytes.{bitOf, bytesOf}
 use Rattle.cells.specs.Levels.{level}
-use Rattle.cells.specs.Raising.{raises, triple, raisedTo}
+use Rattle.cells.specs.Raising.{raisedTimes, triple, raisedTo}
 use Rattle.cells.proofs.Places.{length-listOf, listOf-at, number-same}
 use Rattle.cells.proofs.Bytes.{length-bytesOf, bytesOf-same, part-bit}
-use Rattle.trellis.specs.Best.{Answer}
+use Rattle.trellis.specs.Best.{Solution}
 use Rattle.trellis.specs.Trellis.{joined, all}
 use Rattle.trellis.proofs.Best.{some-none}
 use Rattle.page.specs.Shape.{strip}
@@ -39,7 +39,7 @@ strip-triple L k page c h =
 
 -- bit n of a page raised
 raised-bit : List ℕ → (ℕ → ℕ) → ℕ → ℕ
-raised-bit page to n = getD (raises (to (n / 3) - level page (n / 3)) (triple page (n / 3))) (n % 3) 0
+raised-bit page to n = getD (raisedTimes (to (n / 3) - level page (n / 3)) (triple page (n / 3))) (n % 3) 0
 
 strip-bit : (L k : ℕ) (page : List ℕ) (to : ℕ → ℕ) (n : ℕ) → n < 8 * (6 * L) → raised-bit page to (8 * (6 * L * k) + n) ≡ raised-bit (strip L k page) (λ c. to (16 * L * k + c)) n
 unfolding raised-bit
@@ -73,26 +73,26 @@ pages-same L S x y e f s = ext-getD 0 x y (e ∙ sym f) byte
         ∙ (getD-take (6 * L) (drop (6 * L * (i / (6 * L))) y) (i % (6 * L)) 0 r ∙ getD-drop (6 * L * (i / (6 * L))) y (i % (6 * L)) 0) ∙ ap (λ (j : ℕ). getD y j 0) z
 
 -- part j of an answer made of parts
-pub record PartOf (w : ℕ → Option Answer) (d : ℕ) (f : ℕ → ℕ) (a : Answer) (j : ℕ) : Type 0 where
-  pub own : Answer
+pub record PartOf (w : ℕ → Option Solution) (d : ℕ) (f : ℕ → ℕ) (a : Solution) (j : ℕ) : Type 0 where
+  pub own : Solution
   pub is : w (f j) ≡ some own
   pub levels-are : take d (drop (d * j) (a .levels)) ≡ own .levels
 
 -- an answer of all parts has one of each
-pub all-each : (w : ℕ → Option Answer) (d : ℕ) → ((k : ℕ) (b : Answer) → w k ≡ some b → length (b .levels) ≡ d) → (n : ℕ) (f : ℕ → ℕ) (a : Answer) → all w (listOf n f) ≡ some a → (j : ℕ) → j < n → PartOf w d f a j
+pub all-each : (w : ℕ → Option Solution) (d : ℕ) → ((k : ℕ) (b : Solution) → w k ≡ some b → length (b .levels) ≡ d) → (n : ℕ) (f : ℕ → ℕ) (a : Solution) → all w (listOf n f) ≡ some a → (j : ℕ) → j < n → PartOf w d f a j
 unfolding all listOf joined
 all-each w d z zero f a e j h = absurd (not-suc-le-zero h)
 all-each w d z (suc n) f a e j h = go (w (f 0)) refl (all w (listOf n (λ i. f (suc i)))) (all-each w d z n (λ i. f (suc i))) e j h
   where
-    go : (x : Option Answer) → w (f 0) ≡ x → (q : Option Answer) → ((b : Answer) → q ≡ some b → (j : ℕ) → j < n → PartOf w d (λ i. f (suc i)) b j) → joined x q ≡ some a → (j : ℕ) → j < suc n → PartOf w d f a j
+    go : (x : Option Solution) → w (f 0) ≡ x → (q : Option Solution) → ((b : Solution) → q ≡ some b → (j : ℕ) → j < n → PartOf w d (λ i. f (suc i)) b j) → joined x q ≡ some a → (j : ℕ) → j < suc n → PartOf w d f a j
     go none p q r e j h = absurd (some-none a (sym e))
     go (some b) p none r e j h = absurd (some-none a (sym e))
     go (some b) p (some c) r e zero h =
-        let l : b .levels ++ c .levels ≡ a .levels = ap (λ (x : Answer). x .levels) (Option·some-injective _ _ e) in
+        let l : b .levels ++ c .levels ≡ a .levels = ap (λ (x : Solution). x .levels) (Option·some-injective _ _ e) in
         let o : d * 0 ≡ 0 = omega arith in
         record { own = b; is = p; levels-are = rw (o, ← l) (take-at (b .levels) (c .levels) d (z (f 0) b p)) }
     go (some b) p (some c) r e (suc j) h =
-        let l : b .levels ++ c .levels ≡ a .levels = ap (λ (x : Answer). x .levels) (Option·some-injective _ _ e) in
+        let l : b .levels ++ c .levels ≡ a .levels = ap (λ (x : Solution). x .levels) (Option·some-injective _ _ e) in
         let o : d * suc j ≡ d + d * j = omega arith in
         let g : PartOf w d (λ i. f (suc i)) c j = r c refl j (omega arith) in
         let q : drop (d + d * j) (b .levels ++ c .levels) ≡ drop (d * j) (c .levels) = sym (drop-drop (d * j) d (b .levels ++ c .levels)) ∙ ap (drop (d * j)) (drop-at (b .levels) (c .levels) d (z (f 0) b p)) in

@@ -8,7 +8,7 @@ use mathlib.Core.Option.{Option, none, some}
 use Prim.Native.Nat.{ℕ}
 use lib.ListN.{length}
 use Rattle.cells.specs.Raising.{raisedTo}
-use Rattle.trellis.specs.Best as Search
+use Rattle.trellis.specs.Best.{Solution}
 use Rattle.trellis.specs.Demand.{levelAt}
 use Rattle.page.specs.Refusals.{ground, refusalNumber, numbered}
 use Rattle.page.specs.Computed.{pageWrite, spentStrip}
@@ -29,26 +29,26 @@ kept none done before = done
 kept (some r) done before = before
 
 -- a write's answer, by the ground of a refusal, the computed write and the strip that is spent
-abbrev pub answered : Option Refusal → Option Search.Answer → ℕ → Answer
-answered (some r) w k = A.Refused r
-answered none (some a) k = A.Done (a .cost)
-answered none none k = A.Spent k
+abbrev pub callAnswer : Option Refusal → Option Solution → ℕ → Answer
+callAnswer (some r) w k = A.Refused r
+callAnswer none (some a) k = A.Done (a .cost)
+callAnswer none none k = A.Spent k
 
 -- the page after it
-abbrev pub turned : Option Refusal → Option Search.Answer → List ℕ → List ℕ
-turned (some r) w before = before
-turned none (some a) before = raisedTo before (levelAt (a .levels))
-turned none none before = before
+abbrev pub callPage : Option Refusal → Option Solution → List ℕ → List ℕ
+callPage (some r) w before = before
+callPage none (some a) before = raisedTo before (levelAt (a .levels))
+callPage none none before = before
 
 -- a call of write or price with these three weights
 module _ (W : List ℕ) (code L S : ℕ) (before content : List ℕ) where
   -- THE ANSWER of a write, and of a price
   unfoldable pub answerOf : Answer
-  answerOf = answered (ground code L S (length before) (length content)) (pageWrite (numbered code) W L S before content) (spentStrip (numbered code) W L S before content)
+  answerOf = callAnswer (ground code L S (length before) (length content)) (pageWrite (numbered code) W L S before content) (spentStrip (numbered code) W L S before content)
 
   -- THE PAGE after a write
   unfoldable pub pageOf : List ℕ
-  pageOf = turned (ground code L S (length before) (length content)) (pageWrite (numbered code) W L S before content) before
+  pageOf = callPage (ground code L S (length before) (length content)) (pageWrite (numbered code) W L S before content) before
 
 -- the number of an answer: 0, 7 where the page is spent, or the refusal's
 abbrev pub numberOf : Answer → ℕ

@@ -9,7 +9,7 @@ use lib.ListN.{length}
 use Rattle.cells.specs.Bytes.{bitOf, bytesOf}
 use Rattle.cells.specs.Raising.{raisedTo}
 use Rattle.codes.specs.Generators.{Generators}
-use Rattle.trellis.specs.Best.{Answer}
+use Rattle.trellis.specs.Best.{Solution}
 use Rattle.trellis.specs.Backward.{decisionAt}
 use Rattle.trellis.specs.Forward.{followed, carriedTo}
 use Rattle.page.specs.Shape.{strip, part}
@@ -17,7 +17,7 @@ use Rattle.page.specs.Computed.{pageWrite}
 
 -- where every strip has a write, strip k's part of the digits has those that its search takes
 pub record Planned (G : Generators) (W : List ℕ) (L S : ℕ) (page content digits : List ℕ) : Type 0 where
-  pub planned : (a : Answer) → pageWrite G W L S page content ≡ some a → (k : ℕ) → k < S
+  pub planned : (a : Solution) → pageWrite G W L S page content ≡ some a → (k : ℕ) → k < S
       → part L k digits ≡ bytesOf L (followed (decisionAt G W (strip L k page) (part L k content) (8 * L)))
 
 -- strip k of the page after is strip k before, raised to what its part of the digits wants

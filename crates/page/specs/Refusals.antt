@@ -1,5 +1,6 @@
 -- When a call is refused, and by which number.
 --   first-of             of two grounds, the one that is tested first
+--   limitsGround, sizesGround   the grounds of L and S; of the code, L and S
 --   shapeGround, ground  the grounds of erase and census; of read, price and write
 --   eraseGround          from the state: an erase outside 50 to 400
 --   refusalNumber        the paper's number of a refusal
@@ -39,13 +40,21 @@ pageGround L S size = cond (eqb size (6 * L * S)) none (some PageLength)
 unfoldable pub dataGround : ℕ → ℕ → ℕ → Option Refusal
 dataGround L S size = cond (eqb size (L * S)) none (some DataLength)
 
+-- 2 and 3: the limits of L and S
+unfoldable pub limitsGround : ℕ → ℕ → Option Refusal
+limitsGround L S = first-of (bytesGround L) (stripsGround S)
+
+-- 1 to 3: the code and the limits
+unfoldable pub sizesGround : ℕ → ℕ → ℕ → Option Refusal
+sizesGround code L S = first-of (codeGround code) (limitsGround L S)
+
 -- 2, 3 and 4: 'erase and census take L, S and the page, and no code'
 unfoldable pub shapeGround : ℕ → ℕ → ℕ → Option Refusal
-shapeGround L S page = first-of (bytesGround L) (first-of (stripsGround S) (pageGround L S page))
+shapeGround L S page = first-of (limitsGround L S) (pageGround L S page)
 
 -- 1 to 5, for read, price and write
 unfoldable pub ground : ℕ → ℕ → ℕ → ℕ → ℕ → Option Refusal
-ground code L S page content = first-of (codeGround code) (first-of (shapeGround L S page) (dataGround L S content))
+ground code L S page content = first-of (sizesGround code L S) (first-of (pageGround L S page) (dataGround L S content))
 
 -- '8: an erase outside 50 to 400', 'tested after those of the input'
 unfoldable pub eraseGround : ℤ → Option Refusal

@@ -33,9 +33,9 @@ totalFrom t f zero = t
 totalFrom t f (suc n) = totalFrom (added t (f 0)) (λ i. f (suc i)) n
 
 -- spent with the strip's number, or done with the cost
-abbrev pub answerBy : Bool → ℕ → ℕ → Answer
-answerBy true cost strip = A.Spent strip
-answerBy false cost strip = A.Done cost
+abbrev pub spentOrDone : Bool → ℕ → ℕ → Answer
+spentOrDone true cost strip = A.Spent strip
+spentOrDone false cost strip = A.Done cost
 
 abbrev pub answerFor : Total → Answer
-answerFor t = answerBy (t .spent) (t .cost % 2 ^ 32) (t .strips)
+answerFor t = spentOrDone (t .spent) (t .cost % 2 ^ 32) (t .strips)

@@ -4,11 +4,12 @@ use crate::Refusal;
 use codes::Code;
 ghost use mathlib.Core.Path.{_≡_};
 ghost use mathlib.Core.List.{List};
+ghost use mathlib.Core.Option.{none};
 ghost use Prim.Native.Nat.{ℕ, _-_, _≤_};
 ghost use lib.ListN.{length, take, drop};
 ghost use Rattle.codes.specs.Codes.{generatorsOf};
 ghost use Rattle.page.specs.Shape.{oneTo64, stripOf};
-ghost use Rattle.page.specs.Refusals.{shapeGround, ground, numbered};
+ghost use Rattle.page.specs.Refusals.{limitsGround, sizesGround, pageGround, dataGround, shapeGround, ground, numbered};
 ghost use Rattle.page.specs.Answers.{completionOf};
 
 // Whether n is from 1 to 64.
@@ -21,9 +22,9 @@ fn one_to_64(n: u32) -> bool
     n <= 64
 }
 
-// Judges L, S and the page's length, in this order.
-pub fn judge_shape(bytes: u32, strips: u32, page: usize) -> Completion
-    ensures { λ r. ⌜ r ≡ completionOf (shapeGround bytes strips page) ⌝ }
+// Judges L and S, in this order.
+fn judge_limits(bytes: u32, strips: u32) -> Completion
+    ensures { λ r. ⌜ r ≡ completionOf (limitsGround bytes strips) ⌝ }
 {
     if !one_to_64(bytes) {
         return Completion::Refused(Refusal::BytesOutside);
@@ -31,29 +32,67 @@ pub fn judge_shape(bytes: u32, strips: u32, page: usize) -> Completion
     if !one_to_64(strips) {
         return Completion::Refused(Refusal::StripsOutside);
     }
-    if page != 6 * (bytes as usize) * (strips as usize) {
-        return Completion::Refused(Refusal::PageLength);
-    }
     Completion::Done
 }
 
-// Judges the code, then the shape, then the data's length.
-pub fn judge(code: u32, bytes: u32, strips: u32, page: usize, data: usize) -> Completion
-    ensures { λ r. ⌜ r ≡ completionOf (ground code bytes strips page «data») ⌝ }
+// Judges the code, then L and S.
+pub fn judge_sizes(code: u32, bytes: u32, strips: u32) -> Completion
+    ensures { λ r. ⌜ r ≡ completionOf (sizesGround code bytes strips) ⌝ }
 {
     if code != 3 {
         if code != 7 {
             return Completion::Refused(Refusal::CodeUnknown);
         }
     }
-    let judged = judge_shape(bytes, strips, page);
-    let Completion::Done = judged else {
-        return judged;
-    };
+    judge_limits(bytes, strips)
+}
+
+// Judges the page's length, where L and S are within their limits.
+fn judge_page(bytes: u32, strips: u32, page: usize) -> Completion
+    requires { ⌜ limitsGround bytes strips ≡ none ⌝ }
+    ensures { λ r. ⌜ r ≡ completionOf (pageGround bytes strips page) ⌝ }
+{
+    if page != 6 * (bytes as usize) * (strips as usize) {
+        return Completion::Refused(Refusal::PageLength);
+    }
+    Completion::Done
+}
+
+// Judges the length of the data, or of the buffer for it.
+fn judge_data(bytes: u32, strips: u32, data: usize) -> Completion
+    requires { ⌜ limitsGround bytes strips ≡ none ⌝ }
+    ensures { λ r. ⌜ r ≡ completionOf (dataGround bytes strips «data») ⌝ }
+{
     if data != (bytes as usize) * (strips as usize) {
         return Completion::Refused(Refusal::DataLength);
     }
     Completion::Done
+}
+
+// Judges L, S and the page's length, in this order.
+pub fn judge_shape(bytes: u32, strips: u32, page: usize) -> Completion
+    ensures { λ r. ⌜ r ≡ completionOf (shapeGround bytes strips page) ⌝ }
+{
+    let judged = judge_limits(bytes, strips);
+    let Completion::Done = judged else {
+        return judged;
+    };
+    judge_page(bytes, strips, page)
+}
+
+// Judges the code, then the shape, then the data's length.
+pub fn judge(code: u32, bytes: u32, strips: u32, page: usize, data: usize) -> Completion
+    ensures { λ r. ⌜ r ≡ completionOf (ground code bytes strips page «data») ⌝ }
+{
+    let sizes = judge_sizes(code, bytes, strips);
+    let Completion::Done = sizes else {
+        return sizes;
+    };
+    let length = judge_page(bytes, strips, page);
+    let Completion::Done = length else {
+        return length;
+    };
+    judge_data(bytes, strips, data)
 }
 
 // The code of a number that is 3 or 7.

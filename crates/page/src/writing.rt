@@ -22,7 +22,7 @@ ghost use Rattle.trellis.specs.Backward.{decisionAt};
 ghost use Rattle.trellis.specs.Forward.{followed, carriedTo};
 ghost use Rattle.page.specs.Shape.{Sized, strip, part};
 ghost use Rattle.page.specs.Computed.{pageWrite, spentStrip};
-ghost use Rattle.page.specs.Answers.{answered, turned, answerOf, pageOf};
+ghost use Rattle.page.specs.Answers.{callAnswer, callPage, answerOf, pageOf};
 ghost use Rattle.page.specs.Promise.{Wrote};
 ghost use Rattle.page.specs.Plans.{Planned, Carried};
 
@@ -36,7 +36,7 @@ fn price_strips(
     data: &[u8],
 ) -> Answer
     requires { ⌜ Sized bytes strips (now page) (now «data») ⌝ }
-    ensures { λ r. ⌜ r ≡ answered none (pageWrite (generatorsOf code) weights bytes strips (now (page .entry)) (now («data» .entry))) (spentStrip (generatorsOf code) weights bytes strips (now (page .entry)) (now («data» .entry))) ⌝ }
+    ensures { λ r. ⌜ r ≡ callAnswer none (pageWrite (generatorsOf code) weights bytes strips (now (page .entry)) (now («data» .entry))) (spentStrip (generatorsOf code) weights bytes strips (now (page .entry)) (now («data» .entry))) ⌝ }
 {
     let words = words_of(code);
     let mut total = Total::new();
@@ -71,7 +71,7 @@ fn plan_strips(
 ) -> Answer
     requires { ⌜ Sized bytes strips (now page) (now «data») ⌝ }
     requires { ⌜ length (now digits) ≡ bytes * strips ⌝ }
-    ensures { λ r. ⌜ r ≡ answered none (pageWrite (generatorsOf code) weights bytes strips (now (page .entry)) (now («data» .entry))) (spentStrip (generatorsOf code) weights bytes strips (now (page .entry)) (now («data» .entry))) ⌝ }
+    ensures { λ r. ⌜ r ≡ callAnswer none (pageWrite (generatorsOf code) weights bytes strips (now (page .entry)) (now («data» .entry))) (spentStrip (generatorsOf code) weights bytes strips (now (page .entry)) (now («data» .entry))) ⌝ }
     ensures { λ r. ⌜ Planned (generatorsOf code) weights bytes strips (now (page .entry)) (now («data» .entry)) (now (digits .exit)) ⌝ }
 {
     let words = words_of(code);
@@ -135,8 +135,8 @@ fn write_strips(
 ) -> Answer
     requires { ⌜ Sized bytes strips (now page) (now «data») ⌝ }
     requires { ⌜ Dear (stepsOf weights) ⌝ }
-    ensures { λ r. ⌜ r ≡ answered none (pageWrite (generatorsOf code) weights bytes strips (now (page .entry)) (now («data» .entry))) (spentStrip (generatorsOf code) weights bytes strips (now (page .entry)) (now («data» .entry))) ⌝ }
-    ensures { λ r. ⌜ now (page .exit) ≡ turned none (pageWrite (generatorsOf code) weights bytes strips (now (page .entry)) (now («data» .entry))) (now (page .entry)) ⌝ }
+    ensures { λ r. ⌜ r ≡ callAnswer none (pageWrite (generatorsOf code) weights bytes strips (now (page .entry)) (now («data» .entry))) (spentStrip (generatorsOf code) weights bytes strips (now (page .entry)) (now («data» .entry))) ⌝ }
+    ensures { λ r. ⌜ now (page .exit) ≡ callPage none (pageWrite (generatorsOf code) weights bytes strips (now (page .entry)) (now («data» .entry))) (now (page .entry)) ⌝ }
 {
     let mut digits = [0u8; 4096];
     let whole = bytes * strips;

@@ -11,12 +11,12 @@ use native.Mathlib.Nat.{mul-assoc}
 use lib.ListN.{length, length-append}
 use borrow.Author.Tests.{eq-eqb}
 use Rattle.cells.specs.Climbs.{house}
-use Rattle.trellis.specs.Best as Search
+use Rattle.trellis.specs.Best.{Solution}
 use Rattle.page.specs.declared.Refusal.{Refusal}
 use Rattle.page.specs.Shape.{oneTo64}
 use Rattle.page.specs.Refusals.{first-of, codeGround, bytesGround, stripsGround, pageGround, dataGround, shapeGround, ground, numbered}
 use Rattle.page.specs.Computed.{pageWrite, spentStrip}
-use Rattle.page.specs.Answers.{answered, answerOf, numberOf}
+use Rattle.page.specs.Answers.{callAnswer, answerOf, numberOf}
 use Rattle.page.proofs.Fitting.{one-to-64}
 use Rattle.script.specs.Text.{decimal, valuesText, namesText, dataText}
 use Rattle.script.specs.Lines.{same, valuesOf, valuesGround, ruled, formed, ruledOf, dataOf}
@@ -75,7 +75,7 @@ module _ (v : Values) (e : valuesGround v ≡ none) where
       rw (grounds .0, grounds .1, grounds .2, eq-eqb page (6 * v .bytes * v .strips) ep, eq-eqb content (v .bytes * v .strips) ec)
 
 -- an answer without a ground is 0 or 7
-zero-or-seven : (w : Option Search.Answer) (k : ℕ) → (numberOf (answered none w k) ≡ 0) ⊎ (numberOf (answered none w k) ≡ 7)
+zero-or-seven : (w : Option Solution) (k : ℕ) → (numberOf (callAnswer none w k) ≡ 0) ⊎ (numberOf (callAnswer none w k) ≡ 7)
 zero-or-seven (some a) k = inl refl
 zero-or-seven none k = inr refl
 

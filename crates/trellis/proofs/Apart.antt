@@ -10,7 +10,7 @@ use lib.ListN.{length, getD, replicate}
 use borrow.Author.Tests.{lt-ltb, le-ltb}
 use Rattle.codes.specs.Sequences.{_+₂_, Bits}
 use Rattle.codes.specs.Registers.{dot}
-use Rattle.trellis.specs.Best.{Answer}
+use Rattle.trellis.specs.Best.{Solution}
 use Rattle.trellis.specs.Trellis.{joined}
 use Rattle.codes.specs.Encoders.{Encoder, InMemory}
 use Rattle.trellis.specs.Strip.{Steps, Cell, Full, Meaning, Group}
@@ -41,7 +41,7 @@ leads-apart M L (v ∷ y) (w ∷ z) e f n = apart (λ q. n (L .leads v y ∙ ap 
 
 module _ (E : Encoder) (H : InMemory E) (d : ℕ → Bits) (S : Steps) (M : Meaning) (choose : Choice) (K : Chooses S M (suc (length (E .others))) choose) (L : Leads M) where
   -- where both digits of a stage are open, their levels differ at the first cell
-  pub branch-apart : (g : Stage) → Ok E H d S M choose K g → (s : List Bool) (a b : Answer)
+  pub branch-apart : (g : Stage) → Ok E H d S M choose K g → (s : List Bool) (a b : Solution)
       → branch E choose g s false ≡ some a → branch E choose g s true ≡ some b → Apart (a .levels) (b .levels)
   unfolding Ok admit
   branch-apart g o s a b e f =
@@ -62,29 +62,29 @@ unfoldable pub held : Cell → Bool → ℕ
 held x b = cond (Bool·beq (odd (x .level)) b) (x .level) (suc (x .level))
 
 module _ (S : Steps) where
-  pub keep-held : (x : Cell) (b : Bool) (a : Answer) → keep-or-raise S x b ≡ some a → a .levels ≡ held x b ∷ []
+  pub keep-held : (x : Cell) (b : Bool) (a : Solution) → keep-or-raise S x b ≡ some a → a .levels ≡ held x b ∷ []
   unfolding keep-or-raise held
   keep-held x b a = go (ltb (S .top) (x .level)) (Bool·beq (odd (x .level)) b) (x .mark) (ltb (x .level) (S .top))
     where
       go : (p q k r : Bool) → cond p none (cond q (some (record { cost = 0; levels = x .level ∷ [] })) (cond k none (cond r (some (record { cost = S .weight (x .level); levels = suc (x .level) ∷ [] })) none))) ≡ some a
           → a .levels ≡ cond q (x .level) (suc (x .level)) ∷ []
       go true q k r e = absurd (some-none a (sym e))
-      go false true k r e = ap (λ (z : Answer). z .levels) (sym (Option·some-injective _ _ e))
+      go false true k r e = ap (λ (z : Solution). z .levels) (sym (Option·some-injective _ _ e))
       go false false true r e = absurd (some-none a (sym e))
-      go false false false true e = ap (λ (z : Answer). z .levels) (sym (Option·some-injective _ _ e))
+      go false false false true e = ap (λ (z : Solution). z .levels) (sym (Option·some-injective _ _ e))
       go false false false false e = absurd (some-none a (sym e))
 
-  choice-held : (x : Cell) (xs : List Cell) (b : Bool) (w : List Bool) (a : Answer) → parity-choice S (x ∷ xs) (b ∷ w) ≡ some a → first-level (some a) ≡ held x b
+  choice-held : (x : Cell) (xs : List Cell) (b : Bool) (w : List Bool) (a : Solution) → parity-choice S (x ∷ xs) (b ∷ w) ≡ some a → first-level (some a) ≡ held x b
   unfolding parity-choice joined first-level
   choice-held x xs b w a e = go (keep-or-raise S x b) (keep-held x b) (parity-choice S xs w) e
     where
-      go : (r : Option Answer) → ((p : Answer) → r ≡ some p → p .levels ≡ held x b ∷ []) → (q : Option Answer) → joined r q ≡ some a → getD (a .levels) 0 0 ≡ held x b
+      go : (r : Option Solution) → ((p : Solution) → r ≡ some p → p .levels ≡ held x b ∷ []) → (q : Option Solution) → joined r q ≡ some a → getD (a .levels) 0 0 ≡ held x b
       go none f q e = absurd (some-none a (sym e))
       go (some p) f none e = absurd (some-none a (sym e))
       go (some p) f (some q) e =
-          ap (λ (z : Answer). getD (z .levels) 0 0) (sym (Option·some-injective _ _ e)) ∙ ap (λ (l : List ℕ). getD (l ++ q .levels) 0 0) (f p refl)
+          ap (λ (z : Solution). getD (z .levels) 0 0) (sym (Option·some-injective _ _ e)) ∙ ap (λ (l : List ℕ). getD (l ++ q .levels) 0 0) (f p refl)
 
-  pub parity-tie : (E : Encoder) (s adds : List Bool) (x : Cell) (xs : List Cell) (a b : Answer)
+  pub parity-tie : (E : Encoder) (s adds : List Bool) (x : Cell) (xs : List Cell) (a b : Solution)
       → parity-choice S (x ∷ xs) (wanted E (false ∷ s) adds) ≡ some a → parity-choice S (x ∷ xs) (wanted E (true ∷ s) adds) ≡ some b
       → ltb (first-level (some b)) (first-level (some a)) ≡ Bool·beq (odd (x .level)) (dot (true ∷ E .first) (true ∷ s))
   unfolding wanted dot held

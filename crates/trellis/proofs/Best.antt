@@ -10,7 +10,7 @@ use mathlib.Core.Logic.{_⊎_, inl, inr, ⊎-elim, _↔_}
 use lib.Dec.{ltb, eqb}
 use lib.ListN.{length, getD, length-append}
 use borrow.Author.Tests.{ltb-true, ltb-false, eqb-true, eqb-false}
-use Rattle.trellis.specs.Best.{LexLe, done, lower, same, NoWorse, cheaper, tied, Problem, Answer, Best, Solves, nothing, just, Settles, closed, sole, Product, Wide, Empty, empty, Either, digit, FirstLower}
+use Rattle.trellis.specs.Best.{LexLe, done, lower, same, NoWorse, cheaper, tied, Problem, Solution, Best, Solves, nothing, just, Settles, closed, sole, Product, Width, Empty, empty, Either, digit, LexLower}
 use Rattle.trellis.specs.Trellis.{before, lexltb, beats, better, joined, free}
 
 -- the order
@@ -93,18 +93,18 @@ no-worse-join l (cheaper p) (tied q m) = cheaper (omega arith)
 no-worse-join l (tied p k) (cheaper q) = cheaper (omega arith)
 no-worse-join l (tied p k) (tied q m) = tied (ap₂ (λ (a b : ℕ). a + b) p q) (lex-append l k m)
 
-beats-true : (a b : Answer) → beats a b ≡ true → NoWorse (a .cost) (a .levels) (b .cost) (b .levels)
+beats-true : (a b : Solution) → beats a b ≡ true → NoWorse (a .cost) (a .levels) (b .cost) (b .levels)
 unfolding beats
 beats-true a b e =
     ⊎-elim (λ p. cheaper p) (λ p. tied (p .0) (lex-true (a .levels) (b .levels) (p .1))) (before-true (a .cost) (b .cost) (lexltb (a .levels) (b .levels)) e)
 
-beats-false : (a b : Answer) → beats a b ≡ false → NoWorse (b .cost) (b .levels) (a .cost) (a .levels)
+beats-false : (a b : Solution) → beats a b ≡ false → NoWorse (b .cost) (b .levels) (a .cost) (a .levels)
 unfolding beats
 beats-false a b e =
     ⊎-elim (λ p. cheaper p) (λ p. tied (p .0) (lex-false (a .levels) (b .levels) (p .1))) (before-false (a .cost) (b .cost) (lexltb (a .levels) (b .levels)) e)
 
 -- either of two problems
-best-either : (A : Bool → Problem) (a b : Answer) (t : Bool) → beats b a ≡ t → Best (A false) a → Best (A true) b → Best (Either A) (cond t b a)
+best-either : (A : Bool → Problem) (a b : Solution) (t : Bool) → beats b a ≡ t → Best (A false) a → Best (A true) b → Best (Either A) (cond t b a)
 best-either A a b true e p q = record { valid = digit true (q .valid); least = go }
   where
     go : (d : ℕ) (y : List ℕ) → Either A d y → NoWorse (b .cost) (b .levels) d y
@@ -117,7 +117,7 @@ best-either A a b false e p q = record { valid = digit false (p .valid); least =
     go d y (digit false w) = p .least d y w
 
 -- the better of two answers solves either of two problems
-pub solves-either : (A : Bool → Problem) {r s : Option Answer} → Solves (A false) r → Solves (A true) s → Solves (Either A) (better r s)
+pub solves-either : (A : Bool → Problem) {r s : Option Solution} → Solves (A false) r → Solves (A true) s → Solves (Either A) (better r s)
 unfolding better
 solves-either A (nothing p) (nothing q) = nothing go
   where
@@ -137,7 +137,7 @@ solves-either A (just {a = a} p) (nothing q) = just (record { valid = digit fals
 solves-either A (just {a = a} p) (just {a = b} q) = just (best-either A a b (beats b a) refl p q)
 
 -- the product
-best-product : (k : ℕ) {A B : Problem} {a b : Answer} → Wide k A → Best A a → Best B b
+best-product : (k : ℕ) {A B : Problem} {a b : Solution} → Width k A → Best A a → Best B b
     → Best (Product A B) (record { cost = a .cost + b .cost; levels = a .levels ++ b .levels })
 best-product k {A} {B} {a} {b} l p q = record { valid = pair; least = go }
   where
@@ -146,11 +146,11 @@ best-product k {A} {B} {a} {b} l p q = record { valid = pair; least = go }
 
     go : (d : ℕ) (y : List ℕ) → Product A B d y → NoWorse (a .cost + b .cost) (a .levels ++ b .levels) d y
     go d y w =
-        let e : length (a .levels) ≡ length (w .levels₁) = l .wide _ _ (p .valid) ∙ sym (l .wide _ _ (w .valid₁)) in
+        let e : length (a .levels) ≡ length (w .levels₁) = l .width _ _ (p .valid) ∙ sym (l .width _ _ (w .valid₁)) in
         rw (w .sum, w .append) (no-worse-join e (p .least _ _ (w .valid₁)) (q .least _ _ (w .valid₂)))
 
 -- answers one after the other solve the product
-pub solves-product : (k : ℕ) {A B : Problem} {r s : Option Answer} → Wide k A → Solves A r → Solves B s → Solves (Product A B) (joined r s)
+pub solves-product : (k : ℕ) {A B : Problem} {r s : Option Solution} → Width k A → Solves A r → Solves B s → Solves (Product A B) (joined r s)
 unfolding joined
 solves-product k l (nothing p) q = nothing (λ d y w. p (w .cost₁) (w .levels₁) (w .valid₁))
 solves-product k l (just p) (nothing q) = nothing (λ d y w. q (w .cost₂) (w .levels₂) (w .valid₂))
@@ -164,17 +164,17 @@ solves-empty = just (record { valid = empty; least = go })
     go d y empty = no-worse-refl 0 []
 
 -- the strictly cheapest is the best
-pub best-strict : {A : Problem} (a : Answer) → A (a .cost) (a .levels)
+pub best-strict : {A : Problem} (a : Solution) → A (a .cost) (a .levels)
     → ((d : ℕ) (y : List ℕ) → A d y → (a .cost < d) ⊎ ((a .cost ≡ d) × (a .levels ≡ y))) → Best A a
 best-strict {A} a v l = record { valid = v; least = λ d y w. ⊎-elim (λ p. cheaper p) (λ p. tied (p .0) (rw (p .1) (lex-refl y))) (l d y w) }
 
 -- STRICTLY: what settles a problem solves it; products, other words, and the empty problem
-pub settles-solves : {A : Problem} {r : Option Answer} → Settles A r → Solves A r
+pub settles-solves : {A : Problem} {r : Option Solution} → Settles A r → Solves A r
 settles-solves (closed p) = nothing p
 settles-solves (sole {a = a} v l) = just (best-strict a v l)
 
 -- the product, strictly
-pub settles-product : {A B : Problem} {r s : Option Answer} → Settles A r → Settles B s → Settles (Product A B) (joined r s)
+pub settles-product : {A B : Problem} {r s : Option Solution} → Settles A r → Settles B s → Settles (Product A B) (joined r s)
 unfolding joined
 settles-product (closed p) q = closed (λ d y w. p (w .cost₁) (w .levels₁) (w .valid₁))
 settles-product (sole v l) (closed q) = closed (λ d y w. q (w .cost₂) (w .levels₂) (w .valid₂))
@@ -196,44 +196,44 @@ settles-empty = sole empty go
     go d y empty = inr (refl, refl)
 
 -- a problem put in other words, strictly
-pub settles-iff : {A B : Problem} {r : Option Answer} → ((d : ℕ) (y : List ℕ) → A d y ↔ B d y) → Settles A r → Settles B r
+pub settles-iff : {A B : Problem} {r : Option Solution} → ((d : ℕ) (y : List ℕ) → A d y ↔ B d y) → Settles A r → Settles B r
 settles-iff f (closed p) = closed (λ d y w. p d y (f d y .1 w))
 settles-iff f (sole v l) = sole (f _ _ .0 v) (λ d y w. l d y (f d y .1 w))
 
 -- widths
-pub wide-empty : Wide 0 Empty
-wide-empty = record { wide = go }
+pub width-empty : Width 0 Empty
+width-empty = record { width = go }
   where
     go : (c : ℕ) (y : List ℕ) → Empty c y → length y ≡ 0
     go c y empty = refl
 
 -- widths add
-pub wide-product : (k m : ℕ) {A B : Problem} → Wide k A → Wide m B → Wide (k + m) (Product A B)
-wide-product k m p q = record { wide = λ c y w. ap length (w .append) ∙ length-append (w .levels₁) (w .levels₂) ∙ ap₂ (λ (a b : ℕ). a + b) (p .wide _ _ (w .valid₁)) (q .wide _ _ (w .valid₂)) }
+pub width-product : (k m : ℕ) {A B : Problem} → Width k A → Width m B → Width (k + m) (Product A B)
+width-product k m p q = record { width = λ c y w. ap length (w .append) ∙ length-append (w .levels₁) (w .levels₂) ∙ ap₂ (λ (a b : ℕ). a + b) (p .width _ _ (w .valid₁)) (q .width _ _ (w .valid₂)) }
 
 -- either of two of the same width
-pub wide-either : (k : ℕ) {A : Bool → Problem} → ((u : Bool) → Wide k (A u)) → Wide k (Either A)
-wide-either k {A} p = record { wide = go }
+pub width-either : (k : ℕ) {A : Bool → Problem} → ((u : Bool) → Width k (A u)) → Width k (Either A)
+width-either k {A} p = record { width = go }
   where
     go : (c : ℕ) (y : List ℕ) → Either A c y → length y ≡ k
-    go c y (digit u w) = p u .wide c y w
+    go c y (digit u w) = p u .width c y w
 
 -- an answer is not none
-pub some-none : (a : Answer) → some a ≡ none → ⊥
+pub some-none : (a : Solution) → some a ≡ none → ⊥
 some-none a e = let z : _≡_ {A = ℕ} 0 1 = cc in omega arith
 
 -- what a solution says, in plain words
-pub first-lower : {x y : List ℕ} → LexLe x y → length x ≡ length y → (x ≡ y → ⊥) → FirstLower x y
-first-lower {y = []} done e n = absurd (n refl)
-first-lower {y = b ∷ ys} done e n = let z : _≡_ {A = ℕ} 0 (suc (length ys)) = e in absurd (omega arith)
-first-lower (lower p) e n = record { place = 0; agree = λ j h. absurd (not-suc-le-zero h); less = p }
-first-lower (same {x = x} {y = y} {xs = xs} {ys = ys} d p) e n =
+pub lex-lower : {x y : List ℕ} → LexLe x y → length x ≡ length y → (x ≡ y → ⊥) → LexLower x y
+lex-lower {y = []} done e n = absurd (n refl)
+lex-lower {y = b ∷ ys} done e n = let z : _≡_ {A = ℕ} 0 (suc (length ys)) = e in absurd (omega arith)
+lex-lower (lower p) e n = record { place = 0; agree = λ j h. absurd (not-suc-le-zero h); less = p }
+lex-lower (same {x = x} {y = y} {xs = xs} {ys = ys} d p) e n =
     let k : length xs ≡ length ys = omega arith in
     let m : xs ≡ ys → ⊥ = λ f. n (ap₂ (λ (a : ℕ) (l : List ℕ). a ∷ l) d f) in
-    let r : FirstLower xs ys = first-lower p k m in
+    let r : LexLower xs ys = lex-lower p k m in
     record { place = suc (r .place); agree = go r; less = r .less }
   where
-    go : (r : FirstLower xs ys) (j : ℕ) → j < suc (r .place) → getD (x ∷ xs) j 0 ≡ getD (y ∷ ys) j 0
+    go : (r : LexLower xs ys) (j : ℕ) → j < suc (r .place) → getD (x ∷ xs) j 0 ≡ getD (y ∷ ys) j 0
     go r zero h = d
     go r (suc j) h = r .agree j (omega arith)
 
@@ -242,16 +242,16 @@ module _ {A : Problem} where
   none-valid (nothing p) = p
 
   -- some says that it is the best
-  pub the-best : {a : Answer} → Solves A (some a) → Best A a
+  pub the-best : {a : Solution} → Solves A (some a) → Best A a
   the-best (just p) = p
 
   -- where nothing is valid, the answer is none
-  pub none-of : {r : Option Answer} → Solves A r → ((d : ℕ) (y : List ℕ) → A d y → ⊥) → r ≡ none
+  pub none-of : {r : Option Solution} → Solves A r → ((d : ℕ) (y : List ℕ) → A d y → ⊥) → r ≡ none
   none-of (nothing p) f = refl
   none-of (just p) f = absurd (f _ _ (p .valid))
 
   -- no valid level list is cheaper than the best
-  pub cost-least : {a : Answer} → Best A a → (d : ℕ) (y : List ℕ) → A d y → a .cost ≤ d
+  pub cost-least : {a : Solution} → Best A a → (d : ℕ) (y : List ℕ) → A d y → a .cost ≤ d
   cost-least {a} p d y w = go (p .least d y w)
     where
       go : NoWorse (a .cost) (a .levels) d y → a .cost ≤ d
@@ -259,12 +259,12 @@ module _ {A : Problem} where
       go (tied h m) = omega arith
 
   -- of those as cheap, the best has the lower level where they first differ
-  pub levels-first : (k : ℕ) {a : Answer} → Wide k A → Best A a → (d : ℕ) (y : List ℕ) → A d y → d ≡ a .cost → (a .levels ≡ y → ⊥) → FirstLower (a .levels) y
+  pub levels-first : (k : ℕ) {a : Solution} → Width k A → Best A a → (d : ℕ) (y : List ℕ) → A d y → d ≡ a .cost → (a .levels ≡ y → ⊥) → LexLower (a .levels) y
   levels-first k {a} l p d y w e n = go (p .least d y w)
     where
-      go : NoWorse (a .cost) (a .levels) d y → FirstLower (a .levels) y
+      go : NoWorse (a .cost) (a .levels) d y → LexLower (a .levels) y
       go (cheaper h) = absurd (omega arith)
-      go (tied h m) = first-lower m (l .wide _ _ (p .valid) ∙ sym (l .wide _ _ w)) n
+      go (tied h m) = lex-lower m (l .width _ _ (p .valid) ∙ sym (l .width _ _ w)) n
 
 -- the best answer is one
 pub lex-antisym : {x y : List ℕ} → LexLe x y → LexLe y x → x ≡ y
@@ -275,7 +275,7 @@ lex-antisym (same e p) (lower q) = absurd (omega arith)
 lex-antisym (same e p) (same f q) = ap₂ (λ (a : ℕ) (l : List ℕ). a ∷ l) e (lex-antisym p q)
 
 -- two best answers are the same
-pub best-unique : {A : Problem} {a b : Answer} → Best A a → Best A b → a ≡ b
+pub best-unique : {A : Problem} {a b : Solution} → Best A a → Best A b → a ≡ b
 best-unique {A} {a} {b} p q = go (p .least _ _ (q .valid)) (q .least _ _ (p .valid))
   where
     go : NoWorse (a .cost) (a .levels) (b .cost) (b .levels) → NoWorse (b .cost) (b .levels) (a .cost) (a .levels) → a ≡ b
@@ -285,6 +285,6 @@ best-unique {A} {a} {b} p q = go (p .least _ _ (q .valid)) (q .least _ _ (p .val
     go (tied h m) (tied k n) = let e : a .levels ≡ b .levels = lex-antisym m n in λ i. record { cost = h i; levels = e i }
 
 -- a problem put in other words has the same solution
-pub solves-iff : {A B : Problem} {r : Option Answer} → ((d : ℕ) (y : List ℕ) → A d y ↔ B d y) → Solves A r → Solves B r
+pub solves-iff : {A B : Problem} {r : Option Solution} → ((d : ℕ) (y : List ℕ) → A d y ↔ B d y) → Solves A r → Solves B r
 solves-iff f (nothing p) = nothing (λ d y w. p d y (f d y .1 w))
 solves-iff f (just p) = just (record { valid = f _ _ .0 (p .valid); least = λ d y w. p .least d y (f d y .1 w) })

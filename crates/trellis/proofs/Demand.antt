@@ -14,7 +14,7 @@ use Rattle.codes.specs.Encoders.{encoderOf}
 use Rattle.codes.specs.Coset.{bit, Reads}
 use Rattle.codes.proofs.Sums.{odd-mod-two}
 use Rattle.codes.proofs.Encoders.{encoder-in-memory, reads-sums}
-use Rattle.trellis.specs.Best.{Answer, Best, Solves, Wide}
+use Rattle.trellis.specs.Best.{Solution, Best, Solves, Width}
 use Rattle.trellis.specs.Strip.{Steps, Dear, Cell, words, Rewrite}
 use Rattle.trellis.specs.Demand.{levelAt, CouldBe, pays, Cheapest}
 use Rattle.trellis.specs.Search.{write}
@@ -51,11 +51,11 @@ module _ (S : Steps) (G : Generators) (lead : digit (G .memory) (G .g1) 0 ≡ 1)
     unfolding encoderOf
     solved = write-solves (encoderOf G) (encoder-in-memory G) (λ j t. odd (d t)) S (parity 2) (parity-choice S) (parity-chooses S D 2) n old (full-length 2 n old size)
 
-    wide : Wide (length old) (Rewrite S (parity 2) (encoderOf G) (λ j t. odd (d t)) n old)
-    wide = record { wide = λ c y w. raised-length (w .raised) }
+    wide : Width (length old) (Rewrite S (parity 2) (encoderOf G) (λ j t. odd (d t)) n old)
+    wide = record { width = λ c y w. raised-length (w .raised) }
 
     -- an answer is the cheapest
-    pub search-cheapest : (a : Answer) → write (encoderOf G) (λ j t. odd (d t)) (parity-choice S) 2 n old ≡ some a → Cheapest S G n d old (a .levels) (a .cost)
+    pub search-cheapest : (a : Solution) → write (encoderOf G) (λ j t. odd (d t)) (parity-choice S) 2 n old ≡ some a → Cheapest S G n d old (a .levels) (a .cost)
     search-cheapest a e = record {
       could = rewrite-could (a .cost) (a .levels) (best .valid);
       paid = raised-pays S (best .valid .raised);

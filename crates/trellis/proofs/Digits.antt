@@ -14,7 +14,7 @@ use Rattle.codes.specs.Sequences.{_+₂_, odd}
 use Rattle.codes.specs.Numbers.{one-if}
 use Rattle.codes.proofs.Numbers.{one-if-le, odd-one-if}
 use Rattle.codes.proofs.Sums.{odd-add}
-use Rattle.trellis.specs.Best.{Answer}
+use Rattle.trellis.specs.Best.{Solution}
 use Rattle.trellis.specs.Trellis.{before, joined}
 use Rattle.trellis.specs.Strip.{Cell, stepsOf}
 use Rattle.trellis.specs.Plan.{first-level, plus, lesser, turn, costs, digit-at, play}
@@ -30,22 +30,22 @@ use Rattle.trellis.proofs.Windows.{mod-odd, firstOf, secondOf, parity-f
 use Rattle.trellis.proofs.Prices.{Suits, branchFor, cellFor, stageFor, labelFor, wayFor, byZero, byOne, tie-is, branch-cells, zero-told, one-told}
 
 -- ANSWERS. What an answer made of two, one after the other, is made of
-pub record Both (r q : Option Answer) (a : Answer) : Type 0 where
-  pub first : Answer
-  pub second : Answer
+pub record Both (r q : Option Solution) (a : Solution) : Type 0 where
+  pub first : Solution
+  pub second : Solution
   pub left : r ≡ some first
   pub right : q ≡ some second
   pub append : a .levels ≡ first .levels ++ second .levels
 
 -- where two one after the other are open, both are
-pub joined-both : (r q : Option Answer) (a : Answer) → joined r q ≡ some a → Both r q a
+pub joined-both : (r q : Option Solution) (a : Solution) → joined r q ≡ some a → Both r q a
 unfolding joined
 joined-both none q a e = absurd (none-some a e)
 joined-both (some b) none a e = absurd (none-some a e)
-joined-both (some b) (some c) a e = record { first = b; second = c; left = refl; right = refl; append = ap (λ (z : Answer). z .levels) (sym (Option·some-injective _ _ e)) }
+joined-both (some b) (some c) a e = record { first = b; second = c; left = refl; right = refl; append = ap (λ (z : Solution). z .levels) (sym (Option·some-injective _ _ e)) }
 
 -- a branch with a cost after it is open
-plus-open : (r : Option Answer) (k : Option ℕ) (c : ℕ) → plus r k ≡ some c → (a : Answer) × (r ≡ some a)
+plus-open : (r : Option Solution) (k : Option ℕ) (c : ℕ) → plus r k ≡ some c → (a : Solution) × (r ≡ some a)
 unfolding plus
 plus-open none k c e = absurd (let z : _≡_ {A = ℕ} 0 1 = cc in omega arith)
 plus-open (some a) k c e = (a, refl)
@@ -76,7 +76,7 @@ either-shut o = go (o false) (o true) refl refl
     go (some c) (some d) p q e u = absurd (let z : _≡_ {A = ℕ} 0 1 = cc in omega arith)
 
 -- PATHS. No digits are open from a state that has no cost
-module _ {G S : Type 0} (branch : G → S → Bool → Option Answer) (next : G → S → Bool → S) where
+module _ {G S : Type 0} (branch : G → S → Bool → Option Solution) (next : G → S → Bool → S) where
   pub play-shut : (gs : List G) (s : S) (us : List Bool) → costs branch next gs s ≡ none → play branch next gs s us ≡ none
   unfolding play costs plus joined
   play-shut [] s us e = absurd (let z : _≡_ {A = ℕ} 0 1 = cc in omega arith)
@@ -84,7 +84,7 @@ module _ {G S : Type 0} (branch : G → S → Bool → Option Answer) (next : G 
   play-shut (g ∷ gs) s (u ∷ us) e =
       go (branch g s u) (costs branch next gs (next g s u)) (either-shut (λ v. plus (branch g s v) (costs branch next gs (next g s v))) e u) (play-shut gs (next g s u) us)
     where
-      go : (r : Option Answer) (k : Option ℕ) → plus r k ≡ none → (k ≡ none → play branch next gs (next g s u) us ≡ none) → joined r (play branch next gs (next g s u) us) ≡ none
+      go : (r : Option Solution) (k : Option ℕ) → plus r k ≡ none → (k ≡ none → play branch next gs (next g s u) us ≡ none) → joined r (play branch next gs (next g s u) us) ≡ none
       go none k e f = refl
       go (some a) none e f = rw (f refl)
       go (some a) (some c) e f = absurd (let z : _≡_ {A = ℕ} 0 1 = cc in omega arith)
@@ -122,7 +122,7 @@ held-tie x = go (odd (x .level))
 
 module _ (G : Generators) (W : List ℕ) (K : Suits G W) (strip content : List ℕ) (t : ℕ) where
   -- an open branch holds the levels of its two bits
-  pub branch-held : (s : ℕ) (u : Bool) (a : Answer) → branchFor G W (stageFor G strip content t) s u ≡ some a
+  pub branch-held : (s : ℕ) (u : Bool) (a : Solution) → branchFor G W (stageFor G strip content t) s u ≡ some a
       → a .levels ≡ held (cellFor strip (2 * t)) (firstOf G (2 * s + one-if u)) ∷ held (cellFor strip (2 * t + 1)) (secondOf G (2 * s + one-if u) +₂ labelFor G content t) ∷ []
   branch-held s u a e =
       let p = joined-both _ _ a (sym (branch-cells G W K strip content t s u) ∙ e) in
@@ -130,7 +130,7 @@ module _ (G : Generators) (W : List ℕ) (K : Suits G W) (strip content : List �
       rw (p .append, q .append, keep-held (stepsOf W) _ _ (p .first) (p .left), keep-held (stepsOf W) _ _ (q .first) (q .left), ← Option·some-injective _ _ (q .right))
 
   -- so where both are open, the tie is whether the digit 1 wants the bit that the first cell shows
-  tie-told : (s : ℕ) (a b : Answer) → branchFor G W (stageFor G strip content t) s false ≡ some a
+  tie-told : (s : ℕ) (a b : Solution) → branchFor G W (stageFor G strip content t) s false ≡ some a
       → branchFor G W (stageFor G strip content t) s true ≡ some b
       → Bool·beq (odd (level strip (2 * t))) (firstOf G (2 * s + 1)) ≡ ltb (first-level (some b)) (first-level (some a))
   unfolding first-level one-if

@@ -12,7 +12,7 @@ use Rattle.codes.specs.Generators.{Generators, short, long, digit}
 use Rattle.codes.specs.Sequences.{odd}
 use Rattle.codes.specs.Registers.{dot, push, register, quotient}
 use Rattle.codes.specs.Encoders.{encoderOf}
-use Rattle.trellis.specs.Best.{Answer}
+use Rattle.trellis.specs.Best.{Solution}
 use Rattle.trellis.specs.Strip.{cellsOf, stepsOf}
 use Rattle.trellis.specs.Trellis.{before, lexltb, beats, better, joined}
 use Rattle.trellis.specs.Search.{labels, sums, wanted, branch, next, stages, write}
@@ -21,7 +21,7 @@ use Rattle.trellis.specs.Table.{grow, look, step, table, write-table}
 use Rattle.trellis.proofs.Table.{write-by-table}
 
 -- the write of the data byte b on a strip of 16 cells at these levels
-unfoldable pub rewritten : Generators → List ℕ → ℕ → Option Answer
+unfoldable pub rewritten : Generators → List ℕ → ℕ → Option Solution
 rewritten G levels b = write-table (encoderOf G) (λ j t. odd (bitOf (b ∷ []) t)) (parity-choice (stepsOf house)) 2 8 (cellsOf 16 (λ c. getD levels c 0) (λ c. false))
 
 -- it is the search's

@@ -13,7 +13,7 @@ use Rattle.codes.specs.Encoders.{Encoder, InMemory}
 use Rattle.codes.specs.Taps.{parityOf}
 use Rattle.codes.specs.Numbers.{one-if, value}
 use Rattle.codes.proofs.Numbers.{odd-one-if, parity-dot, value-take, value-zeros}
-use Rattle.trellis.specs.Best.{Answer}
+use Rattle.trellis.specs.Best.{Solution}
 use Rattle.trellis.specs.Trellis.{better, joined, best}
 use Rattle.trellis.specs.Strip.{Steps, Cell, Full, Meaning}
 use Rattle.trellis.specs.Search.{sums, wanted, Stage, Choice, branch, next, stages, write, Chooses, Leads}
@@ -22,8 +22,8 @@ use Rattle.trellis.specs.Numbered.{sumsN, wantedN, branchN, nextN}
 use Rattle.trellis.proofs.Apart.{write-plan}
 
 -- states as other things: what commutes with the branches and the next states keeps the best, the costs and the plan
-module _ {G S R : Type 0} (branch₁ : G → S → Bool → Option Answer) (next₁ : G → S → Bool → S)
-    (branch₂ : G → R → Bool → Option Answer) (next₂ : G → R → Bool → R) (φ : S → R)
+module _ {G S R : Type 0} (branch₁ : G → S → Bool → Option Solution) (next₁ : G → S → Bool → S)
+    (branch₂ : G → R → Bool → Option Solution) (next₂ : G → R → Bool → R) (φ : S → R)
     (same-branch : (g : G) (s : S) (u : Bool) → branch₂ g (φ s) u ≡ branch₁ g s u)
     (same-next : (g : G) (s : S) (u : Bool) → next₂ g (φ s) u ≡ φ (next₁ g s u)) where
   -- the best

@@ -16,7 +16,7 @@ use Rattle.codes.specs.Sequences.{_+₂_, odd}
 use Rattle.codes.specs.Numbers.{one-if}
 use Rattle.codes.specs.Encoders.{encoderOf, InMemory}
 use Rattle.codes.proofs.Numbers.{sum-bits}
-use Rattle.trellis.specs.Best.{Answer}
+use Rattle.trellis.specs.Best.{Solution}
 use Rattle.trellis.specs.Strip.{Dear, stepsOf}
 use Rattle.trellis.specs.Demand.{levelAt}
 use Rattle.trellis.specs.Parity.{parity, parity-choice}
@@ -79,7 +79,7 @@ wide-in-memory G W K = record { first-fits = omega (arith, length-listOf (G .mem
 
 module _ (G : Generators) (W strip content : List ℕ) where
   -- the answer of the plan over k stages from stage t and the state s
-  abbrev onward : ℕ → ℕ → ℕ → Option Answer
+  abbrev onward : ℕ → ℕ → ℕ → Option Solution
   onward s t k =
       play (branchFor G W) (nextN (wide G)) (stagesFrom G strip content t k) s
       (plan (branchFor G W) (nextN (wide G)) (stagesFrom G strip content t k) s)
@@ -91,8 +91,8 @@ module _ (G : Generators) (W strip content : List ℕ) where
       (costs (branchFor G W) (nextN (wide G)) (stagesFrom G strip content (suc t) k))
 
 -- a stage is carried out by the decisions dec as planned: the levels a are those of its two cells, and the plan's from the state after it
-record Onward (G : Generators) (W strip content : List ℕ) (dec : ℕ → ℕ) (t k : ℕ) (a : Answer) : Type 0 where
-  rest : Answer
+record Onward (G : Generators) (W strip content : List ℕ) (dec : ℕ → ℕ) (t k : ℕ) (a : Solution) : Type 0 where
+  rest : Solution
   further : onward G W strip content (followedState dec (suc t)) (suc t) k ≡ some rest
   carried : a .levels ≡ carriedTo G strip content (followed dec) (2 * t) ∷ carriedTo G strip content (followed dec) (2 * t + 1) ∷ rest .levels
 
@@ -102,7 +102,7 @@ module _ (G : Generators) (W : List ℕ) (K : Suits G W) (L : ℕ) (most : L ≤
   decided = decisionAt G W strip content (8 * L)
 
   -- where the plan is open, the digit that is followed is the plan's
-  followed-planned : (t k : ℕ) → t + suc k ≡ 8 * L → (a : Answer) → onward G W strip content (followedState decided t) t (suc k) ≡ some a
+  followed-planned : (t k : ℕ) → t + suc k ≡ 8 * L → (a : Solution) → onward G W strip content (followedState decided t) t (suc k) ≡ some a
       → followed decided t ≡ one-if (planned G W strip content (followedState decided t) t k)
   unfolding followed decisionAt stagesFrom costs
   followed-planned t k e a p =
@@ -112,7 +112,7 @@ module _ (G : Generators) (W : List ℕ) (K : Suits G W) (L : ℕ) (most : L ≤
       (followedState decided t) (followed-less decided t) (λ f. none-some a (sym (play-shut _ _ (stagesFrom G strip content t (suc k)) (followedState decided t) _ f) ∙ p)))
 
   -- so a stage is carried out as planned
-  onward-step : (t k : ℕ) → t + suc k ≡ 8 * L → (a : Answer) → onward G W strip content (followedState decided t) t (suc k) ≡ some a → Onward G W strip content decided t k a
+  onward-step : (t k : ℕ) → t + suc k ≡ 8 * L → (a : Solution) → onward G W strip content (followedState decided t) t (suc k) ≡ some a → Onward G W strip content decided t k a
   unfolding play plan stagesFrom nextN wide followedState followed
   onward-step t k e a p =
       let s : ℕ = followedState decided t in
@@ -129,7 +129,7 @@ module _ (G : Generators) (W : List ℕ) (K : Suits G W) (L : ℕ) (most : L ≤
       }
 
   -- and so are all
-  onward-carried : (k t : ℕ) → t + k ≡ 8 * L → (a : Answer) → onward G W strip content (followedState decided t) t k ≡ some a
+  onward-carried : (k t : ℕ) → t + k ≡ 8 * L → (a : Solution) → onward G W strip content (followedState decided t) t k ≡ some a
       → (c : ℕ) → c < 2 * k → carriedTo G strip content (followed decided) (2 * t + c) ≡ levelAt (a .levels) c
   unfolding levelAt
   onward-carried zero t e a p c h = absurd (let z : ⊥ = omega arith in z)
@@ -149,7 +149,7 @@ module _ (G : Generators) (W : List ℕ) (K : Suits G W) (L : ℕ) (most : L ≤
       (8 * L) (unmarked L strip) (full-length 2 (8 * L) (unmarked L strip) (length-cells (16 * L) (level strip) (λ c. false) ∙ omega arith)))
 
   -- so what is carried out are its levels
-  pub carried-is : Dear (stepsOf W) → (a : Answer) → rewriteOf G W L strip content ≡ some a
+  pub carried-is : Dear (stepsOf W) → (a : Solution) → rewriteOf G W L strip content ≡ some a
       → (c : ℕ) → c < 16 * L → carriedTo G strip content (followed (decisionAt G W strip content (8 * L))) c ≡ levelAt (a .levels) c
   unfolding followedState
   carried-is D a e c h = let z : 2 * 0 + c ≡ c = omega arith in rw z at (onward-carried (8 * L) 0 (omega arith) a (onward-write D ∙ e) c (omega arith))

@@ -24,7 +24,7 @@ use Rattle.codes.specs.Encoders.{encoderOf, Proper}
 use Rattle.codes.proofs.Numbers.{taps-value, sum-bits}
 use Rattle.codes.proofs.Registers.{conv-quotient, conv-cancel}
 use Rattle.codes.proofs.Encoders.{first-digits}
-use Rattle.trellis.specs.Best.{Answer}
+use Rattle.trellis.specs.Best.{Solution}
 use Rattle.trellis.specs.Trellis.{joined, free}
 use Rattle.trellis.specs.Strip.{Cell, stepsOf}
 use Rattle.trellis.specs.Search.{Stage}
@@ -72,7 +72,7 @@ abbrev pub stageFor : Generators → List ℕ → List ℕ → ℕ → Stage
 stageFor G strip content t = record { adds = labelFor G content t ∷ []; cells = cellFor strip (2 * t) ∷ cellFor strip (2 * t + 1) ∷ [] }
 
 -- its branches by the states' numbers
-abbrev pub branchFor : Generators → List ℕ → Stage → ℕ → Bool → Option Answer
+abbrev pub branchFor : Generators → List ℕ → Stage → ℕ → Bool → Option Solution
 branchFor G W = branchN (wide G) (parity-choice (stepsOf W))
 
 module _ (G : Generators) (W strip content : List ℕ) (t : ℕ) where
@@ -93,7 +93,7 @@ module _ (G : Generators) (W strip content : List ℕ) (t : ℕ) where
       (secondPrice (stepList W) strip t (labelAt G content t) 0) (secondPrice (stepList W) strip t (labelAt G content t) 1) s
 
 -- the cost of two choices, one after the other, and of what follows
-plus-pair : (r q : Option Answer) (k : Option ℕ) → plus (joined r (joined q (some free))) k ≡ add (add (cost-of r) (cost-of q)) k
+plus-pair : (r q : Option Solution) (k : Option ℕ) → plus (joined r (joined q (some free))) k ≡ add (add (cost-of r) (cost-of q)) k
 unfolding plus joined add cost-of
 plus-pair none q k = refl
 plus-pair (some a) none k = refl

@@ -12,7 +12,7 @@ use Rattle.cells.proofs.Places.{listOf-same}
 use Rattle.codes.specs.Generators.{Generators}
 use Rattle.codes.specs.Encoders.{encoderOf}
 use Rattle.codes.proofs.Numbers.{value-zeros}
-use Rattle.trellis.specs.Best.{Answer}
+use Rattle.trellis.specs.Best.{Solution}
 use Rattle.trellis.specs.Strip.{cellsOf, stepsOf}
 use Rattle.trellis.specs.Search.{Stage, labels, stages, write, branch, next}
 use Rattle.trellis.specs.Parity.{parity-choice}
@@ -20,8 +20,8 @@ use Rattle.trellis.specs.Plan.{cost-of, costs}
 use Rattle.trellis.specs.Numbered.{branchN, nextN}
 use Rattle.trellis.specs.Costs.{Tells, open-at, shut}
 use Rattle.trellis.specs.Backward.{closed, costsOver}
-use Rattle.trellis.specs.Wide.{wide, dataOf, unmarked, stagesOf, rewriteOf, outcomeFor}
-use Rattle.trellis.specs.Outcomes.{outcomeOf}
+use Rattle.trellis.specs.Wide.{wide, dataOf, unmarked, stagesOf, rewriteOf, solutionOutcome}
+use Rattle.trellis.specs.Outcomes.{toldOutcome}
 use Rattle.trellis.proofs.Plan.{costs-best}
 use Rattle.trellis.proofs.Numbered.{costs-value}
 use Rattle.trellis.proofs.Prices.{Suits, branchFor, cellFor, stageFor, stage-told}
@@ -72,8 +72,8 @@ module _ (G : Generators) (strip content : List ℕ) where
       ap (drop (8 * L - k)) (stages-are L ∙ ap (stagesFrom 0) e) ∙ stages-after (8 * L - k) 0 k ∙ ap (λ (i : ℕ). stagesFrom i k) f
 
 -- the number that tells the cost of an answer tells its outcome
-outcome-told : (m v : ℕ) (r : Option Answer) → m < closed → Tells closed m v (cost-of r) → outcomeOf v ≡ outcomeFor r
-unfolding cost-of outcomeFor
+outcome-told : (m v : ℕ) (r : Option Solution) → m < closed → Tells closed m v (cost-of r) → toldOutcome v ≡ solutionOutcome r
+unfolding cost-of solutionOutcome
 outcome-told m v none l (shut h) = rw (le-ltb v closed h)
 outcome-told m v (some a) l (open-at h) = rw (lt-ltb v closed (omega arith))
 
@@ -102,5 +102,5 @@ module _ (G : Generators) (W : List ℕ) (K : Suits G W) (L : ℕ) (most : L ≤
       ∙ costs-best (branch (wide G) (parity-choice (stepsOf W))) (next (wide G)) (stagesOf G L strip content) (replicate 6 false)
 
   -- so its number tells the outcome
-  pub outcome-is : outcomeOf (getD (costsOver G W strip content (8 * L) (8 * L)) 0 0) ≡ outcomeFor (rewriteOf G W L strip content)
+  pub outcome-is : toldOutcome (getD (costsOver G W strip content (8 * L) (8 * L)) 0 0) ≡ solutionOutcome (rewriteOf G W L strip content)
   outcome-is = outcome-told (8 * L * 510) _ (rewriteOf G W L strip content) (omega arith) (rw (← stages-are G strip content L, cost-start) at (costs-from (8 * L) 0 (omega arith) 0 (omega arith)))

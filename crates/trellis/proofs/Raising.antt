@@ -7,10 +7,10 @@ use native.Mathlib.Omega.{arith}
 use native.Mathlib.Nat.{not-suc-le-zero}
 use lib.ListN.{length, getD, take, drop, length-drop, length-map}
 use lib.Seq.{length-take-le}
-use Rattle.trellis.specs.Best.{Wide}
+use Rattle.trellis.specs.Best.{Width}
 use Rattle.cells.specs.Climbs.{climb}
 use Rattle.trellis.specs.Strip.{Steps, Cell, Raised, still, rise, groups, Full, done, more, Meaning, words, Group}
-use Rattle.codes.specs.Coset.{Sized}
+use Rattle.codes.specs.Coset.{BitsEach}
 
 module _ {S : Steps} where
   pub raised-length : {old : List Cell} {c : ℕ} {y : List ℕ} → Raised S old c y → length y ≡ length old
@@ -41,8 +41,8 @@ raised-split {S} (suc k) (rise {x = x} {to = w} {old = old} {new = new} p r e) =
     record { cost₁ = climb (S .weight) (x .level) w + q .cost₁; cost₂ = q .cost₂; raised₁ = rise p (q .raised₁) refl; raised₂ = q .raised₂; sum = omega arith }
 
 -- a stage's levels are as many as its cells
-pub group-wide : (S : Steps) (M : Meaning) (xs : List Cell) (w : List Bool) → Wide (length xs) (Group S M xs w)
-group-wide S M xs w = record { wide = λ c y g. raised-length (g .raised) }
+pub group-width : (S : Steps) (M : Meaning) (xs : List Cell) (w : List Bool) → Width (length xs) (Group S M xs w)
+group-width S M xs w = record { width = λ c y g. raised-length (g .raised) }
 
 -- groups
 pub full-raised : {S : Steps} (k : ℕ) {n : ℕ} {old : List Cell} → Full k n old → {c : ℕ} {y : List ℕ} → Raised S old c y → Full k n y
@@ -71,11 +71,11 @@ unfolding words
 length-words M n y = length-map (groups (M .cells) n y) (M .means) ∙ length-groups (M .cells) n y
 
 -- each of b bits
-pub words-sized : (M : Meaning) (b : ℕ) → ((y : List ℕ) → length y ≡ M .cells → length (M .means y) ≡ b) → {n : ℕ} {y : List ℕ} → Full (M .cells) n y → Sized b n (words M n y)
+pub words-sized : (M : Meaning) (b : ℕ) → ((y : List ℕ) → length y ≡ M .cells → length (M .means y) ≡ b) → {n : ℕ} {y : List ℕ} → Full (M .cells) n y → BitsEach b n (words M n y)
 unfolding words groups
 words-sized M b f done = record { size = λ i h. absurd (not-suc-le-zero h) }
 words-sized M b f (more {n = n} {l = l} e q) = record { size = go (words-sized M b f q) }
   where
-    go : Sized b n (words M n (drop (M .cells) l)) → (i : ℕ) → i < suc n → length (getD (words M (suc n) l) i []) ≡ b
+    go : BitsEach b n (words M n (drop (M .cells) l)) → (i : ℕ) → i < suc n → length (getD (words M (suc n) l) i []) ≡ b
     go z zero h = f (take (M .cells) l) e
     go z (suc i) h = z .size i (omega arith)

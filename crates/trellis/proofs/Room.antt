@@ -6,14 +6,14 @@ use Prim.Native.Nat.{ℕ, suc}
 use lib.ListN.{length}
 use Rattle.codes.specs.Sequences.{Bits}
 use Rattle.codes.specs.Encoders.{Encoder, InMemory}
-use Rattle.trellis.specs.Best.{Problem, Answer, Solves, nothing, just}
+use Rattle.trellis.specs.Best.{Problem, Solution, Solves, nothing, just}
 use Rattle.trellis.specs.Strip.{Steps, Cell, Full, Meaning, Rewrite}
 use Rattle.trellis.specs.Search.{Choice, Chooses, write}
 use Rattle.trellis.proofs.Best.{best-unique, solves-iff}
 use Rattle.trellis.proofs.Search.{write-solves}
 
 -- a problem has one solution
-pub solves-unique : {A : Problem} {r s : Option Answer} → Solves A r → Solves A s → r ≡ s
+pub solves-unique : {A : Problem} {r s : Option Solution} → Solves A r → Solves A s → r ≡ s
 solves-unique (nothing p) (nothing q) = refl
 solves-unique (nothing p) (just q) = absurd (p _ _ (q .valid))
 solves-unique (just p) (nothing q) = absurd (q _ _ (p .valid))

@@ -25,7 +25,7 @@ use Rattle.codes.specs.Coset.{bit, rest, word, Written}
 use Rattle.codes.proofs.Coset.{written-reads, reads-written}
 use Rattle.trellis.proofs.Trellis.{best-solves}
 use Rattle.trellis.proofs.Best.{solves-iff}
-use Rattle.trellis.proofs.Raising.{Split, raised-split, raised-append, raised-length, full-raised, group-wide, length-words, words-sized}
+use Rattle.trellis.proofs.Raising.{Split, raised-split, raised-append, raised-length, full-raised, group-width, length-words, words-sized}
 
 -- a sequence with another bit at stage t
 upd : Bits → ℕ → Bool → Bits
@@ -168,7 +168,7 @@ module _ (E : Encoder) (H : InMemory E) (d : ℕ → Bits) where
       unfolding write admit
       write-solves n old p =
           solves-iff (λ c y. (to c y, from c y))
-          (best-solves (branch E choose) (next E) (admit E S M) (λ g. length (g .cells)) Ok branch-law (λ g s u. group-wide S M (g .cells) _) (stages-ok p 0) (replicate (E .memory) false))
+          (best-solves (branch E choose) (next E) (admit E S M) (λ g. length (g .cells)) Ok branch-law (λ g s u. group-width S M (g .cells) _) (stages-ok p 0) (replicate (E .memory) false))
         where
           to : (c : ℕ) (y : List ℕ) → Valid (admit E S M) (next E) (stages E d (M .cells) 0 n old) (replicate (E .memory) false) c y → Rewrite S M E d n old c y
           to c y w =

@@ -69,21 +69,21 @@ module _ (n : ℕ) (after words : List ℕ) (a0 a1 b0 b1 : ℕ) where
   lesser-is s i e p q = rw (e, p, q)
 
   -- the digit of a state, by the same two branches
-  pub digit-is : (low s i : ℕ) {x y tie : ℕ} → 2 * s % n ≡ i → x ≡ branchCost (getD words s 0) (getD after i 0) a0 a1 b0 b1
-      → y ≡ branchCost (getD words s 0) (getD after (i + 1) 0) a1 a0 b1 b0 → tie ≡ pick (getD words s 0 % 2) low (1 - low)
-      → below y (x + tie) ≡ digitOf n after words a0 a1 b0 b1 low s
+  pub digit-is : (stay s i : ℕ) {x y tie : ℕ} → 2 * s % n ≡ i → x ≡ branchCost (getD words s 0) (getD after i 0) a0 a1 b0 b1
+      → y ≡ branchCost (getD words s 0) (getD after (i + 1) 0) a1 a0 b1 b0 → tie ≡ pick (getD words s 0 % 2) stay (1 - stay)
+      → below y (x + tie) ≡ digitOf n after words a0 a1 b0 b1 stay s
   unfolding digitOf by0 by1
-  digit-is low s i e p q r = rw (e, p, q, r)
+  digit-is stay s i e p q r = rw (e, p, q, r)
 
   -- a digit is 0 or 1
-  pub digit-le : (low s : ℕ) → digitOf n after words a0 a1 b0 b1 low s ≤ 1
+  pub digit-le : (stay s : ℕ) → digitOf n after words a0 a1 b0 b1 stay s ≤ 1
   unfolding digitOf below
-  digit-le low s = omega arith
+  digit-le stay s = omega arith
 
   -- bit s of the digits is the digit of the state s
-  pub digits-bit : (low s : ℕ) → s < n → digitsOf n after words a0 a1 b0 b1 low / 2 ^ s % 2 ≡ digitOf n after words a0 a1 b0 b1 low s
+  pub digits-bit : (stay s : ℕ) → s < n → digitsOf n after words a0 a1 b0 b1 stay / 2 ^ s % 2 ≡ digitOf n after words a0 a1 b0 b1 stay s
   unfolding digitsOf
-  digits-bit low s h = number-bit n (digitOf n after words a0 a1 b0 b1 low) (λ i k. omega (arith, digit-le low i)) s h
+  digits-bit stay s h = number-bit n (digitOf n after words a0 a1 b0 b1 stay) (λ i k. omega (arith, digit-le stay i)) s h
 
   -- STAGES. A stage has a cost for each state
   pub length-stage : length (stageOf n after words a0 a1 b0 b1) ≡ n
@@ -101,16 +101,16 @@ module _ (n : ℕ) (after words : List ℕ) (a0 a1 b0 b1 : ℕ) where
   is-stage r e p =
       ext-getD 0 r (stageOf n after words a0 a1 b0 b1) (e ∙ sym length-stage) (λ k l. let h : k < n = omega arith in p k h ∙ sym (stage-at k h))
 
-module _ (after words : List ℕ) (at a0 a1 b0 b1 low : ℕ) where
+module _ (after words : List ℕ) (at a0 a1 b0 b1 stay : ℕ) where
   -- the digits of a half, with that of the state at + i added at bit i
   pub half-more : (i : ℕ) {digits x y tie m : ℕ} → at % 32 ≡ 0 → at + 32 ≤ 64 → i < 32
-      → digits ≡ number i (λ k. digitOf 64 after words a0 a1 b0 b1 low (at + k))
+      → digits ≡ number i (λ k. digitOf 64 after words a0 a1 b0 b1 stay (at + k))
       → x ≡ branchCost (getD words (at + i) 0) (getD after (2 * i) 0) a0 a1 b0 b1
       → y ≡ branchCost (getD words (at + i) 0) (getD after (2 * i + 1) 0) a1 a0 b1 b0
-      → tie ≡ pick (getD words (at + i) 0 % 2) low (1 - low) → m ≡ below y (x + tie) * ((1 * 2 ^ i) % 2 ^ 32)
-      → digits + m ≡ number (i + 1) (λ k. digitOf 64 after words a0 a1 b0 b1 low (at + k))
+      → tie ≡ pick (getD words (at + i) 0 % 2) stay (1 - stay) → m ≡ below y (x + tie) * ((1 * 2 ^ i) % 2 ^ 32)
+      → digits + m ≡ number (i + 1) (λ k. digitOf 64 after words a0 a1 b0 b1 stay (at + k))
   half-more i h l k d p q r e =
-      let bit = digit-is 64 after words a0 a1 b0 b1 low (at + i) (2 * i) (half-after at i h l k) p q r in
+      let bit = digit-is 64 after words a0 a1 b0 b1 stay (at + i) (2 * i) (half-after at i h l k) p q r in
       rw add-one (ap₂ _+_ d (e ∙ ap₂ _*_ bit (one-shl i 32 k)) ∙ sym (number-more i _))
 
 -- a list of costs that are at most m each, read anywhere

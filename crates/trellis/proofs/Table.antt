@@ -9,7 +9,7 @@ use lib.ListN.{length, replicate, length-replicate, length-take}
 use Rattle.codes.specs.Sequences.{Bits}
 use Rattle.codes.specs.Registers.{push}
 use Rattle.codes.specs.Encoders.{Encoder}
-use Rattle.trellis.specs.Best.{Answer}
+use Rattle.trellis.specs.Best.{Solution}
 use Rattle.trellis.specs.Trellis.{better, joined, free, best}
 use Rattle.trellis.specs.Strip.{Cell}
 use Rattle.trellis.specs.Search.{Stage, Choice, branch, next, stages, write}
@@ -25,14 +25,14 @@ look-grow z (suc m) f (false ∷ s) l = look-grow z m (λ s. f (false ∷ s)) s 
 look-grow z (suc m) f (true ∷ s) l = look-grow z m (λ s. f (true ∷ s)) s (omega arith)
 
 -- the table of a trellis whose states stay m bits long
-module _ {G : Type 0} (m : ℕ) (branch : G → List Bool → Bool → Option Answer) (next : G → List Bool → Bool → List Bool)
+module _ {G : Type 0} (m : ℕ) (branch : G → List Bool → Bool → Option Solution) (next : G → List Bool → Bool → List Bool)
     (stays : (g : G) (s : List Bool) (u : Bool) → length s ≡ m → length (next g s u) ≡ m) where
   pub table-best : (gs : List G) (s : List Bool) → length s ≡ m → look none (table m branch next gs) s ≡ best branch next gs s
   unfolding table step best
   table-best [] s l = look-grow none m (λ s. some free) s l
   table-best (g ∷ gs) s l =
       look-grow none m _ s l
-      ∙ ap₂ (λ (x y : Option Answer). better (joined (branch g s false) x) (joined (branch g s true) y))
+      ∙ ap₂ (λ (x y : Option Solution). better (joined (branch g s false) x) (joined (branch g s true) y))
       (table-best gs (next g s false) (stays g s false l)) (table-best gs (next g s true) (stays g s true l))
 
 -- the write of a strip

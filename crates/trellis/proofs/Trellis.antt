@@ -6,14 +6,14 @@ use mathlib.Core.Option.{Option, none, some}
 use Prim.Native.Nat.{ℕ, suc, _+_}
 use lib.ListN.{length}
 use Rattle.cells.specs.Places.{Each, no-more, and-each}
-use Rattle.trellis.specs.Best.{Problem, Answer, Solves, nothing, just, Wide, All, FirstClosed, here, later}
+use Rattle.trellis.specs.Best.{Problem, Solution, Solves, nothing, just, Width, All, FirstClosed, here, later}
 use Rattle.trellis.specs.Trellis.{joined, free, best, Valid, all, first-none, total}
-use Rattle.trellis.proofs.Best.{solves-empty, solves-either, solves-product, wide-empty, wide-either, wide-product, some-none}
+use Rattle.trellis.proofs.Best.{solves-empty, solves-either, solves-product, width-empty, width-either, width-product, some-none}
 
 -- THE TRELLIS: best solves it
-module _ {G S : Type 0} (branch : G → S → Bool → Option Answer) (next : G → S → Bool → S) (admit : G → S → Bool → Problem) (width : G → ℕ)
+module _ {G S : Type 0} (branch : G → S → Bool → Option Solution) (next : G → S → Bool → S) (admit : G → S → Bool → Problem) (width : G → ℕ)
     (Ok : G → Type 0) (law : (g : G) → Ok g → (s : S) (u : Bool) → Solves (admit g s u) (branch g s u))
-    (wide : (g : G) (s : S) (u : Bool) → Wide (width g) (admit g s u)) where
+    (wide : (g : G) (s : S) (u : Bool) → Width (width g) (admit g s u)) where
   -- the law itself
   pub best-solves : {gs : List G} → Each Ok gs → (s : S) → Solves (Valid admit next gs s) (best branch next gs s)
   unfolding best Valid
@@ -23,14 +23,14 @@ module _ {G S : Type 0} (branch : G → S → Bool → Option Answer) (next : G 
       (solves-product (width g) (wide g s true) (law g o s true) (best-solves os (next g s true)))
 
   -- all that is valid has as many levels as the stages have cells
-  pub wide-valid : (gs : List G) (s : S) → Wide (total width gs) (Valid admit next gs s)
+  pub width-valid : (gs : List G) (s : S) → Width (total width gs) (Valid admit next gs s)
   unfolding Valid total
-  wide-valid [] s = wide-empty
-  wide-valid (g ∷ gs) s = wide-either (width g + total width gs) (λ u. wide-product (width g) (total width gs) (wide g s u) (wide-valid gs (next g s u)))
+  width-valid [] s = width-empty
+  width-valid (g ∷ gs) s = width-either (width g + total width gs) (λ u. width-product (width g) (total width gs) (wide g s u) (width-valid gs (next g s u)))
 
 -- THE PARTS: all solves them, and where there is no answer first-none is the first part that has none
-module _ {I : Type 0} (answer : I → Option Answer) (problem : I → Problem) (width : I → ℕ)
-    (Ok : I → Type 0) (law : (i : I) → Ok i → Solves (problem i) (answer i)) (wide : (i : I) → Wide (width i) (problem i)) where
+module _ {I : Type 0} (answer : I → Option Solution) (problem : I → Problem) (width : I → ℕ)
+    (Ok : I → Type 0) (law : (i : I) → Ok i → Solves (problem i) (answer i)) (wide : (i : I) → Width (width i) (problem i)) where
   -- the parts one after the other
   pub all-solves : {is : List I} → Each Ok is → Solves (All problem is) (all answer is)
   unfolding All all
@@ -43,19 +43,19 @@ module _ {I : Type 0} (answer : I → Option Answer) (problem : I → Problem) (
   none-first no-more e = absurd (some-none free e)
   none-first (and-each {g = i} {gs = is} o os) e = go (answer i) (law i o) (all answer is) (none-first os) e
     where
-      go : (r : Option Answer) → Solves (problem i) r → (q : Option Answer) → (q ≡ none → FirstClosed problem is (first-none answer is)) → joined r q ≡ none
+      go : (r : Option Solution) → Solves (problem i) r → (q : Option Solution) → (q ≡ none → FirstClosed problem is (first-none answer is)) → joined r q ≡ none
           → FirstClosed problem (i ∷ is) (elim r [ none ↦ 0 | some a ↦ suc (first-none answer is) ])
       go none (nothing p) q f e = here p
       go (some a) (just p) none f e = later (a .cost) (a .levels) (p .valid) (f refl)
       go (some a) (just p) (some b) f e = absurd (some-none _ e)
 
   -- some answer: every part has one
-  pub first-all : (is : List I) (a : Answer) → all answer is ≡ some a → first-none answer is ≡ length is
+  pub first-all : (is : List I) (a : Solution) → all answer is ≡ some a → first-none answer is ≡ length is
   unfolding all first-none joined
   first-all [] a e = refl
   first-all (i ∷ is) a e = go (answer i) (all answer is) (first-all is) e
     where
-      go : (r q : Option Answer) → ((b : Answer) → q ≡ some b → first-none answer is ≡ length is) → joined r q ≡ some a
+      go : (r q : Option Solution) → ((b : Solution) → q ≡ some b → first-none answer is ≡ length is) → joined r q ≡ some a
           → elim r [ none ↦ 0 | some x ↦ suc (first-none answer is) ] ≡ suc (length is)
       go none q f e = absurd (some-none a (sym e))
       go (some x) none f e = absurd (some-none a (sym e))

@@ -1,12 +1,12 @@
 -- Problems and their best answers. A problem says which level lists are valid, and at what cost; its best answer is the cheapest, and of the
 -- cheapest the one with the lower level at the first place that differs.
---   Problem, Answer        which levels are valid at which cost; some levels and their cost
+--   Problem, Solution        which levels are valid at which cost; some levels and their cost
 --   Best A a               a is valid for A, and no worse than any other that is
 --   Solves A r             r is the best answer of A, or there is none and nothing is valid
 --   Settles A r            the same, strictly: any other valid level list costs more
 --   Product, Either, All   problems put together: one after the other, one of two, a list of independent parts
 --   FirstClosed            the first part for which nothing is valid
---   FirstLower x y         x has the lower level at the first place where x and y differ
+--   LexLower x y         x has the lower level at the first place where x and y differ
 use mathlib.Core.Path.{_≡_}
 use mathlib.Core.Bool.{Bool}
 use mathlib.Core.List.{List, [], _∷_, _++_}
@@ -31,24 +31,24 @@ abbrev pub Problem : Type 1
 Problem = ℕ → List ℕ → Type 0
 
 -- an answer: the new levels, and what they cost
-pub record Answer : Type 0 where
+pub record Solution : Type 0 where
   pub cost : ℕ
   pub levels : List ℕ
 
 -- the best answer: it is valid, and no worse than any that is
-pub record Best (A : Problem) (a : Answer) : Type 0 where
+pub record Best (A : Problem) (a : Solution) : Type 0 where
   pub valid : A (a .cost) (a .levels)
   pub least : (d : ℕ) (y : List ℕ) → A d y → NoWorse (a .cost) (a .levels) d y
 
 -- what an optional answer says of a problem: none, that nothing is valid; some, that this is the best
-pub data Solves (A : Problem) : Option Answer → Type 0 where
+pub data Solves (A : Problem) : Option Solution → Type 0 where
   nothing : ((d : ℕ) (y : List ℕ) → A d y → ⊥) → Solves A none
-  just : {a : Answer} → Best A a → Solves A (some a)
+  just : {a : Solution} → Best A a → Solves A (some a)
 
 -- the same, strictly: every other valid level list costs more
-pub data Settles (A : Problem) : Option Answer → Type 0 where
+pub data Settles (A : Problem) : Option Solution → Type 0 where
   closed : ((d : ℕ) (y : List ℕ) → A d y → ⊥) → Settles A none
-  sole : {a : Answer} → A (a .cost) (a .levels) → ((d : ℕ) (y : List ℕ) → A d y → (a .cost < d) ⊎ ((a .cost ≡ d) × (a .levels ≡ y))) → Settles A (some a)
+  sole : {a : Solution} → A (a .cost) (a .levels) → ((d : ℕ) (y : List ℕ) → A d y → (a .cost < d) ⊎ ((a .cost ≡ d) × (a .levels ≡ y))) → Settles A (some a)
 
 -- the product of two problems: costs add, levels stand one after the other
 pub record Product (A B : Problem) (c : ℕ) (y : List ℕ) : Type 0 where
@@ -62,8 +62,8 @@ pub record Product (A B : Problem) (c : ℕ) (y : List ℕ) : Type 0 where
   pub append : y ≡ levels₁ ++ levels₂
 
 -- every valid level list has k levels
-pub record Wide (k : ℕ) (A : Problem) : Type 0 where
-  pub wide : (c : ℕ) (y : List ℕ) → A c y → length y ≡ k
+pub record Width (k : ℕ) (A : Problem) : Type 0 where
+  pub width : (c : ℕ) (y : List ℕ) → A c y → length y ≡ k
 
 -- the problem with no place: no cost, no levels
 pub data Empty : ℕ → List ℕ → Type 0 where
@@ -86,7 +86,7 @@ module _ {I : Type 0} (problem : I → Problem) where
     later : {i : I} {is : List I} {k : ℕ} (d : ℕ) (y : List ℕ) → problem i d y → FirstClosed is k → FirstClosed (i ∷ is) (suc k)
 
 -- x has the lower level at the first place where x and y differ
-pub record FirstLower (x y : List ℕ) : Type 0 where
+pub record LexLower (x y : List ℕ) : Type 0 where
   pub place : ℕ
   pub agree : (j : ℕ) → j < place → getD x j 0 ≡ getD y j 0
   pub less : getD x place 0 < getD y place 0

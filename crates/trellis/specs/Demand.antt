@@ -12,7 +12,7 @@ use Rattle.cells.specs.Places.{sumOf}
 use Rattle.cells.specs.Climbs.{climb}
 use Rattle.codes.specs.Generators.{Generators}
 use Rattle.codes.specs.Reading.{dataBit, firstBit, secondBit}
-use Rattle.trellis.specs.Best.{FirstLower}
+use Rattle.trellis.specs.Best.{LexLower}
 use Rattle.trellis.specs.Strip.{Steps, Cell, Rise}
 
 -- cell i, or an empty one past the end
@@ -38,4 +38,4 @@ pub record Cheapest (S : Steps) (G : Generators) (n : ℕ) (d : ℕ → ℕ) (ol
   pub could : CouldBe S G n d old y
   pub paid : pays S old y ≡ cost
   pub least : (z : List ℕ) → CouldBe S G n d old z → cost ≤ pays S old z
-  pub among-equals : (z : List ℕ) → CouldBe S G n d old z → pays S old z ≡ cost → (y ≡ z → ⊥) → FirstLower y z
+  pub among-equals : (z : List ℕ) → CouldBe S G n d old z → pays S old z ≡ cost → (y ≡ z → ⊥) → LexLower y z

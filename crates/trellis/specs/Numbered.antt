@@ -10,7 +10,7 @@ use Rattle.codes.specs.Sequences.{_+₂_, odd}
 use Rattle.codes.specs.Encoders.{Encoder}
 use Rattle.codes.specs.Taps.{parityOf}
 use Rattle.codes.specs.Numbers.{one-if, value}
-use Rattle.trellis.specs.Best.{Answer}
+use Rattle.trellis.specs.Best.{Solution}
 use Rattle.trellis.specs.Search.{Stage, Choice}
 
 -- the code bits after the first by the window w of the last digits, and the labels xs
@@ -24,7 +24,7 @@ unfoldable pub wantedN : Encoder → ℕ → List Bool → List Bool
 wantedN E w xs = odd (parityOf (value (true ∷ E .first)) w) ∷ sumsN w (E .others) xs
 
 -- a branch of the state s with the digit u
-unfoldable pub branchN : Encoder → Choice → Stage → ℕ → Bool → Option Answer
+unfoldable pub branchN : Encoder → Choice → Stage → ℕ → Bool → Option Solution
 branchN E choose g s u = choose (g .cells) (wantedN E (2 * s + one-if u) (g .adds))
 
 -- '(2·s + d mod 2) mod 2^m'

@@ -1,5 +1,5 @@
 -- What the number of state 0 before the first stage says of the strip.
---   outcomeOf v    done with the cost v, or spent where v tells that there is no cost
+--   toldOutcome v    done with the cost v, or spent where v tells that there is no cost
 use mathlib.Core.Bool.{Bool, true, false}
 use Prim.Native.Nat.{ℕ}
 use lib.Dec.{ltb}
@@ -13,5 +13,5 @@ judged true v = Done v
 judged false v = Spent
 
 -- by the number
-abbrev pub outcomeOf : ℕ → Outcome
-outcomeOf v = judged (ltb v closed) v
+abbrev pub toldOutcome : ℕ → Outcome
+toldOutcome v = judged (ltb v closed) v

@@ -11,7 +11,7 @@ use mathlib.Core.Option.{Option, none, some}
 use lib.Dec.{ltb}
 use Rattle.cells.specs.Climbs.{climb}
 use Rattle.codes.specs.Sequences.{odd}
-use Rattle.trellis.specs.Best.{Answer}
+use Rattle.trellis.specs.Best.{Solution}
 use Rattle.trellis.specs.Trellis.{joined, free}
 use Rattle.trellis.specs.Strip.{Steps, Cell, Rise, Meaning}
 use Rattle.trellis.specs.Search.{Choice}
@@ -29,7 +29,7 @@ pub record One (S : Steps) (x : Cell) (b : Bool) (c : ℕ) (y : List ℕ) : Type
   pub cost : c ≡ climb (S .weight) (x .level) to
 
 -- its choice: keep the level, or raise it by one where it is unmarked and below the top, or closed
-unfoldable pub keep-or-raise : Steps → Cell → Bool → Option Answer
+unfoldable pub keep-or-raise : Steps → Cell → Bool → Option Solution
 keep-or-raise S x b =
     cond (ltb (S .top) (x .level)) none
     (cond (Bool·beq (odd (x .level)) b) (some (record { cost = 0; levels = x .level ∷ [] }))

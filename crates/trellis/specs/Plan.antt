@@ -10,21 +10,21 @@ use Prim.Native.Nat.{ℕ, _+_}
 use lib.ListN.{getD}
 use mathlib.Core.Option.{Option, none, some}
 use lib.Dec.{ltb}
-use Rattle.trellis.specs.Best.{Answer}
+use Rattle.trellis.specs.Best.{Solution}
 use Rattle.trellis.specs.Trellis.{before, joined, free}
 
 -- the cost alone
-unfoldable pub cost-of : Option Answer → Option ℕ
+unfoldable pub cost-of : Option Solution → Option ℕ
 cost-of none = none
 cost-of (some a) = some (a .cost)
 
 -- the level of the first cell
-unfoldable pub first-level : Option Answer → ℕ
+unfoldable pub first-level : Option Solution → ℕ
 first-level none = 0
 first-level (some a) = getD (a .levels) 0 0
 
 -- a branch and the cost after it
-unfoldable pub plus : Option Answer → Option ℕ → Option ℕ
+unfoldable pub plus : Option Solution → Option ℕ → Option ℕ
 plus none c = none
 plus (some a) none = none
 plus (some a) (some c) = some (a .cost + c)
@@ -42,7 +42,7 @@ turn none (some d) t = true
 turn (some c) none t = false
 turn (some c) (some d) t = before d c t
 
-module _ {G S : Type 0} (branch : G → S → Bool → Option Answer) (next : G → S → Bool → S) where
+module _ {G S : Type 0} (branch : G → S → Bool → Option Solution) (next : G → S → Bool → S) where
   unfoldable pub costs : List G → S → Option ℕ
   costs [] s = some 0
   costs (g ∷ gs) s =
@@ -60,7 +60,7 @@ module _ {G S : Type 0} (branch : G → S → Bool → Option Answer) (next : G 
   plan (g ∷ gs) s = digit-at g s (costs gs) ∷ plan gs (next g s (digit-at g s (costs gs)))
 
   -- the answer of a digit sequence: none where a branch is closed
-  unfoldable pub play : List G → S → List Bool → Option Answer
+  unfoldable pub play : List G → S → List Bool → Option Solution
   play [] s us = some free
   play (g ∷ gs) s [] = none
   play (g ∷ gs) s (u ∷ us) = joined (branch g s u) (play gs (next g s u) us)

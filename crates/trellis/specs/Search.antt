@@ -13,13 +13,13 @@ use mathlib.Core.Option.{Option}
 use Rattle.codes.specs.Sequences.{_+₂_, Bits}
 use Rattle.codes.specs.Registers.{dot, push, quotient}
 use Rattle.codes.specs.Encoders.{Encoder}
-use Rattle.trellis.specs.Best.{Problem, Answer, Solves}
+use Rattle.trellis.specs.Best.{Problem, Solution, Solves}
 use Rattle.trellis.specs.Trellis.{best}
 use Rattle.trellis.specs.Strip.{Steps, Cell, Meaning, Group}
 
 -- the optional cheapest levels of a stage's cells for a wanted word
 abbrev pub Choice : Type 0
-Choice = List Cell → List Bool → Option Answer
+Choice = List Cell → List Bool → Option Solution
 
 -- what a choice has to be for the meaning of n code bits
 pub record Chooses (S : Steps) (M : Meaning) (n : ℕ) (choose : Choice) : Type 0 where
@@ -53,7 +53,7 @@ pub record Stage : Type 0 where
   pub cells : List Cell
 
 -- a branch: the choice for the word that the digit u wants after the digits s
-unfoldable pub branch : Encoder → Choice → Stage → List Bool → Bool → Option Answer
+unfoldable pub branch : Encoder → Choice → Stage → List Bool → Bool → Option Solution
 branch E choose g s u = choose (g .cells) (wanted E (u ∷ s) (g .adds))
 
 -- what a branch is the best of
@@ -70,5 +70,5 @@ stages E d k t zero old = []
 stages E d k t (suc n) old = record { adds = labels (E .memory) (E .first) (length (E .others)) d t; cells = take k old } ∷ stages E d k (suc t) n (drop k old)
 
 -- the write of a strip of n stages of k cells
-unfoldable pub write : Encoder → (ℕ → Bits) → Choice → ℕ → ℕ → List Cell → Option Answer
+unfoldable pub write : Encoder → (ℕ → Bits) → Choice → ℕ → ℕ → List Cell → Option Solution
 write E d choose k n old = best (branch E choose) (next E) (stages E d k 0 n old) (replicate (E .memory) false)

@@ -42,12 +42,12 @@ module _ (n : ℕ) (after words : List ℕ) (a0 a1 b0 b1 : ℕ) where
   stageOf = listOf n lesserOf
 
   -- the digit that the state s takes: the cheaper, and of two as cheap the one whose first cell shows the bit that it shows now, `low`
-  unfoldable pub digitOf : (low s : ℕ) → ℕ
-  digitOf low s = below (by1 s) (by0 s + pick (getD words s 0 % 2) low (1 - low))
+  unfoldable pub digitOf : (stay s : ℕ) → ℕ
+  digitOf stay s = below (by1 s) (by0 s + pick (getD words s 0 % 2) stay (1 - stay))
 
   -- the digits of all states as one number
   unfoldable pub digitsOf : ℕ → ℕ
-  digitsOf low = number n (digitOf low)
+  digitsOf stay = number n (digitOf stay)
 
 -- no state costs more than `bound`, and no cell more than `cap`
 pub record Capped (bound cap : ℕ) (after : List ℕ) (a0 a1 b0 b1 : ℕ) : Type 0 where
@@ -58,10 +58,10 @@ pub record Capped (bound cap : ℕ) (after : List ℕ) (a0 a1 b0 b1 : ℕ) : Typ
   pub b1-le : b1 ≤ cap
 
 -- what half a stage of 64 states asks, its 32 states from the state `at` on: those before it are done
-pub record HalfAsked (bound cap : ℕ) (done : ℕ → ℕ) (costs after : List ℕ) (at a0 a1 b0 b1 low : ℕ) : Type 0 where
+pub record HalfAsked (bound cap : ℕ) (done : ℕ → ℕ) (costs after : List ℕ) (at a0 a1 b0 b1 stay : ℕ) : Type 0 where
   pub long : length costs ≡ 64
   pub whole : at % 32 ≡ 0
   pub place : at + 32 ≤ 64
-  pub bit : low ≤ 1
+  pub bit : stay ≤ 1
   pub capped : Capped bound cap after a0 a1 b0 b1
   pub before : (k : ℕ) → k < at → getD costs k 0 ≡ done k

@@ -10,7 +10,7 @@ use Prim.Native.Nat.{ℕ, zero, suc}
 use lib.ListN.{replicate}
 use Rattle.codes.specs.Sequences.{Bits}
 use Rattle.codes.specs.Encoders.{Encoder}
-use Rattle.trellis.specs.Best.{Answer}
+use Rattle.trellis.specs.Best.{Solution}
 use Rattle.trellis.specs.Trellis.{better, joined, free}
 use Rattle.trellis.specs.Strip.{Cell}
 use Rattle.trellis.specs.Search.{Choice, branch, next, stages}
@@ -33,16 +33,16 @@ module _ {A : Type 0} where
   look z (node l r) (false ∷ s) = look z l s
   look z (node l r) (true ∷ s) = look z r s
 
-module _ {G : Type 0} (m : ℕ) (branch : G → List Bool → Bool → Option Answer) (next : G → List Bool → Bool → List Bool) where
+module _ {G : Type 0} (m : ℕ) (branch : G → List Bool → Bool → Option Solution) (next : G → List Bool → Bool → List Bool) where
   -- one stage before a table
-  unfoldable pub step : G → Tree (Option Answer) → Tree (Option Answer)
+  unfoldable pub step : G → Tree (Option Solution) → Tree (Option Solution)
   step g T = grow m (λ s. better (joined (branch g s false) (look none T (next g s false))) (joined (branch g s true) (look none T (next g s true))))
 
   -- the table of a list of stages
-  unfoldable pub table : List G → Tree (Option Answer)
+  unfoldable pub table : List G → Tree (Option Solution)
   table [] = grow m (λ s. some free)
   table (g ∷ gs) = step g (table gs)
 
 -- the write of a strip of n stages of k cells, by tables
-unfoldable pub write-table : Encoder → (ℕ → Bits) → Choice → ℕ → ℕ → List Cell → Option Answer
+unfoldable pub write-table : Encoder → (ℕ → Bits) → Choice → ℕ → ℕ → List Cell → Option Solution
 write-table E d choose k n old = look none (table (E .memory) (branch E choose) (next E) (stages E d k 0 n old)) (replicate (E .memory) false)

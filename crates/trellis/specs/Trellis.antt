@@ -10,7 +10,7 @@ use mathlib.Core.List.{List, [], _∷_, _++_}
 use Prim.Native.Nat.{ℕ, suc, _+_}
 use mathlib.Core.Option.{Option, none, some}
 use lib.Dec.{ltb, eqb}
-use Rattle.trellis.specs.Best.{Problem, Answer, Product, Empty, Either}
+use Rattle.trellis.specs.Best.{Problem, Solution, Product, Empty, Either}
 
 -- x comes before y, or is y and r holds
 unfoldable pub before : ℕ → ℕ → Bool → Bool
@@ -23,28 +23,28 @@ lexltb [] (y ∷ ys) = true
 lexltb (x ∷ xs) (y ∷ ys) = before x y (lexltb xs ys)
 
 -- cheaper, or as dear and lower
-unfoldable pub beats : Answer → Answer → Bool
+unfoldable pub beats : Solution → Solution → Bool
 beats a b = before (a .cost) (b .cost) (lexltb (a .levels) (b .levels))
 
 -- the better of two
-unfoldable pub better : Option Answer → Option Answer → Option Answer
+unfoldable pub better : Option Solution → Option Solution → Option Solution
 better none r = r
 better (some a) none = some a
 better (some a) (some b) = some (cond (beats b a) b a)
 
 -- one after the other: none as soon as one is none
-unfoldable pub joined : Option Answer → Option Answer → Option Answer
+unfoldable pub joined : Option Solution → Option Solution → Option Solution
 joined none r = none
 joined (some a) none = none
 joined (some a) (some b) = some (record { cost = a .cost + b .cost; levels = a .levels ++ b .levels })
 
 -- no cost, no levels
-abbrev pub free : Answer
+abbrev pub free : Solution
 free = record { cost = 0; levels = [] }
 
 -- a trellis: at each stage g, a state and a digit lead to a next state by a branch, closed or with its answer
-module _ {G S : Type 0} (branch : G → S → Bool → Option Answer) (next : G → S → Bool → S) where
-  unfoldable pub best : List G → S → Option Answer
+module _ {G S : Type 0} (branch : G → S → Bool → Option Solution) (next : G → S → Bool → S) where
+  unfoldable pub best : List G → S → Option Solution
   best [] s = some free
   best (g ∷ gs) s =
       better (joined (branch g s false) (best gs (next g s false))) (joined (branch g s true) (best gs (next g s true)))
@@ -56,13 +56,13 @@ module _ {G S : Type 0} (admit : G → S → Bool → Problem) (next : G → S �
   Valid (g ∷ gs) s = Either (λ u. Product (admit g s u) (Valid gs (next g s u)))
 
 -- parts that are independent of each other, one after the other
-module _ {I : Type 0} (answer : I → Option Answer) where
-  unfoldable pub all : List I → Option Answer
+module _ {I : Type 0} (answer : I → Option Solution) where
+  unfoldable pub all : List I → Option Solution
   all [] = some free
   all (i ∷ is) = joined (answer i) (all is)
 
 -- the number of the first part that has no answer: as many as there are parts, where each has one
-module _ {I : Type 0} (answer : I → Option Answer) where
+module _ {I : Type 0} (answer : I → Option Solution) where
   unfoldable pub first-none : List I → ℕ
   first-none [] = 0
   first-none (i ∷ is) = elim (answer i) [ none ↦ 0 | some a ↦ suc (first-none is) ]

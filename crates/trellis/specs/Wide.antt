@@ -2,7 +2,7 @@
 --   wide G               the encoder of a code with room for six digits in its state
 --   stagesOf             the stages of a strip of bytes
 --   rewriteOf            the write of a strip of bytes: its new levels and their cost, or none
---   outcomeFor           what it says of the strip
+--   solutionOutcome           what it says of the strip
 use mathlib.Core.Bool.{false}
 use mathlib.Core.List.{List}
 use mathlib.Core.Option.{Option, none, some}
@@ -12,7 +12,7 @@ use Rattle.cells.specs.Levels.{level}
 use Rattle.codes.specs.Generators.{Generators}
 use Rattle.codes.specs.Sequences.{Bits, odd}
 use Rattle.codes.specs.Encoders.{Encoder, encoderOf}
-use Rattle.trellis.specs.Best.{Answer}
+use Rattle.trellis.specs.Best.{Solution}
 use Rattle.trellis.specs.Strip.{Cell, cellsOf, stepsOf}
 use Rattle.trellis.specs.Search.{Stage, stages, write}
 use Rattle.trellis.specs.Parity.{parity-choice}
@@ -36,10 +36,10 @@ unfoldable pub stagesOf : Generators → ℕ → List ℕ → List ℕ → List 
 stagesOf G L strip content = stages (wide G) (dataOf content) 2 0 (8 * L) (unmarked L strip)
 
 -- THE WRITE of a strip of bytes
-unfoldable pub rewriteOf : Generators → List ℕ → ℕ → List ℕ → List ℕ → Option Answer
+unfoldable pub rewriteOf : Generators → List ℕ → ℕ → List ℕ → List ℕ → Option Solution
 rewriteOf G W L strip content = write (wide G) (dataOf content) (parity-choice (stepsOf W)) 2 (8 * L) (unmarked L strip)
 
 -- done with the cost, or spent
-unfoldable pub outcomeFor : Option Answer → Outcome
-outcomeFor none = Spent
-outcomeFor (some a) = Done (a .cost)
+unfoldable pub solutionOutcome : Option Solution → Outcome
+solutionOutcome none = Spent
+solutionOutcome (some a) = Done (a .cost)

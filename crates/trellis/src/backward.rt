@@ -9,7 +9,7 @@ ghost use lib.ListN.{length, getD};
 ghost use Rattle.codes.specs.Taps.{tapsOf};
 ghost use Rattle.codes.specs.Codes.{generatorsOf};
 ghost use Rattle.trellis.specs.Backward.{stepList, priceFor, wordsOf, registerAt, costsBefore, digitsBefore, costsOver, decisionAt, Shaped, StageAsked};
-ghost use Rattle.trellis.specs.Outcomes.{outcomeOf};
+ghost use Rattle.trellis.specs.Outcomes.{toldOutcome};
 
 // From this number on there is no cost.
 const CLOSED: u32 = 262144;
@@ -88,7 +88,7 @@ fn last_register(code: Code, taps: u32, data: &[u8]) -> u32
 
 // What a number of the search says.
 fn outcome(cost: u32) -> Outcome
-    ensures { λ r. ⌜ r ≡ outcomeOf cost ⌝ }
+    ensures { λ r. ⌜ r ≡ toldOutcome cost ⌝ }
 {
     if cost < CLOSED {
         Outcome::Done(cost)
@@ -106,7 +106,7 @@ pub fn price_strip(
     data: &[u8],
 ) -> Outcome
     requires { ⌜ Shaped (generatorsOf code) (now words) (now strip) (now «data») ⌝ }
-    ensures { λ r. ⌜ r ≡ outcomeOf (getD (costsOver (generatorsOf code) weights (now (strip .entry)) (now («data» .entry)) (8 * length (now («data» .entry))) (8 * length (now («data» .entry)))) 0 0) ⌝ }
+    ensures { λ r. ⌜ r ≡ toldOutcome (getD (costsOver (generatorsOf code) weights (now (strip .entry)) (now («data» .entry)) (8 * length (now («data» .entry))) (8 * length (now («data» .entry)))) 0 0) ⌝ }
 {
     let taps = code.first_taps();
     let steps = steps_of(weights);
@@ -133,7 +133,7 @@ pub fn decide(
 ) -> Outcome
     requires { ⌜ Shaped (generatorsOf code) (now words) (now strip) (now «data») ⌝ }
     requires { ⌜ length (now decisions) ≡ 512 ⌝ }
-    ensures { λ r. ⌜ r ≡ outcomeOf (getD (costsOver (generatorsOf code) weights (now (strip .entry)) (now («data» .entry)) (8 * length (now («data» .entry))) (8 * length (now («data» .entry)))) 0 0) ⌝ }
+    ensures { λ r. ⌜ r ≡ toldOutcome (getD (costsOver (generatorsOf code) weights (now (strip .entry)) (now («data» .entry)) (8 * length (now («data» .entry))) (8 * length (now («data» .entry)))) 0 0) ⌝ }
     ensures { λ r. ⌜ ((t : ℕ) → t < 8 * length (now («data» .entry)) → getD (now (decisions .exit)) t 0 ≡ decisionAt (generatorsOf code) weights (now (strip .entry)) (now («data» .entry)) (8 * length (now («data» .entry))) t) ⌝ }
 {
     let taps = code.first_taps();

@@ -11,7 +11,7 @@ ghost use Rattle.cells.specs.Raising.{raisedTo};
 ghost use Rattle.codes.specs.Codes.{generatorsOf};
 ghost use Rattle.trellis.specs.Backward.{costsOver, decisionAt, Shaped};
 ghost use Rattle.trellis.specs.Forward.{followed, followedState, carriedTo, shown};
-ghost use Rattle.trellis.specs.Outcomes.{outcomeOf};
+ghost use Rattle.trellis.specs.Outcomes.{toldOutcome};
 
 // Eight digits, and the state after them.
 struct Followed {
@@ -66,7 +66,7 @@ pub fn plan_strip(
 ) -> Outcome
     requires { ⌜ Shaped (generatorsOf code) (now words) (now strip) (now «data») ⌝ }
     requires { ⌜ length (now digits) ≡ length (now «data») ⌝ }
-    ensures { λ r. ⌜ r ≡ outcomeOf (getD (costsOver (generatorsOf code) weights (now (strip .entry)) (now («data» .entry)) (8 * length (now («data» .entry))) (8 * length (now («data» .entry)))) 0 0) ⌝ }
+    ensures { λ r. ⌜ r ≡ toldOutcome (getD (costsOver (generatorsOf code) weights (now (strip .entry)) (now («data» .entry)) (8 * length (now («data» .entry))) (8 * length (now («data» .entry)))) 0 0) ⌝ }
     ensures { λ r. ⌜ now (digits .exit) ≡ bytesOf (length (now («data» .entry))) (followed (decisionAt (generatorsOf code) weights (now (strip .entry)) (now («data» .entry)) (8 * length (now («data» .entry))))) ⌝ }
 {
     let mut decisions = [0u64; 512];

@@ -22,7 +22,7 @@ fn least(x: u32, y: u32) -> u32
 }
 
 // The bit b where x is below y, else 0.
-fn mark(x: u32, y: u32, b: u32) -> u32
+fn bit_below(x: u32, y: u32, b: u32) -> u32
     requires { ⌜ (x < 2147483648) × (y < 2147483648) ⌝ }
     ensures { λ r. ⌜ r ≡ below x y * b ⌝ }
 {
@@ -38,10 +38,10 @@ fn branch_cost(j: u8, x: u32, a0: u32, a1: u32, b0: u32, b1: u32) -> u32
 }
 
 // A word of two halves.
-fn join(low: u32, high: u32) -> u64
-    ensures { λ r. ⌜ r ≡ low + high * 4294967296 ⌝ }
+fn join(stay: u32, high: u32) -> u64
+    ensures { λ r. ⌜ r ≡ stay + high * 4294967296 ⌝ }
 {
-    low as u64 + high as u64 * 4294967296
+    stay as u64 + high as u64 * 4294967296
 }
 
 // Half of the states, from the state at on: what each costs goes to costs, and the digits that they take are the result.
@@ -54,10 +54,10 @@ fn half(
     a1: u32,
     b0: u32,
     b1: u32,
-    low: u32,
+    stay: u32,
 ) -> u32
-    requires { ⌜ HalfAsked 1073741824 1048576 (lesserOf 64 (now after) (now words) a0 a1 b0 b1) (now costs) (now after) at a0 a1 b0 b1 low ⌝ }
-    ensures { λ r. ⌜ r ≡ number 32 (λ k. digitOf 64 (now (after .entry)) (now (words .entry)) a0 a1 b0 b1 low (at + k)) ⌝ }
+    requires { ⌜ HalfAsked 1073741824 1048576 (lesserOf 64 (now after) (now words) a0 a1 b0 b1) (now costs) (now after) at a0 a1 b0 b1 stay ⌝ }
+    ensures { λ r. ⌜ r ≡ number 32 (λ k. digitOf 64 (now (after .entry)) (now (words .entry)) a0 a1 b0 b1 stay (at + k)) ⌝ }
     ensures { λ r. ⌜ length (now (costs .exit)) ≡ 64 ⌝ }
     ensures { λ r. ⌜ ((k : ℕ) → k < at + 32 → getD (now (costs .exit)) k 0 ≡ lesserOf 64 (now (after .entry)) (now (words .entry)) a0 a1 b0 b1 k) ⌝ }
 {
@@ -67,8 +67,8 @@ fn half(
         let j = words[at + i];
         let x = branch_cost(j, after[2 * i], a0, a1, b0, b1);
         let y = branch_cost(j, after[2 * i + 1], a1, a0, b1, b0);
-        let tie = pick(j % 2, low, 1 - low);
-        let m = mark(y, x + tie, 1u32 << i);
+        let tie = pick(j % 2, stay, 1 - stay);
+        let m = bit_below(y, x + tie, 1u32 << i);
         costs[at + i] = least(x, y);
         digits += m;
         i += 1;
@@ -84,15 +84,15 @@ pub fn stage(
     a1: u32,
     b0: u32,
     b1: u32,
-    low: u32,
+    stay: u32,
 ) -> u64
-    requires { ⌜ (length (now costs) ≡ 64) × (low ≤ 1) ⌝ }
+    requires { ⌜ (length (now costs) ≡ 64) × (stay ≤ 1) ⌝ }
     requires { ⌜ Capped 1073741824 1048576 (now costs) a0 a1 b0 b1 ⌝ }
-    ensures { λ r. ⌜ r ≡ digitsOf 64 (now (costs .entry)) (now (words .entry)) a0 a1 b0 b1 low ⌝ }
+    ensures { λ r. ⌜ r ≡ digitsOf 64 (now (costs .entry)) (now (words .entry)) a0 a1 b0 b1 stay ⌝ }
     ensures { λ r. ⌜ now (costs .exit) ≡ stageOf 64 (now (costs .entry)) (now (words .entry)) a0 a1 b0 b1 ⌝ }
 {
     let after = *costs;
-    let low_half = half(costs, &after, words, 0, a0, a1, b0, b1, low);
-    let high_half = half(costs, &after, words, 32, a0, a1, b0, b1, low);
+    let low_half = half(costs, &after, words, 0, a0, a1, b0, b1, stay);
+    let high_half = half(costs, &after, words, 32, a0, a1, b0, b1, stay);
     join(low_half, high_half)
 }

@@ -16,7 +16,7 @@ word-requires c κs = search needs
 
 returns : tie.Need-returns
 unfolding answerWord
-returns c = omega (arith, c .word .ensures, c .before .value .ensures, c .before .before .number .ensures)
+returns c = omega (arith, c .packed .ensures, c .before .value .ensures, c .before .before .number .ensures)
 
 pub answer-word-spec : {M : Type 1} → statement M
 answer-word-spec = tie.close (tie.spec number-requires value-requires word-requires returns)

@@ -13,7 +13,7 @@ word-requires c κs = search needs
 
 returns : tie.Need-returns
 unfolding completionWord
-returns c = omega (arith, c .word .ensures, c .before .completion-number .ensures)
+returns c = omega (arith, c .packed .ensures, c .before .completion-number .ensures)
 
 pub completion-word-spec : {M : Type 1} → statement M
 completion-word-spec = tie.close (tie.spec completion-number-requires word-requires returns)

@@ -7,7 +7,7 @@ use lib.ListN.{length, getD, length-set}
 use borrow.Author.Needs.{needs}
 use Rattle.cells.specs.Places.{number}
 use Rattle.cells.specs.Levels.{level}
-use Rattle.codes.specs.Codes.{generatorsOf, Carried}
+use Rattle.codes.specs.Codes.{generatorsOf, WindowsBefore}
 use Rattle.codes.specs.Taps.{windowOf, tappedBit}
 use Rattle.cells.proofs.Places.{store-more}
 use Rattle.codes.proofs.Parities.{memory-bounds, read-bytes}
@@ -18,7 +18,7 @@ abbrev Inv-loop : tie.InvT-loop
 Inv-loop strip data₀ first second windows₀ q₀ «data» windows q =
     (length «data» ≡ length data₀)
     × (q ≤ length data₀)
-    × Carried strip q windows
+    × WindowsBefore strip q windows
     × ((k : ℕ) → k < q → getD «data» k 0 ≡ number 8 (λ i. tappedBit first second (level strip) (8 * k + i)))
 
 abbrev μ-loop : tie.MeasureT-loop

@@ -1,32 +1,21 @@
--- The tests are those of the grounds, in the same order: the code, the shape, and the data's length.
+-- The sizes, then the page's length, then the data's: the grounds in the same order.
 use mathlib.Core.Path.{_≡_, sym, _∙_}
-use mathlib.Core.Logic.{⊎-elim}
 use mathlib.Core.Option.{none}
-use native.Mathlib.Omega.{arith}
-use native.Mathlib.Nat.{mul-le-mul}
 use borrow.Author.Needs.{needs}
-use borrow.Author.Tests.{eq-eqb, ne-eqb}
-use Rattle.page.specs.Refusals.{ground, codeGround, shapeGround, dataGround}
-use Rattle.page.proofs.Fitting.{one-to-64}
-use Rattle.page.proofs.Judging.{done-none, refused-first, shape-in-order}
+use Rattle.page.specs.Refusals.{ground, first-of, sizesGround, limitsGround, pageGround, dataGround}
+use Rattle.page.proofs.Judging.{done-none, done-next, refused-first, sizes-limits}
 use Rattle.page.proofs.shape.judge.Statement.{statement}
 use Rattle.page.proofs.shape.judge.Tie as tie
 
--- past the first tests the code is known
-code-known : (c : tie.Joined1) → codeGround (c .before .args .code) ≡ none
-unfolding codeGround
-code-known c = ⊎-elim (λ w. simp (ne-eqb _ _ (w .0 .taken), eq-eqb _ _ (w .1 .left))) (λ w. simp (eq-eqb _ _ (w .left))) (c .if1 .came)
+-- past the first match the limits are kept
+limits-none : (c : tie.After-enum-told) → let a = c .before .before .before .args in limitsGround (a .bytes) (a .strips) ≡ none
+limits-none c =
+    let j = c .before .before in
+    let a = j .before .args in
+    sizes-limits (a .code) (a .bytes) (a .strips) (done-none _ (sym (j .judge-sizes .ensures) ∙ c .enum-told .given .1))
 
--- and past the match the shape is in order
-shape-none : (c : tie.After-enum-told) → let a = c .before .before .before .before .args in shapeGround (a .bytes) (a .strips) (a .page) ≡ none
-shape-none c = done-none _ (sym (c .before .before .judge-shape .ensures) ∙ c .enum-told .given .1)
-
-returns : tie.Need-returns
-unfolding ground codeGround
-returns c = simp (ne-eqb _ _ (c .before .if1 .taken), ne-eqb _ _ (c .if2 .taken))
-
-judge-shape-requires : tie.Need-judge-shape-requires
-judge-shape-requires c κs = search needs
+judge-sizes-requires : tie.Need-judge-sizes-requires
+judge-sizes-requires c κs = search needs
 
 enum-told : tie.Need-enum-told
 enum-told c = search needs
@@ -34,37 +23,61 @@ enum-told c = search needs
 enum-told-2 : tie.Need-enum-told-2
 enum-told-2 c = search needs
 
+returns : tie.Need-returns
+unfolding ground
+returns c =
+    let j = c .before .before in
+    let a = j .before .args in
+    refused-first (sizesGround (a .code) (a .bytes) (a .strips)) (first-of (pageGround (a .bytes) (a .strips) (a .page)) (dataGround (a .bytes) (a .strips) (a .«data»)))
+    (j .judge-sizes .result) (j .judge-sizes .ensures) (c .enum-told2 .given .1)
+
+judge-page-requires : tie.Need-judge-page-requires
+judge-page-requires c κs = limits-none c
+
+enum-told-3 : tie.Need-enum-told-3
+enum-told-3 c = search needs
+
+enum-told-4 : tie.Need-enum-told-4
+enum-told-4 c = search needs
+
 returns-2 : tie.Need-returns-2
 unfolding ground
 returns-2 c =
     let j = c .before .before in
-    let a = j .before .before .args in
-    simp (code-known (j .before))
-    (refused-first (shapeGround (a .bytes) (a .strips) (a .page)) (dataGround (a .bytes) (a .strips) (a .«data»)) (j .judge-shape .result) (j .judge-shape .ensures) (c .enum-told2 .given .1))
+    let n = j .before in
+    let s = n .before .before in
+    let a = s .before .args in
+    done-next (sizesGround (a .code) (a .bytes) (a .strips)) (first-of (pageGround (a .bytes) (a .strips) (a .page)) (dataGround (a .bytes) (a .strips) (a .«data»)))
+    (s .judge-sizes .ensures) (n .enum-told .given .1)
+    (refused-first (pageGround (a .bytes) (a .strips) (a .page)) (dataGround (a .bytes) (a .strips) (a .«data»)) (j .judge-page .result) (j .judge-page .ensures) (c .enum-told4 .given .1))
 
-mul-if3 : tie.Need-mul-if3
-mul-if3 c =
-    let a = c .before .before .before .before .args in
-    let s = shape-in-order (a .bytes) (a .strips) (a .page) (shape-none c) in
-    omega (arith, mul-le-mul {n₁ = a .bytes} {m₁ = a .strips} {n₂ = 64} {m₂ = 64} (one-to-64 (a .bytes) (s .0) .1) (one-to-64 (a .strips) (s .1) .1))
+judge-data-requires : tie.Need-judge-data-requires
+judge-data-requires c κs = limits-none (c .before .before .before)
 
 returns-3 : tie.Need-returns-3
-unfolding ground dataGround
-returns-3 c = simp (code-known (c .before .before .before .before), shape-none (c .before), ne-eqb _ _ (c .if3 .taken))
-
-returns-4 : tie.Need-returns-4
-unfolding ground dataGround
-returns-4 c = simp (code-known (c .before .before .before .before), shape-none (c .before), eq-eqb _ _ (c .if3 .left))
+unfolding ground
+returns-3 c =
+    let m = c .before in
+    let j = m .before .before in
+    let n = j .before in
+    let s = n .before .before in
+    let a = s .before .args in
+    let page = pageGround (a .bytes) (a .strips) (a .page) in
+    let rest = dataGround (a .bytes) (a .strips) (a .«data») in
+    done-next (sizesGround (a .code) (a .bytes) (a .strips)) (first-of page rest) (s .judge-sizes .ensures) (n .enum-told .given .1)
+    (done-next page rest (j .judge-page .ensures) (m .enum-told3 .given .1) (c .judge-data .ensures))
 
 pub judge-spec : {M : Type 1} → statement M
 judge-spec =
     tie.close
     (tie.spec
-    returns
-    judge-shape-requires
+    judge-sizes-requires
     enum-told
     enum-told-2
+    returns
+    judge-page-requires
+    enum-told-3
+    enum-told-4
     returns-2
-    mul-if3
-    returns-3
-    returns-4)
+    judge-data-requires
+    returns-3)

@@ -32,10 +32,10 @@ fit-digits : (c : tie.In-loop Inv-loop μ-loop) → let a = c .before .before .b
 fit-digits c = omega (arith, fit c, c .before .loop .inv .1 .size, c .before .before .before .before .before .before .before .pre .0 .data-is)
 
 -- after a turn the total has one more strip
-turned : (c : tie.After-add Inv-loop μ-loop) → let l = c .before .before .before .before .before .before .before .before .before in
+callPage : (c : tie.After-add Inv-loop μ-loop) → let l = c .before .before .before .before .before .before .before .before .before in
     let a = l .before .before .before .before .before .before .args in
     Reached (generatorsOf (a .code)) (a .weights) (a .bytes) (a .strips) (a .page .now) (a .«data» .now) (c .add .result) (l .loop .k + 1)
-turned c =
+callPage c =
     let t = c .before .before .before .before .before .before .before .before in
     let s = t .before .before .before .before .before .before .before in
     let is = c .before .before .before .before .before .before .strip .ensures in
@@ -104,7 +104,7 @@ same-length c = search needs
 
 returns : tie.Need-returns Inv-loop μ-loop
 returns c =
-    let r = turned (c .before .before) in
+    let r = callPage (c .before .before) in
     let e = c .before .if1 .taken in
     (reached-spent r e (c .answer .ensures), record { planned = λ a f. absurd (spent-none r e a f) })
 
@@ -119,7 +119,7 @@ loop-again c =
     let t = c .before .before .before .before .before .before .before .before .before in
     let s = t .before .before .before .before .before .before .before in
     let is = c .before .before .before .before .before .before .before .strip .ensures in
-    (turned (c .before), planned-more (s .pre .0) (t .loop-test .taken) is (t .before .loop .inv .1) (c .before .before .before .before .plan-strip .ensures .1))
+    (callPage (c .before), planned-more (s .pre .0) (t .loop-test .taken) is (t .before .loop .inv .1) (c .before .before .before .before .plan-strip .ensures .1))
 
 answer-requires-2 : tie.Need-answer-requires-2 Inv-loop μ-loop
 answer-requires-2 c κs = search needs

@@ -25,9 +25,9 @@ fit : (c : tie.In-loop Inv-loop μ-loop) → let a = c .before .before .before .
 fit c = part-fits (c .before .before .before .before .before .before .pre) (c .loop-test .taken)
 
 -- after a turn the total has one more strip
-turned : (c : tie.After-add Inv-loop μ-loop) → let l = c .before .before .before .before .before .before in let a = l .before .before .before .before .before .args in
+callPage : (c : tie.After-add Inv-loop μ-loop) → let l = c .before .before .before .before .before .before in let a = l .before .before .before .before .before .args in
     Reached (generatorsOf (a .code)) (a .weights) (a .bytes) (a .strips) (a .page .now) (a .«data» .now) (c .add .result) (l .loop .k + 1)
-turned c =
+callPage c =
     let t = c .before .before .before .before .before in
     let s = t .before .before .before .before .before .before in
     reached-more (t .before .loop .inv) (t .loop-test .taken) (turn-outcome (s .pre) (t .loop-test .taken) (c .before .before .before .strip .ensures) (suited s) (c .before .price-strip .ensures)) (c .add .ensures)
@@ -74,7 +74,7 @@ answer-requires : tie.Need-answer-requires Inv-loop μ-loop
 answer-requires c κs = search needs
 
 returns : tie.Need-returns Inv-loop μ-loop
-returns c = reached-spent (turned (c .before .before)) (c .before .if1 .taken) (c .answer .ensures)
+returns c = reached-spent (callPage (c .before .before)) (c .before .if1 .taken) (c .answer .ensures)
 
 add-k : tie.Need-add-k Inv-loop μ-loop
 add-k c = search needs
@@ -83,7 +83,7 @@ loop-less : tie.Need-loop-less Inv-loop μ-loop
 loop-less c = search needs
 
 loop-again : tie.Need-loop-again Inv-loop μ-loop
-loop-again c = turned (c .before)
+loop-again c = callPage (c .before)
 
 answer-requires-2 : tie.Need-answer-requires-2 Inv-loop μ-loop
 answer-requires-2 c κs = search needs

@@ -8,7 +8,7 @@ use mir.Syntax.{w8}
 use borrow.Author.Needs.{needs, elem-fits}
 use Rattle.codes.specs.Codes.{generatorsOf}
 use Rattle.codes.proofs.Encoders.{proper}
-use Rattle.trellis.specs.Outcomes.{outcomeOf}
+use Rattle.trellis.specs.Outcomes.{toldOutcome}
 use Rattle.trellis.specs.Backward.{stepList, decisionAt}
 use Rattle.trellis.proofs.Passes.{Held, held-last, held-first, held-asks, held-more, held-digits, store-back}
 use Rattle.trellis.proofs.backward.decide.Statement.{statement}
@@ -108,7 +108,7 @@ returns c =
     let l = c .before .before .loop in
     let e : l .t ≡ 0 = omega arith in
     let over = held-first (generatorsOf (a .code)) (d .steps-of .result) (a .strip .now) (a .«data» .now) _ e (l .inv .0) (a .weights) (d .steps-of .ensures) in
-    (c .outcome .ensures ∙ ap (λ (v : List ℕ). outcomeOf (getD v 0 0)) over, λ k h. l .inv .2 (a .weights) (d .steps-of .ensures) k (omega arith) h)
+    (c .outcome .ensures ∙ ap (λ (v : List ℕ). toldOutcome (getD v 0 0)) over, λ k h. l .inv .2 (a .weights) (d .steps-of .ensures) k (omega arith) h)
 
 pub decide-spec : {M : Type 1} → statement M
 decide-spec =

@@ -8,7 +8,7 @@ use mir.Syntax.{w8}
 use borrow.Author.Needs.{needs, elem-fits}
 use Rattle.codes.specs.Codes.{generatorsOf}
 use Rattle.codes.proofs.Encoders.{proper}
-use Rattle.trellis.specs.Outcomes.{outcomeOf}
+use Rattle.trellis.specs.Outcomes.{toldOutcome}
 use Rattle.trellis.proofs.Passes.{Held, held-last, held-first, held-asks, held-more}
 use Rattle.trellis.proofs.backward.price_strip.Statement.{statement}
 use Rattle.trellis.proofs.backward.price_strip.Tie as tie
@@ -89,7 +89,7 @@ returns c =
     let a = d .before .before .before .before .args in
     let l = c .before .before .loop in
     let e : l .t ≡ 0 = omega arith in
-    c .outcome .ensures ∙ ap (λ (v : List ℕ). outcomeOf (getD v 0 0))
+    c .outcome .ensures ∙ ap (λ (v : List ℕ). toldOutcome (getD v 0 0))
     (held-first (generatorsOf (a .code)) (d .steps-of .result) (a .strip .now) (a .«data» .now) _ e (l .inv) (a .weights) (d .steps-of .ensures))
 
 pub price-strip-spec : {M : Type 1} → statement M

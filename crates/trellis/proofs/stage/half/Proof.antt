@@ -12,14 +12,14 @@ use Rattle.trellis.proofs.stage.half.Statement.{statement}
 use Rattle.trellis.proofs.stage.half.Tie as tie
 
 abbrev Inv-loop : tie.InvT-loop
-Inv-loop costs₀ after words at a0 a1 b0 b1 low digits₀ i₀ costs digits i =
+Inv-loop costs₀ after words at a0 a1 b0 b1 stay digits₀ i₀ costs digits i =
     (i ≤ 32)
     × (length costs ≡ 64)
-    × (digits ≡ number i (λ k. digitOf 64 after words a0 a1 b0 b1 low (at + k)))
+    × (digits ≡ number i (λ k. digitOf 64 after words a0 a1 b0 b1 stay (at + k)))
     × ((k : ℕ) → k < at + i → getD costs k 0 ≡ lesserOf 64 after words a0 a1 b0 b1 k)
 
 abbrev μ-loop : tie.MeasureT-loop
-μ-loop costs₀ after words at a0 a1 b0 b1 low digits₀ i₀ costs digits i = 32 - i
+μ-loop costs₀ after words at a0 a1 b0 b1 stay digits₀ i₀ costs digits i = 32 - i
 
 loop-holds : tie.Need-loop-holds Inv-loop μ-loop
 unfolding number
@@ -64,17 +64,17 @@ sub-pick c = search needs
 pick-requires : tie.Need-pick-requires Inv-loop μ-loop
 pick-requires c κs = search needs
 
-add-mark : tie.Need-add-mark Inv-loop μ-loop
-add-mark c = search needs
+add-bit-below : tie.Need-add-bit-below Inv-loop μ-loop
+add-bit-below c = search needs
 
-cast-mark : tie.Need-cast-mark Inv-loop μ-loop
-cast-mark c = search needs
+cast-bit-below : tie.Need-cast-bit-below Inv-loop μ-loop
+cast-bit-below c = search needs
 
-shl-mark : tie.Need-shl-mark Inv-loop μ-loop
-shl-mark c = search needs
+shl-bit-below : tie.Need-shl-bit-below Inv-loop μ-loop
+shl-bit-below c = search needs
 
-mark-requires : tie.Need-mark-requires Inv-loop μ-loop
-mark-requires c κs = search needs
+bit-below-requires : tie.Need-bit-below-requires Inv-loop μ-loop
+bit-below-requires c κs = search needs
 
 least-requires : tie.Need-least-requires Inv-loop μ-loop
 least-requires c κs = search needs
@@ -97,9 +97,9 @@ add-digits c =
     let x = c .before .before .before .before .before .branch-cost in
     let y = c .before .before .before .branch-cost2 in
     let g = c .before .before .pick in
-    let more = half-more (a .after .now) (a .words .now) (a .at) (a .a0) (a .a1) (a .b0) (a .b1) (a .low) (l .i)
-    (s .pre .whole) (s .pre .place) t (l .inv .2) (x .ensures .0) (y .ensures .0) (g .ensures .0) (c .before .mark .ensures) in
-    let bit = digit-le 64 (a .after .now) (a .words .now) (a .a0) (a .a1) (a .b0) (a .b1) (a .low) in
+    let more = half-more (a .after .now) (a .words .now) (a .at) (a .a0) (a .a1) (a .b0) (a .b1) (a .stay) (l .i)
+    (s .pre .whole) (s .pre .place) t (l .inv .2) (x .ensures .0) (y .ensures .0) (g .ensures .0) (c .before .bit-below .ensures) in
+    let bit = digit-le 64 (a .after .now) (a .words .now) (a .a0) (a .a1) (a .b0) (a .b1) (a .stay) in
     rw more (record { fits = number-fits (l .i + 1) 32 _ (λ k. omega (arith, bit (a .at + k))) (omega arith) })
 
 add-i : tie.Need-add-i Inv-loop μ-loop
@@ -117,8 +117,8 @@ loop-again c =
     let x = c .before .before .before .before .before .branch-cost in
     let y = c .before .before .before .branch-cost2 in
     let g = c .before .before .pick in
-    let more = half-more (a .after .now) (a .words .now) (a .at) (a .a0) (a .a1) (a .b0) (a .b1) (a .low) (l .i)
-    (s .pre .whole) (s .pre .place) t (l .inv .2) (x .ensures .0) (y .ensures .0) (g .ensures .0) (c .before .mark .ensures) in
+    let more = half-more (a .after .now) (a .words .now) (a .at) (a .a0) (a .a1) (a .b0) (a .b1) (a .stay) (l .i)
+    (s .pre .whole) (s .pre .place) t (l .inv .2) (x .ensures .0) (y .ensures .0) (g .ensures .0) (c .before .bit-below .ensures) in
     let e = half-after (a .at) (l .i) (s .pre .whole) (s .pre .place) t in
     let cost = lesser-is 64 (a .after .now) (a .words .now) (a .a0) (a .a1) (a .b0) (a .b1) (a .at + l .i) (2 * l .i) e (x .ensures .0) (y .ensures .0) in (
       search needs,
@@ -153,10 +153,10 @@ half-spec =
     branch-cost-requires-2
     sub-pick
     pick-requires
-    add-mark
-    cast-mark
-    shl-mark
-    mark-requires
+    add-bit-below
+    cast-bit-below
+    shl-bit-below
+    bit-below-requires
     least-requires
     add-costs
     mul-costs

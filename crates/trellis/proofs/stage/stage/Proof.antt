@@ -20,7 +20,7 @@ returns c =
     let a = c .before .before .before .before .before .before .before .before .args in
     let x = c .before .before .before .before .half .ensures in
     let y = c .before .half2 .ensures in (
-      rw (c .join .ensures, x .0, y .0) (halves (digitOf 64 (a .costs .now) (a .words .now) (a .a0) (a .a1) (a .b0) (a .b1) (a .low))),
+      rw (c .join .ensures, x .0, y .0) (halves (digitOf 64 (a .costs .now) (a .words .now) (a .a0) (a .a1) (a .b0) (a .b1) (a .stay))),
       is-stage 64 _ _ _ _ _ _ _ (y .1 .0) (y .1 .1),
     )
 

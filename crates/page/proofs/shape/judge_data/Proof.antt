@@ -1,0 +1,25 @@
+-- The test is that of the ground; L·S fits, as L and S are within their limits.
+use native.Mathlib.Omega.{arith}
+use native.Mathlib.Nat.{mul-le-mul}
+use borrow.Author.Tests.{eq-eqb, ne-eqb}
+use Rattle.page.specs.Refusals.{dataGround}
+use Rattle.page.proofs.Judging.{limits-most}
+use Rattle.page.proofs.shape.judge_data.Statement.{statement}
+use Rattle.page.proofs.shape.judge_data.Tie as tie
+
+mul-if1 : tie.Need-mul-if1
+mul-if1 c =
+    let a = c .args in
+    let l = limits-most (a .bytes) (a .strips) (c .pre) in
+    omega (arith, mul-le-mul {n₁ = a .bytes} {m₁ = a .strips} {n₂ = 64} {m₂ = 64} (l .0) (l .1))
+
+returns : tie.Need-returns
+unfolding dataGround
+returns c = simp (ne-eqb _ _ (c .if1 .taken))
+
+returns-2 : tie.Need-returns-2
+unfolding dataGround
+returns-2 c = simp (eq-eqb _ _ (c .if1 .left))
+
+pub judge-data-spec : {M : Type 1} → statement M
+judge-data-spec = tie.close (tie.spec mul-if1 returns returns-2)
