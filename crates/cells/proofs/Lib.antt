@@ -5,3 +5,4 @@ pub mod Setting
 pub mod Levels
 pub mod Raising
 pub mod Climbs
+pub mod Parts

@@ -6,7 +6,8 @@ use Rattle.cells.specs.Places.{listOf, sumOf, number}
 use Rattle.cells.specs.Bytes.{bitOf, bytesOf}
 use Rattle.cells.specs.Levels.{level}
 use Rattle.codes.specs.Generators.{short, long, digit}
-use Rattle.codes.specs.Reading.{ago, dataBit, firstBit, secondBit, readStrip}
+use Rattle.codes.specs.Layouts.{oneBit}
+use Rattle.codes.specs.Reading.{ago, sumBit, codeBit, dataBit, readStrip}
 
 -- 7 is 1 1 1
 pub short-first : listOf 3 (digit 2 0o7) ≡ 1 ∷ 1 ∷ 1 ∷ []
@@ -29,20 +30,20 @@ unfolding listOf digit
 long-second = refl
 
 -- the first cell alone at level 1 reads 6d with code 7: the digits of 133 from the present stage on, bit 0 first
-pub first-cell-long : readStrip long 1 (1 ∷ 0 ∷ 0 ∷ 0 ∷ 0 ∷ 0 ∷ []) ≡ 0x6d ∷ []
-unfolding readStrip bytesOf listOf number dataBit sumOf digit ago firstBit secondBit level bitOf
+pub first-cell-long : readStrip oneBit long 1 (1 ∷ 0 ∷ 0 ∷ 0 ∷ 0 ∷ 0 ∷ []) ≡ 0x6d ∷ []
+unfolding readStrip bytesOf listOf number dataBit sumBit codeBit sumOf digit ago level bitOf
 first-cell-long = refl
 
 -- the second cell alone reads 4f with code 7: the digits of 171
-pub second-cell-long : readStrip long 1 (8 ∷ 0 ∷ 0 ∷ 0 ∷ 0 ∷ 0 ∷ []) ≡ 0x4f ∷ []
-unfolding readStrip bytesOf listOf number dataBit sumOf digit ago firstBit secondBit level bitOf
+pub second-cell-long : readStrip oneBit long 1 (8 ∷ 0 ∷ 0 ∷ 0 ∷ 0 ∷ 0 ∷ []) ≡ 0x4f ∷ []
+unfolding readStrip bytesOf listOf number dataBit sumBit codeBit sumOf digit ago level bitOf
 second-cell-long = refl
 
 -- the first cell alone reads 05 with code 3, and the second 07
-pub first-cell-short : readStrip short 1 (1 ∷ 0 ∷ 0 ∷ 0 ∷ 0 ∷ 0 ∷ []) ≡ 0x05 ∷ []
-unfolding readStrip bytesOf listOf number dataBit sumOf digit ago firstBit secondBit level bitOf
+pub first-cell-short : readStrip oneBit short 1 (1 ∷ 0 ∷ 0 ∷ 0 ∷ 0 ∷ 0 ∷ []) ≡ 0x05 ∷ []
+unfolding readStrip bytesOf listOf number dataBit sumBit codeBit sumOf digit ago level bitOf
 first-cell-short = refl
 
-pub second-cell-short : readStrip short 1 (8 ∷ 0 ∷ 0 ∷ 0 ∷ 0 ∷ 0 ∷ []) ≡ 0x07 ∷ []
-unfolding readStrip bytesOf listOf number dataBit sumOf digit ago firstBit secondBit level bitOf
+pub second-cell-short : readStrip oneBit short 1 (8 ∷ 0 ∷ 0 ∷ 0 ∷ 0 ∷ 0 ∷ []) ≡ 0x07 ∷ []
+unfolding readStrip bytesOf listOf number dataBit sumBit codeBit sumOf digit ago level bitOf
 second-cell-short = refl

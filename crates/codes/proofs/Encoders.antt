@@ -2,24 +2,28 @@
 -- paper's sums give the data.
 use mathlib.Core.Path.{_≡_, refl, sym, _∙_, ap}
 use mathlib.Core.Bool.{Bool, true}
-use mathlib.Core.List.{List, [], _∷_}
+use mathlib.Core.List.{List, [], _∷_, map}
 use mathlib.Core.Logic.{_↔_}
-use Prim.Native.Nat.{ℕ, zero, suc, _<_, _≤_}
+use Prim.Native.Nat.{ℕ, zero, suc, _<_, _≤_, _+_, _*_, _/_, _%_}
+use native.Mathlib.Nat.{not-suc-le-zero, div-add-mod}
 use native.Mathlib.Omega.{arith}
-use lib.ListN.{length, getD}
-use Rattle.cells.specs.Places.{listOf, no-more, and-each}
+use lib.ListN.{length, getD, length-map}
+use Rattle.cells.specs.Places.{listOf, Each, no-more, and-each}
 use Rattle.cells.proofs.Places.{length-listOf}
-use Rattle.codes.specs.Generators.{Generators, short, long, digit}
+use Rattle.cells.proofs.Parts.{place-div, place-mod, place-inside, part-number, part-place}
+use Rattle.codes.specs.Generators.{Generators, g2, short, long, digit}
+use Rattle.codes.specs.Layouts.{Layout}
 use Rattle.codes.specs.Codes.{named, generatorsOf}
 use Rattle.codes.specs.declared.Code.{Code}
 use Rattle.codes.specs.declared.Name.{Name}
 use Rattle.codes.specs.declared.Name.the-variants.{Short, Long}
-use Rattle.codes.specs.Reading.{dataBit}
+use Rattle.codes.specs.Reading.{sumBit, codeBit, dataBit}
 use Rattle.codes.specs.Sequences.{_⊕_, conv, Agree, odd}
 use Rattle.codes.specs.Encoders.{InMemory, encoderOf, Proper}
 use Rattle.codes.specs.Coset.{bit, Reads}
 use Rattle.codes.proofs.Sequences.{agree-trans, agree-⊕, agree-conv}
-use Rattle.codes.proofs.Sums.{odd-only, dataBit-bound, dataBit-conv}
+use Rattle.codes.proofs.Sums.{odd-only, sumBit-conv}
+use Rattle.codes.proofs.Layouts.{dataBit-bound}
 
 -- the digits of G1, digit 0 being 1
 pub first-digits : (G : Generators) → digit (G .memory) (G .g1) 0 ≡ 1 → true ∷ encoderOf G .first ≡ listOf (suc (G .memory)) (λ i. odd (digit (G .memory) (G .g1) i))
@@ -31,11 +35,14 @@ pub encoder-in-memory : (G : Generators) → InMemory (encoderOf G)
 unfolding encoderOf
 encoder-in-memory G = record {
   first-fits = omega (arith, length-listOf (G .memory) (λ i. odd (digit (G .memory) (G .g1) (suc i))));
-  others-fit = and-each most no-more;
+  others-fit = each (G .others);
 }
   where
-    most : length (listOf (suc (G .memory)) (λ i. odd (digit (G .memory) (G .g2) i))) ≤ suc (G .memory)
-    most = omega (arith, length-listOf (suc (G .memory)) (λ i. odd (digit (G .memory) (G .g2) i)))
+    each : (gs : List ℕ) → Each (λ G′. length G′ ≤ suc (G .memory)) (map (λ g. listOf (suc (G .memory)) (λ i. odd (digit (G .memory) g i))) gs)
+    each [] = no-more
+    each (g ∷ gs) =
+        let e : length (listOf (suc (G .memory)) (λ i. odd (digit (G .memory) g i))) ≤ suc (G .memory) = omega (arith, length-listOf (suc (G .memory)) (λ i. odd (digit (G .memory) g i))) in
+        and-each e (each gs)
 
 -- both codes are such that the data can be divided by G1, and a step of that division can be undone
 pub short-proper : Proper short
@@ -56,32 +63,56 @@ pub proper : (c : Code) → Proper (generatorsOf c)
 proper c = named-proper (c .name)
 
 -- and the second generator of each name begins with 1 too
-named-second : (n : Name) → digit (named n .memory) (named n .g2) 0 ≡ 1
+named-second : (n : Name) → digit (named n .memory) (g2 (named n)) 0 ≡ 1
 unfolding digit
 named-second Short = refl
 named-second Long = refl
 
 -- so does that of every code
-pub second-leads : (c : Code) → digit (generatorsOf c .memory) (generatorsOf c .g2) 0 ≡ 1
+pub second-leads : (c : Code) → digit (generatorsOf c .memory) (g2 (generatorsOf c)) 0 ≡ 1
 second-leads c = named-second (c .name)
 
--- WORDS READ AS THE DATA just where the paper's sums give it: a and b are the bits of the words
-module _ (G : Generators) (lead : digit (G .memory) (G .g1) 0 ≡ 1) (n : ℕ) (W : List (List Bool)) (a b d : ℕ → ℕ) (bits : (t : ℕ) → d t < 2)
-    (first : Agree n (bit 0 W) (λ t. odd (a t))) (second : Agree n (bit 1 W) (λ t. odd (b t))) where
-  sums-agree : Agree n (conv (getD (encoderOf G .others) 0 []) (bit 0 W) ⊕ conv (true ∷ encoderOf G .first) (bit 1 W)) (λ t. odd (dataBit G a b t))
-  unfolding encoderOf
-  sums-agree =
-      rw (first-digits G lead)
-      (agree-trans (agree-⊕ (agree-conv _ first) (agree-conv _ second)) (record { at = λ t h. sym (dataBit-conv G a b t) }))
+-- generator j after the first, by its digits
+others-at : (m : ℕ) (gs : List ℕ) (j : ℕ) → j < length gs
+    → getD (map (λ g. listOf (suc m) (λ i. odd (digit m g i))) gs) j [] ≡ listOf (suc m) (λ i. odd (digit m (getD gs j 0) i))
+others-at m [] j h = absurd (not-suc-le-zero h)
+others-at m (g ∷ gs) zero h = refl
+others-at m (g ∷ gs) (suc j) h = others-at m gs j (omega arith)
 
-  pub reads-sums : Reads (encoderOf G) (λ j t. odd (d t)) n W ↔ ((t : ℕ) → t < n → dataBit G a b t ≡ d t)
+-- WORDS READ AS THE DATA just where the paper's sums give it: v are the levels of the cells, whose code bits are those of the words
+module _ (lay : Layout) (G : Generators) (lead : digit (G .memory) (G .g1) 0 ≡ 1) (whole : length (G .others) ≡ lay .bits)
+    (n : ℕ) (W : List (List Bool)) (v d : ℕ → ℕ) (bits : (b : ℕ) → d b < 2)
+    (shown : (j : ℕ) → j ≤ lay .bits → Agree n (bit j W) (λ t. odd (codeBit lay v j t))) where
+  -- data bit bits·t + j is the sum of stage t by generator j after the first
+  data-stage : (j t : ℕ) → j < lay .bits
+      → dataBit lay G v (lay .bits * t + j) ≡ sumBit (G .memory) (G .g1) (getD (G .others) j 0) (codeBit lay v 0) (codeBit lay v (suc j)) t
+  unfolding dataBit
+  data-stage j t h = rw (place-mod (lay .bits) t j h, place-div (lay .bits) t j h)
+
+  -- column j reads as the data bits of that generator
+  sums-agree : (j : ℕ) → j < lay .bits → Agree n
+      (conv (getD (encoderOf G .others) j []) (bit 0 W) ⊕ conv (true ∷ encoderOf G .first) (bit (suc j) W)) (λ t. odd (dataBit lay G v (lay .bits * t + j)))
   unfolding encoderOf
-  reads-sums = (
-    λ r t h. odd-only _ _ (dataBit-bound G a b t) (bits t) (sym (sums-agree .at t h) ∙ r .each 0 (omega arith) .at t h),
-    λ f. record { each = each f },
-  )
+  sums-agree j h =
+      rw (first-digits G lead, others-at (G .memory) (G .others) j (omega arith))
+      (agree-trans (agree-⊕ (agree-conv _ (shown 0 (omega arith))) (agree-conv _ (shown (suc j) h)))
+      (record { at = λ t l. sym (ap odd (data-stage j t h) ∙ sumBit-conv _ _ _ _ _ t) }))
+
+  pub reads-sums : Reads (encoderOf G) (λ j t. odd (d (lay .bits * t + j))) n W ↔ ((b : ℕ) → b < lay .bits * n → dataBit lay G v b ≡ d b)
+  unfolding encoderOf
+  reads-sums = (to, λ f. record { each = λ j h. agree-trans (sums-agree j (few j h)) (record { at = λ t l. ap odd (f _ (place-inside (lay .bits) t j (few j h) n l)) }) })
     where
-      each : ((t : ℕ) → t < n → dataBit G a b t ≡ d t) → (j : ℕ) → j < 1
-          → Agree n (conv (getD (encoderOf G .others) j []) (bit 0 W) ⊕ conv (true ∷ encoderOf G .first) (bit (suc j) W)) (λ t. odd (d t))
-      each f zero h = agree-trans sums-agree (record { at = λ t l. ap odd (f t l) })
-      each f (suc j) h = absurd (let z : ⊥ = omega arith in z)
+      few : (j : ℕ) → j < length (encoderOf G .others) → j < lay .bits
+      few j h = omega (arith, length-map (G .others) (λ g. listOf (suc (G .memory)) (λ i. odd (digit (G .memory) g i))))
+
+      many : (j : ℕ) → j < lay .bits → j < length (encoderOf G .others)
+      many j h = omega (arith, length-map (G .others) (λ g. listOf (suc (G .memory)) (λ i. odd (digit (G .memory) g i))))
+
+      to : Reads (encoderOf G) (λ j t. odd (d (lay .bits * t + j))) n W → (b : ℕ) → b < lay .bits * n → dataBit lay G v b ≡ d b
+      to r b h =
+          let j : ℕ = b % lay .bits in
+          let t : ℕ = b / lay .bits in
+          let k : j < lay .bits = part-place (lay .bits) n b h in
+          let l : t < n = part-number (lay .bits) n b h in
+          let z : lay .bits * t + j ≡ b = div-add-mod b (lay .bits) in
+          rw z at (odd-only _ _ (dataBit-bound lay G v _) (bits _) (sym (sums-agree j k .at t l) ∙ r .each j (many j k) .at t l))

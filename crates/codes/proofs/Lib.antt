@@ -3,6 +3,7 @@ pub mod Sequences
 pub mod Registers
 pub mod Coset
 pub mod Sums
+pub mod Layouts
 pub mod Encoders
 pub mod Numbers
 pub mod Parities

@@ -12,12 +12,14 @@ use Rattle.cells.specs.Places.{sumOf, number}
 use Rattle.cells.specs.Bytes.{bytesOf}
 use Rattle.cells.specs.Levels.{level}
 use Rattle.cells.proofs.Places.{listOf-same, listOf-getD, sumOf-same, sumOf-add, number-same, half-power}
-use Rattle.codes.specs.Generators.{Generators, digit}
+use Rattle.codes.specs.Generators.{Generators, g2, digit}
 use Rattle.codes.specs.Codes.{named}
 use Rattle.codes.specs.declared.Name.{Name}
 use Rattle.codes.specs.declared.Name.the-variants.{Short, Long}
-use Rattle.codes.specs.Reading.{ago, dataBit, firstBit, secondBit, readStrip}
-use Rattle.codes.specs.Taps.{tapsOf, parityOf, windowOf, tappedBit}
+use Rattle.codes.specs.Layouts.{oneBit}
+use Rattle.codes.specs.Reading.{ago, sumBit, dataBit, readStrip}
+use Rattle.codes.specs.Taps.{tapsOf, parityOf, windowOf, firstBit, secondBit, tappedBit}
+use Rattle.codes.proofs.Layouts.{oneBit-data}
 use Rattle.codes.proofs.Sums.{ago-now, ago-before, ago-suc}
 
 -- TAPS. The lesser of two bits is their product
@@ -105,15 +107,16 @@ unfolding secondBit
 second-bound v t = mod-lt _ (zero-lt-suc 1)
 
 -- the data bit by taps and windows is the paper's
-pub tapped-data : (G : Generators) (v : ℕ → ℕ) (t : ℕ) → G .memory ≤ 6 → tappedBit (tapsOf (G .memory) (G .g1)) (tapsOf (G .memory) (G .g2)) v t ≡ dataBit G (firstBit v) (secondBit v) t
-unfolding tappedBit dataBit
+pub tapped-data : (G : Generators) (v : ℕ → ℕ) (t : ℕ) → G .memory ≤ 6 → tappedBit (tapsOf (G .memory) (G .g1)) (tapsOf (G .memory) (g2 G)) v t ≡ dataBit oneBit G v t
+unfolding tappedBit sumBit
 tapped-data G v t h =
     let m : ℕ = G .memory in
     omega (
       arith,
-      parity-window 7 (firstBit v) (first-bound v) m (G .g2) t (omega arith),
+      oneBit-data G v t,
+      parity-window 7 (firstBit v) (first-bound v) m (g2 G) t (omega arith),
       parity-window 7 (secondBit v) (second-bound v) m (G .g1) t (omega arith),
-      sumOf-add (suc m) (λ i. digit m (G .g2) i * ago (firstBit v) t i) (λ i. digit m (G .g1) i * ago (secondBit v) t i),
+      sumOf-add (suc m) (λ i. digit m (g2 G) i * ago (firstBit v) t i) (λ i. digit m (G .g1) i * ago (secondBit v) t i),
     )
 
 -- a data bit is 0 or 1
@@ -147,8 +150,8 @@ module _ (v : ℕ → ℕ) (q i : ℕ) where
       ap₂ (λ (x y : ℕ). (x + y) % 2) (g ∙ ap (parityOf second) (e ∙ ap (windowOf 7 (firstBit v)) s)) (h ∙ ap (parityOf first) (f ∙ ap (windowOf 7 (secondBit v)) s))
 
 -- READING A STRIP. Bytes of data bits by the taps of a code are what the strip reads as
-pub read-bytes : (G : Generators) (first second n : ℕ) (strip bytes : List ℕ) → G .memory ≤ 6 → first ≡ tapsOf (G .memory) (G .g1) → second ≡ tapsOf (G .memory) (G .g2)
-    → length bytes ≡ n → ((k : ℕ) → k < n → getD bytes k 0 ≡ number 8 (λ i. tappedBit first second (level strip) (8 * k + i))) → bytes ≡ readStrip G n strip
+pub read-bytes : (G : Generators) (first second n : ℕ) (strip bytes : List ℕ) → G .memory ≤ 6 → first ≡ tapsOf (G .memory) (G .g1) → second ≡ tapsOf (G .memory) (g2 G)
+    → length bytes ≡ n → ((k : ℕ) → k < n → getD bytes k 0 ≡ number 8 (λ i. tappedBit first second (level strip) (8 * k + i))) → bytes ≡ readStrip oneBit G n strip
 unfolding readStrip bytesOf
 read-bytes G first second n strip bytes m f s e b =
     sym (listOf-getD n bytes 0 e)

@@ -8,8 +8,8 @@ use lib.Dec.{ltb, eqb}
 use borrow.Author.Tests.{lt-ltb, le-ltb}
 use Rattle.cells.specs.Places.{listOf, sumOf}
 use Rattle.cells.proofs.Places.{sumOf-same, sumOf-zero, sumOf-add}
-use Rattle.codes.specs.Generators.{Generators, digit}
-use Rattle.codes.specs.Reading.{ago, dataBit}
+use Rattle.codes.specs.Generators.{digit}
+use Rattle.codes.specs.Reading.{ago, sumBit}
 use Rattle.codes.specs.Sequences.{_+₂_, zeros, _⊕_, scale, shift, conv, odd}
 
 -- ODD. A sum is odd if just one of the two is
@@ -88,30 +88,29 @@ conv-sum (suc n) f x t =
     later e zero = ap odd (sumOf-zero n _ (λ i h. let z : f (suc i) * 0 ≡ 0 = omega arith in ap (λ (y : ℕ). f (suc i) * y) (ago-before x i) ∙ z))
     later e (suc t) = ap odd (sumOf-same n _ _ (λ i h. ap (λ (y : ℕ). f (suc i) * y) (ago-suc x t i))) ∙ sym (e t)
 
--- a data bit is 0 or 1
-pub dataBit-bound : (G : Generators) (a b : ℕ → ℕ) (t : ℕ) → dataBit G a b t < 2
-unfolding dataBit
-dataBit-bound G a b t = mod-lt _ (zero-lt-suc 1)
+-- the sum of a stage is 0 or 1
+pub sumBit-bound : (m g1 g : ℕ) (a b : ℕ → ℕ) (t : ℕ) → sumBit m g1 g a b t < 2
+unfolding sumBit
+sumBit-bound m g1 g a b t = mod-lt _ (zero-lt-suc 1)
 
--- the paper's sum is G2 times the first bits plus G1 times the second bits
-pub dataBit-conv : (G : Generators) (a b : ℕ → ℕ) (t : ℕ)
-    → odd (dataBit G a b t)
-    ≡ (conv (listOf (suc (G .memory)) (λ i. odd (digit (G .memory) (G .g2) i))) (λ s. odd (a s))
-    ⊕ conv (listOf (suc (G .memory)) (λ i. odd (digit (G .memory) (G .g1) i))) (λ s. odd (b s))) t
-unfolding dataBit _⊕_
-dataBit-conv G a b t =
-    odd-mod-two _ ∙ ap odd (sumOf-add (suc (G .memory)) _ _) ∙ odd-add _ _
-    ∙ ap₂ (λ (c d : Bool). c +₂ d) (sym (conv-sum (suc (G .memory)) (digit (G .memory) (G .g2)) a t)) (sym (conv-sum (suc (G .memory)) (digit (G .memory) (G .g1)) b t))
+-- it is g times the bits a plus G1 times the bits b
+pub sumBit-conv : (m g1 g : ℕ) (a b : ℕ → ℕ) (t : ℕ)
+    → odd (sumBit m g1 g a b t)
+    ≡ (conv (listOf (suc m) (λ i. odd (digit m g i))) (λ s. odd (a s)) ⊕ conv (listOf (suc m) (λ i. odd (digit m g1 i))) (λ s. odd (b s))) t
+unfolding sumBit _⊕_
+sumBit-conv m g1 g a b t =
+    odd-mod-two _ ∙ ap odd (sumOf-add (suc m) _ _) ∙ odd-add _ _
+    ∙ ap₂ (λ (c d : Bool). c +₂ d) (sym (conv-sum (suc m) (digit m g) a t)) (sym (conv-sum (suc m) (digit m g1) b t))
 
 -- what x was depends on x up to the present stage
 ago-same : (x y : ℕ → ℕ) (t i : ℕ) → ((s : ℕ) → s ≤ t → x s ≡ y s) → ago x t i ≡ ago y t i
 unfolding ago
 ago-same x y t i e = ap (λ (n : ℕ). cond (ltb t i) 0 n) (e (t - i) (omega arith))
 
--- and so does a data bit
-pub dataBit-same : (G : Generators) (a b a′ b′ : ℕ → ℕ) (t : ℕ) → ((s : ℕ) → s ≤ t → a s ≡ a′ s) → ((s : ℕ) → s ≤ t → b s ≡ b′ s) → dataBit G a b t ≡ dataBit G a′ b′ t
-unfolding dataBit
-dataBit-same G a b a′ b′ t e f =
+-- and so does the sum of a stage
+pub sumBit-same : (m g1 g : ℕ) (a b a′ b′ : ℕ → ℕ) (t : ℕ) → ((s : ℕ) → s ≤ t → a s ≡ a′ s) → ((s : ℕ) → s ≤ t → b s ≡ b′ s)
+    → sumBit m g1 g a b t ≡ sumBit m g1 g a′ b′ t
+unfolding sumBit
+sumBit-same m g1 g a b a′ b′ t e f =
     ap (λ (s : ℕ). s % 2)
-    (sumOf-same (suc (G .memory)) _ _ (λ i k.
-    ap₂ (λ (x y : ℕ). digit (G .memory) (G .g2) i * x + digit (G .memory) (G .g1) i * y) (ago-same a a′ t i e) (ago-same b b′ t i f)))
+    (sumOf-same (suc m) _ _ (λ i k. ap₂ (λ (x y : ℕ). digit m g i * x + digit m g1 i * y) (ago-same a a′ t i e) (ago-same b b′ t i f)))

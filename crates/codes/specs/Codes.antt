@@ -7,9 +7,8 @@ use mathlib.Core.Path.{_≡_}
 use mathlib.Core.List.{List}
 use Prim.Native.Nat.{ℕ, _+_, _*_, _%_, _^_}
 use Rattle.cells.specs.Levels.{level}
-use Rattle.codes.specs.Generators.{Generators, short, long}
-use Rattle.codes.specs.Reading.{firstBit, secondBit}
-use Rattle.codes.specs.Taps.{windowOf}
+use Rattle.codes.specs.Generators.{Generators, g2, short, long}
+use Rattle.codes.specs.Taps.{firstBit, secondBit, windowOf}
 use Rattle.codes.specs.declared.Code.{Code}
 use Rattle.codes.specs.declared.Generators.{Generators as Table}
 use Rattle.codes.specs.declared.Windows.{Windows}
@@ -34,7 +33,7 @@ nextOf m s d = (2 * s + d % 2) % 2 ^ m
 pub record TableRow (c : Code) (r : Table) : Type 0 where
   pub memory-is : r .memory ≡ generatorsOf c .memory
   pub first-is : r .first ≡ generatorsOf c .g1
-  pub second-is : r .second ≡ generatorsOf c .g2
+  pub second-is : r .second ≡ g2 (generatorsOf c)
 
 -- the program's windows hold the last bits of the first and of the second cells of the stages before byte q
 pub record WindowsBefore (strip : List ℕ) (q : ℕ) (w : Windows) : Type 0 where

@@ -5,7 +5,7 @@
 --   Proper G       G1's first and last digits are 1
 use mathlib.Core.Path.{_≡_}
 use mathlib.Core.Bool.{Bool}
-use mathlib.Core.List.{List, [], _∷_}
+use mathlib.Core.List.{List, map}
 use Prim.Native.Nat.{ℕ, suc, _<_, _≤_}
 use lib.ListN.{length}
 use Rattle.cells.specs.Places.{listOf, Each}
@@ -23,12 +23,12 @@ pub record InMemory (E : Encoder) : Type 0 where
   pub first-fits : length (E .first) ≤ E .memory
   pub others-fit : Each (λ G. length G ≤ suc (E .memory)) (E .others)
 
--- the encoder of two generators: n = 2
+-- the encoder of a code's generators
 unfoldable pub encoderOf : Generators → Encoder
 encoderOf G = record {
   memory = G .memory;
   first = listOf (G .memory) (λ i. odd (digit (G .memory) (G .g1) (suc i)));
-  others = listOf (suc (G .memory)) (λ i. odd (digit (G .memory) (G .g2) i)) ∷ [];
+  others = map (λ g. listOf (suc (G .memory)) (λ i. odd (digit (G .memory) g i))) (G .others);
 }
 
 -- generators by which data can be divided, and a step of the division undone: G1's first digit is 1, and so is its last

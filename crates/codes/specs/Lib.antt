@@ -1,5 +1,6 @@
--- What the crate `codes` promises is stated by `Generators`, `Reading`, `Taps` and `Codes`; the others are the algebra behind the search.
+-- What the crate `codes` promises is stated by `Generators`, `Layouts`, `Reading`, `Taps` and `Codes`; the others are the algebra behind the search.
 pub mod Generators
+pub mod Layouts
 pub mod Reading
 pub mod Taps
 pub mod Codes

@@ -5,13 +5,13 @@
 --   labelOf taps r d     the label of a stage: the data divided by G1
 --   forthOf, backOf      the register of the last labels, a stage on and a stage back
 --   windowOf n x t       the last n of the bits x 0 .. x (t − 1)
+--   firstBit, secondBit  the bits of a stage's two cells, by the levels
 --   tappedBit f s v t    data bit t by such windows of the cells' bits
 use Prim.Native.Nat.{ℕ, zero, suc, _+_, _*_, _-_, _/_, _%_, _^_}
 use lib.Bits.{bitAnd}
 use lib.Count.{ones}
 use Rattle.cells.specs.Places.{number}
-use Rattle.codes.specs.Generators.{Generators, digit}
-use Rattle.codes.specs.Reading.{firstBit, secondBit}
+use Rattle.codes.specs.Generators.{Generators, g2, digit}
 
 -- the generator's digits from the present stage back, digit i worth 2 ^ i
 unfoldable pub tapsOf : ℕ → ℕ → ℕ
@@ -23,7 +23,7 @@ parityOf taps w = ones (bitAnd taps w) % 2
 
 -- the two output bits of a branch, G1's worth 1 and G2's worth 2
 unfoldable pub wordOf : Generators → ℕ → ℕ
-wordOf G w = parityOf (tapsOf (G .memory) (G .g1)) w + 2 * parityOf (tapsOf (G .memory) (G .g2)) w
+wordOf G w = parityOf (tapsOf (G .memory) (G .g1)) w + 2 * parityOf (tapsOf (G .memory) (g2 G)) w
 
 -- the label x(t) is the data bit plus G1's digit i times x(t−i), over i from 1 on, mod 2: bit i − 1 of the register is x(t−i)
 unfoldable pub labelOf : ℕ → ℕ → ℕ → ℕ
@@ -41,6 +41,14 @@ backOf m taps r d = r / 2 + labelOf taps (r / 2) (r % 2 + d) * 2 ^ (m - 1)
 unfoldable pub windowOf : ℕ → (ℕ → ℕ) → ℕ → ℕ
 windowOf n x zero = 0
 windowOf n x (suc t) = (2 * windowOf n x t + x t) % 2 ^ n
+
+-- the bit of the first cell of stage t
+unfoldable pub firstBit : (ℕ → ℕ) → ℕ → ℕ
+firstBit v t = v (2 * t) % 2
+
+-- and of the second
+unfoldable pub secondBit : (ℕ → ℕ) → ℕ → ℕ
+secondBit v t = v (2 * t + 1) % 2
 
 -- data bit t by windows of the last seven cell bits: the most that a generator of memory 6 reaches
 unfoldable pub tappedBit : ℕ → ℕ → (ℕ → ℕ) → ℕ → ℕ

@@ -4,7 +4,8 @@ ghost use Prim.Native.Nat.{_+_, _*_, _%_, _^_, _<_, _≤_};
 ghost use lib.ListN.{length};
 ghost use Rattle.cells.specs.Places.{number};
 ghost use Rattle.cells.specs.Levels.{level};
-ghost use Rattle.codes.specs.Generators.{short, long};
+ghost use Rattle.codes.specs.Generators.{short, long, g2};
+ghost use Rattle.codes.specs.Layouts.{oneBit};
 ghost use Rattle.codes.specs.Reading.{readStrip};
 ghost use Rattle.codes.specs.Codes.{generatorsOf, nextOf, TableRow, WindowsBefore};
 ghost use Rattle.codes.specs.Taps.{tapsOf, parityOf, wordOf, labelOf, forthOf, backOf, tappedBit};
@@ -146,7 +147,7 @@ impl Code {
     }
 
     pub fn second_taps(self) -> u32
-        ensures { λ r. ⌜ (r ≡ tapsOf (generatorsOf self .memory) (generatorsOf self .g2)) × (r < 128) ⌝ }
+        ensures { λ r. ⌜ (r ≡ tapsOf (generatorsOf self .memory) (g2 (generatorsOf self))) × (r < 128) ⌝ }
     {
         let row = self.generators();
         taps(row.memory, row.second)
@@ -187,7 +188,7 @@ impl Code {
     // Reads a strip: a byte of data for each eight stages.
     pub fn read(self, strip: &[u8], data: &mut [u8])
         requires { ⌜ length (now «data») ≤ 64 ⌝ }
-        ensures { λ _. ⌜ now («data» .exit) ≡ readStrip (generatorsOf self) (length (now («data» .entry))) (now (strip .entry)) ⌝ }
+        ensures { λ _. ⌜ now («data» .exit) ≡ readStrip oneBit (generatorsOf self) (length (now («data» .entry))) (now (strip .entry)) ⌝ }
     {
         let first = self.first_taps();
         let second = self.second_taps();

@@ -5,7 +5,7 @@ use native.Mathlib.Omega.{arith}
 use borrow.Author.Needs.{needs}
 use Rattle.cells.specs.Places.{number}
 use Rattle.cells.specs.Levels.{level}
-use Rattle.codes.specs.Reading.{firstBit, secondBit}
+use Rattle.codes.specs.Taps.{firstBit, secondBit}
 use Rattle.codes.specs.Taps.{windowOf, tappedBit}
 use Rattle.cells.proofs.Places.{number-next, number-fits}
 use Rattle.codes.proofs.Parities.{window-less, tapped-bound, first-next, second-next, data-next}
