@@ -22,17 +22,17 @@ use Rattle.cells.proofs.Raising.{raisedTo-length, raisedTo-level, raisedTo-same
 use Rattle.codes.specs.Generators.{Generators, digit}
 use Rattle.codes.specs.Sequences.{odd}
 use Rattle.codes.specs.Encoders.{InMemory, encoderOf}
-use Rattle.trellis.specs.Best.{Solution, Best, Solves, Width, All, LexLower}
-use Rattle.trellis.specs.Strip.{Dear, stepsOf}
-use Rattle.trellis.specs.Parity.{parity, parity-choice}
-use Rattle.trellis.specs.Demand.{levelAt}
+use Rattle.search.specs.Best.{Solution, Best, Solves, Width, All, LexLower}
+use Rattle.search.specs.Strip.{Dear, stepsOf}
+use Rattle.search.specs.Parity.{parity, parity-choice}
+use Rattle.search.specs.Levels.{levelAt}
 use Rattle.trellis.specs.Wide.{wide, dataOf, unmarked, rewriteOf}
-use Rattle.trellis.proofs.Best.{the-best, none-valid, cost-least, levels-first}
-use Rattle.trellis.proofs.Trellis.{all-solves, none-first}
-use Rattle.trellis.proofs.Raising.{full-length}
-use Rattle.trellis.proofs.Places.{length-cells}
-use Rattle.trellis.proofs.Search.{write-solves}
-use Rattle.trellis.proofs.Parity.{parity-chooses}
+use Rattle.search.proofs.Best.{the-best, none-valid, cost-least, levels-first}
+use Rattle.search.proofs.Trellis.{all-solves, none-first}
+use Rattle.search.proofs.Strip.{full-length}
+use Rattle.search.proofs.Levels.{length-cells}
+use Rattle.search.proofs.Search.{write-solves}
+use Rattle.search.proofs.Parity.{parity-chooses}
 use Rattle.page.specs.Shape.{strip, part}
 use Rattle.page.specs.Reading.{stripLevels}
 use Rattle.page.specs.Demand.{Could, LowerAtFirst, Cheapest, Fits, SpentAt}

@@ -7,7 +7,7 @@ use native.Mathlib.Nat.{not-suc-le-zero}
 use lib.ListN.{length, take, drop, take-append-drop, length-append, length-drop}
 use lib.Seq.{take-at, drop-at, drop-drop}
 use Rattle.cells.specs.Places.{listOf, sumOf}
-use Rattle.trellis.specs.Best.{Problem, empty, Width, All, FirstClosed, here, later}
+use Rattle.search.specs.Best.{Problem, empty, Width, All, FirstClosed, here, later}
 
 -- c at place 0, and g after it
 cons : ℕ → (ℕ → ℕ) → ℕ → ℕ

@@ -14,18 +14,18 @@ use borrow.Author.Tests.{eq-eqb, ne-eqb}
 use Rattle.codes.specs.Sequences.{_+₂_, Bits, zeros, Agree}
 use Rattle.codes.specs.Registers.{push, quotient}
 use Rattle.cells.specs.Places.{Each, no-more, and-each}
-use Rattle.trellis.specs.Best.{Solves, empty, digit}
-use Rattle.trellis.specs.Trellis.{Valid}
+use Rattle.search.specs.Best.{Solves, empty, digit}
+use Rattle.search.specs.Trellis.{Valid}
 use Rattle.codes.specs.Encoders.{Encoder, InMemory}
-use Rattle.trellis.specs.Strip.{Steps, Cell, Raised, still, groups, Full, done, more, Meaning, words, Rewrite, Group}
-use Rattle.trellis.specs.Search.{labels, sums, wanted, Stage, Choice, branch, admit, next, stages, write, Chooses}
+use Rattle.search.specs.Strip.{Steps, Cell, Raised, still, groups, Full, done, more, Meaning, words, Rewrite, Group}
+use Rattle.search.specs.Search.{labels, sums, wanted, Stage, Choice, branch, admit, next, stages, write, Chooses, withMemory}
 use Rattle.codes.proofs.Sequences.{agree-down, agree-refl, agree-trans}
 use Rattle.codes.proofs.Registers.{hist, hist-agree, hist-zero, conv-dot, dot-state, push-state}
 use Rattle.codes.specs.Coset.{bit, rest, word, Written}
 use Rattle.codes.proofs.Coset.{written-reads, reads-written}
-use Rattle.trellis.proofs.Trellis.{best-solves}
-use Rattle.trellis.proofs.Best.{solves-iff}
-use Rattle.trellis.proofs.Raising.{Split, raised-split, raised-append, raised-length, full-raised, group-width, length-words, words-sized}
+use Rattle.search.proofs.Trellis.{best-solves}
+use Rattle.search.proofs.Best.{solves-iff, solves-unique}
+use Rattle.search.proofs.Strip.{Split, raised-split, raised-append, raised-length, full-raised, group-width, length-words, words-sized}
 
 -- a sequence with another bit at stage t
 upd : Bits → ℕ → Bool → Bits
@@ -184,3 +184,12 @@ module _ (E : Encoder) (H : InMemory E) (d : ℕ → Bits) where
               let s : Written E d u n (words M n y) = reads-written E H d n (words M n y) (words-sized M _ (K .sized) (full-raised (M .cells) p (w .raised))) (w .reads) in
               rw (hist-zero (E .memory) u) at
               (complete u p 0 (w .raised) (spells-from u 0 (words M n y) (λ i h. s .at i (rw (length-words M n y) at h) ∙ ap (word E d u) (omega arith))))
+
+-- ROOM in the state beyond what the generators reach changes no write
+pub room-same : (E : Encoder) (m : ℕ) → InMemory E → InMemory (withMemory m E)
+    → (d : ℕ → Bits) (S : Steps) (M : Meaning) (choose : Choice) → Chooses S M (suc (length (E .others))) choose → (n : ℕ) (old : List Cell) → Full (M .cells) n old
+    → write (withMemory m E) d choose (M .cells) n old ≡ write E d choose (M .cells) n old
+room-same E m H K d S M choose C n old p =
+    let same : Solves (Rewrite S M E d n old) (write (withMemory m E) d choose (M .cells) n old) =
+    solves-iff (λ c y. (λ w. record { raised = w .raised; reads = record { each = w .reads .each } }, λ w. record { raised = w .raised; reads = record { each = w .reads .each } })) (write-solves (withMemory m E) K d S M choose C n old p) in
+    solves-unique same (write-solves E H d S M choose C n old p)

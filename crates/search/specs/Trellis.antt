@@ -10,7 +10,7 @@ use mathlib.Core.List.{List, [], _∷_, _++_}
 use Prim.Native.Nat.{ℕ, suc, _+_}
 use mathlib.Core.Option.{Option, none, some}
 use lib.Dec.{ltb, eqb}
-use Rattle.trellis.specs.Best.{Problem, Solution, Product, Empty, Either}
+use Rattle.search.specs.Best.{Problem, Solution, Product, Empty, Either}
 
 -- x comes before y, or is y and r holds
 unfoldable pub before : ℕ → ℕ → Bool → Bool

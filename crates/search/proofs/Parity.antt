@@ -1,9 +1,9 @@
 -- One bit a cell: keeping a cell or raising it by one is strictly the cheapest way to show a bit, as every step costs something; so the stage's
 -- choice finds the stage's strictly cheapest levels, or there are none.
-use mathlib.Core.Path.{_≡_, refl, sym, _∙_, ap, ap₂}
+use mathlib.Core.Path.{_≡_, refl, sym, _∙_, ap, ap₂, fun-ext}
 use mathlib.Core.Bool.{Bool, true, false, cond, not, Bool·beq, true≢false, false≢true}
 use mathlib.Core.List.{List, [], _∷_, _++_, map}
-use mathlib.Core.Option.{none, some}
+use mathlib.Core.Option.{none, some, Option·some-injective}
 use mathlib.Core.Logic.{_⊎_, inl, inr}
 use Prim.Native.Nat.{ℕ, zero, suc, _<_, _≤_, _+_}
 use native.Mathlib.Omega.{arith}
@@ -13,12 +13,14 @@ use borrow.Author.Tests.{ltb-true, ltb-false}
 use Rattle.cells.specs.Climbs.{climb, house, weightOf}
 use Rattle.cells.proofs.Climbs.{climb-stay, climb-step, climb-rises}
 use Rattle.codes.specs.Sequences.{odd}
-use Rattle.trellis.specs.Best.{Settles, closed, sole, Product, Empty, empty}
-use Rattle.trellis.specs.Strip.{Steps, Dear, Cell, Raised, still, rise, Group, stepsOf}
-use Rattle.trellis.specs.Search.{Chooses, Leads}
-use Rattle.trellis.specs.Parity.{parity, One, keep-or-raise, parity-choice}
-use Rattle.trellis.proofs.Best.{settles-solves, settles-product, settles-empty, settles-iff}
-use Rattle.trellis.proofs.Raising.{raised-length}
+use Rattle.search.specs.Best.{Solution, Settles, closed, sole, Product, Empty, empty}
+use Rattle.search.specs.Strip.{Steps, Dear, Cell, Raised, still, rise, Group, stepsOf}
+use Rattle.search.specs.Choices.{choiceOf}
+use Rattle.search.specs.Plan.{Decides, second-lower, first-lower}
+use Rattle.search.specs.Parity.{parity, One, keep-or-raise, parity-choice}
+use Rattle.search.proofs.Best.{settles-solves, settles-product, settles-empty, settles-iff, solves-unique, some-none}
+use Rattle.search.proofs.Choices.{choice-solves}
+use Rattle.search.proofs.Strip.{raised-length}
 
 -- bits
 pub beq-true : (a b : Bool) → Bool·beq a b ≡ true → a ≡ b
@@ -129,13 +131,9 @@ module _ (S : Steps) (D : Dear S) (n : ℕ) where
       settles-iff (λ c y. (together S n x xs b w c y, λ g. split S n x xs b w (g .raised) (g .word)))
       (settles-product (keep-or-raise-law S D x b) (parity-settles xs w))
 
-  -- so the choice is one for the search
-  pub parity-chooses : Chooses S (parity n) n (parity-choice S)
-  parity-chooses = record { sized = λ y e. length-map y odd ∙ e; solves = λ xs w e f. settles-solves (parity-settles xs w) }
-
--- the first bit is the first cell's
-pub parity-leads : (n : ℕ) → 0 < n → Leads (parity n)
-parity-leads n h = record { lead = odd; some-cell = h; leads = λ v y. refl }
+  -- so it is the choice of the search
+  pub parity-chosen : choiceOf S (parity n) ≡ parity-choice S
+  parity-chosen = fun-ext λ xs. fun-ext λ w. solves-unique (choice-solves S (parity n) xs w) (settles-solves (parity-settles xs w))
 
 -- 16, 20 and 28 are more than nothing
 pub house-dear : Dear (stepsOf house)
@@ -147,3 +145,37 @@ house-dear = record { dear = go }
     go (suc zero) h = omega arith
     go (suc (suc zero)) h = omega arith
     go (suc (suc (suc l))) h = omega arith
+
+-- THE LEVEL of a cell that shows the bit b: its own, or one higher
+unfoldable pub held : Cell → Bool → ℕ
+held x b = cond (Bool·beq (odd (x .level)) b) (x .level) (suc (x .level))
+
+module _ (S : Steps) where
+  pub keep-held : (x : Cell) (b : Bool) (a : Solution) → keep-or-raise S x b ≡ some a → a .levels ≡ held x b ∷ []
+  unfolding keep-or-raise held
+  keep-held x b a = go (ltb (S .top) (x .level)) (Bool·beq (odd (x .level)) b) (x .mark) (ltb (x .level) (S .top))
+    where
+      go : (p q k r : Bool) → cond p none (cond q (some (record { cost = 0; levels = x .level ∷ [] })) (cond k none (cond r (some (record { cost = S .weight (x .level); levels = suc (x .level) ∷ [] })) none))) ≡ some a
+          → a .levels ≡ cond q (x .level) (suc (x .level)) ∷ []
+      go true q k r e = absurd (some-none a (sym e))
+      go false true k r e = ap (λ (z : Solution). z .levels) (sym (Option·some-injective _ _ e))
+      go false false true r e = absurd (some-none a (sym e))
+      go false false false true e = ap (λ (z : Solution). z .levels) (sym (Option·some-injective _ _ e))
+      go false false false false e = absurd (some-none a (sym e))
+
+-- of the two bits, the one that the cell shows holds the lower level
+pub held-lower : (x : Cell) (b : Bool) {xs ys : List ℕ} → Decides (Bool·beq (odd (x .level)) (not b)) (held x b ∷ xs) (held x (not b) ∷ ys)
+unfolding held
+held-lower x b {xs} {ys} = go (odd (x .level)) b
+  where
+    v : ℕ
+    v = x .level
+
+    up : v < suc v
+    up = omega arith
+
+    go : (o b : Bool) → Decides (Bool·beq o (not b)) (cond (Bool·beq o b) v (suc v) ∷ xs) (cond (Bool·beq o (not b)) v (suc v) ∷ ys)
+    go true true = first-lower up
+    go true false = second-lower up
+    go false true = second-lower up
+    go false false = first-lower up

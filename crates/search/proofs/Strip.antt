@@ -7,9 +7,9 @@ use native.Mathlib.Omega.{arith}
 use native.Mathlib.Nat.{not-suc-le-zero}
 use lib.ListN.{length, getD, take, drop, length-drop, length-map}
 use lib.Seq.{length-take-le}
-use Rattle.trellis.specs.Best.{Width}
+use Rattle.search.specs.Best.{Width}
 use Rattle.cells.specs.Climbs.{climb}
-use Rattle.trellis.specs.Strip.{Steps, Cell, Raised, still, rise, groups, Full, done, more, Meaning, words, Group}
+use Rattle.search.specs.Strip.{Steps, Cell, Raised, still, rise, groups, Full, done, more, Meaning, words, Group}
 use Rattle.codes.specs.Coset.{BitsEach}
 
 module _ {S : Steps} where

@@ -10,10 +10,10 @@ use Prim.Native.Nat.{ℕ, zero, suc}
 use lib.ListN.{replicate}
 use Rattle.codes.specs.Sequences.{Bits}
 use Rattle.codes.specs.Encoders.{Encoder}
-use Rattle.trellis.specs.Best.{Solution}
-use Rattle.trellis.specs.Trellis.{better, joined, free}
-use Rattle.trellis.specs.Strip.{Cell}
-use Rattle.trellis.specs.Search.{Choice, branch, next, stages}
+use Rattle.search.specs.Best.{Solution}
+use Rattle.search.specs.Trellis.{better, joined, free}
+use Rattle.search.specs.Strip.{Cell}
+use Rattle.search.specs.Search.{Choice, branch, next, stages}
 
 -- a value for each list of m bits
 pub data Tree (A : Type 0) : Type 0 where

@@ -9,11 +9,11 @@ use lib.ListN.{length, replicate, length-replicate, length-take}
 use Rattle.codes.specs.Sequences.{Bits}
 use Rattle.codes.specs.Registers.{push}
 use Rattle.codes.specs.Encoders.{Encoder}
-use Rattle.trellis.specs.Best.{Solution}
-use Rattle.trellis.specs.Trellis.{better, joined, free, best}
-use Rattle.trellis.specs.Strip.{Cell}
-use Rattle.trellis.specs.Search.{Stage, Choice, branch, next, stages, write}
-use Rattle.trellis.specs.Table.{grow, look, step, table, write-table}
+use Rattle.search.specs.Best.{Solution}
+use Rattle.search.specs.Trellis.{better, joined, free, best}
+use Rattle.search.specs.Strip.{Cell}
+use Rattle.search.specs.Search.{Stage, Choice, branch, next, stages, write}
+use Rattle.search.specs.Table.{grow, look, step, table, write-table}
 
 -- looking up what was grown
 look-grow : {A : Type 0} (z : A) (m : ℕ) (f : List Bool → A) (s : List Bool) → length s ≡ m → look z (grow m f) s ≡ f s

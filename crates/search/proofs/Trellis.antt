@@ -6,9 +6,9 @@ use mathlib.Core.Option.{Option, none, some}
 use Prim.Native.Nat.{ℕ, suc, _+_}
 use lib.ListN.{length}
 use Rattle.cells.specs.Places.{Each, no-more, and-each}
-use Rattle.trellis.specs.Best.{Problem, Solution, Solves, nothing, just, Width, All, FirstClosed, here, later}
-use Rattle.trellis.specs.Trellis.{joined, free, best, Valid, all, first-none, total}
-use Rattle.trellis.proofs.Best.{solves-empty, solves-either, solves-product, width-empty, width-either, width-product, some-none}
+use Rattle.search.specs.Best.{Problem, Solution, Solves, nothing, just, Width, All, FirstClosed, here, later}
+use Rattle.search.specs.Trellis.{joined, free, best, Valid, all, first-none, total}
+use Rattle.search.proofs.Best.{solves-empty, solves-either, solves-product, width-empty, width-either, width-product, some-none}
 
 -- THE TRELLIS: best solves it
 module _ {G S : Type 0} (branch : G → S → Bool → Option Solution) (next : G → S → Bool → S) (admit : G → S → Bool → Problem) (width : G → ℕ)

@@ -2,7 +2,7 @@
 use mathlib.Core.Path.{_≡_, refl, sym, _∙_, ap, ap₂, subst}
 use mathlib.Core.Bool.{Bool, true, false, cond, _&&_, _||_, true≢false, false≢true}
 use mathlib.Core.List.{List, [], _∷_, _++_}
-use mathlib.Core.Option.{Option, none, some}
+use mathlib.Core.Option.{Option, none, some, Option·some-injective}
 use Prim.Native.Nat.{ℕ, zero, suc, _<_, _≤_, _+_}
 use native.Mathlib.Omega.{arith}
 use native.Mathlib.Nat.{lt-trans, lt-irrefl, not-suc-le-zero}
@@ -10,8 +10,8 @@ use mathlib.Core.Logic.{_⊎_, inl, inr, ⊎-elim, _↔_}
 use lib.Dec.{ltb, eqb}
 use lib.ListN.{length, getD, length-append}
 use borrow.Author.Tests.{ltb-true, ltb-false, eqb-true, eqb-false}
-use Rattle.trellis.specs.Best.{LexLe, done, lower, same, NoWorse, cheaper, tied, Problem, Solution, Best, Solves, nothing, just, Settles, closed, sole, Product, Width, Empty, empty, Either, digit, LexLower}
-use Rattle.trellis.specs.Trellis.{before, lexltb, beats, better, joined, free}
+use Rattle.search.specs.Best.{LexLe, done, lower, same, NoWorse, cheaper, tied, Problem, Solution, Best, Solves, nothing, just, Settles, closed, sole, Product, Width, Empty, empty, Either, digit, LexLower}
+use Rattle.search.specs.Trellis.{before, lexltb, beats, better, joined, free}
 
 -- the order
 pub lex-refl : (x : List ℕ) → LexLe x x
@@ -288,3 +288,25 @@ best-unique {A} {a} {b} p q = go (p .least _ _ (q .valid)) (q .least _ _ (p .val
 pub solves-iff : {A B : Problem} {r : Option Solution} → ((d : ℕ) (y : List ℕ) → A d y ↔ B d y) → Solves A r → Solves B r
 solves-iff f (nothing p) = nothing (λ d y w. p d y (f d y .1 w))
 solves-iff f (just p) = just (record { valid = f _ _ .0 (p .valid); least = λ d y w. p .least d y (f d y .1 w) })
+
+-- a problem has one solution
+pub solves-unique : {A : Problem} {r s : Option Solution} → Solves A r → Solves A s → r ≡ s
+solves-unique (nothing p) (nothing q) = refl
+solves-unique (nothing p) (just q) = absurd (p _ _ (q .valid))
+solves-unique (just p) (nothing q) = absurd (q _ _ (p .valid))
+solves-unique (just p) (just q) = ap some (best-unique p q)
+
+-- what a solution made of two, one after the other, is made of
+pub record Joined (r q : Option Solution) (a : Solution) : Type 0 where
+  pub first : Solution
+  pub second : Solution
+  pub left : r ≡ some first
+  pub right : q ≡ some second
+  pub append : a .levels ≡ first .levels ++ second .levels
+
+-- where two one after the other are open, both are
+pub joined-both : (r q : Option Solution) (a : Solution) → joined r q ≡ some a → Joined r q a
+unfolding joined
+joined-both none q a e = absurd (some-none a (sym e))
+joined-both (some b) none a e = absurd (some-none a (sym e))
+joined-both (some b) (some c) a e = record { first = b; second = c; left = refl; right = refl; append = ap (λ (z : Solution). z .levels) (sym (Option·some-injective _ _ e)) }

@@ -1,35 +1,26 @@
--- The bits that a window of the last digits gives, on numbers: a number's bit, the word of a window, and the two bits of the two newest digits.
+-- The bits that a window of the last digits gives, on numbers.
+--   firstOf, secondOf        the bit of a window by the first generator, and by the second
+--   parity-flip              the two newest digits give two bits
+--   word-first, word-second  the bits of a window's word
+--   word-flip                the words of the two newest digits have no bit in common
 use mathlib.Core.Path.{_≡_, refl, sym, _∙_, ap, ap₂}
 use mathlib.Core.Bool.{Bool, true, false, not}
-use Prim.Native.Nat.{ℕ, suc, _<_, _+_, _*_, _/_, _%_, _^_}
+use Prim.Native.Nat.{ℕ, suc, _<_, _+_, _*_, _-_, _/_, _%_, _^_}
 use native.Mathlib.Omega.{arith}
 use native.Mathlib.Nat.{mod-lt, zero-lt-suc}
 use Rattle.cells.specs.Places.{sumOf}
 use Rattle.cells.proofs.Places.{sumOf-same, half-power}
-use Rattle.codes.specs.Generators.{Generators, digit}
+use Rattle.codes.specs.Generators.{Generators, g2, digit}
 use Rattle.codes.specs.Taps.{tapsOf, parityOf, wordOf}
 use Rattle.codes.specs.Sequences.{odd}
 use Rattle.codes.specs.Numbers.{one-if}
 use Rattle.codes.proofs.Sums.{odd-mod-two}
-use Rattle.codes.proofs.Numbers.{one-if-le, one-if-odd}
+use Rattle.codes.proofs.Numbers.{one-if-le, one-if-odd, odd-one-if}
 use Rattle.codes.proofs.Parities.{parity-digits}
-use Rattle.trellis.specs.Stage.{pick}
 
 -- BITS. A number mod 2 is the number of its bit
 pub mod-odd : (n : ℕ) → n % 2 ≡ one-if (odd n)
 mod-odd n = sym (one-if-odd (n % 2) (mod-lt n (zero-lt-suc 1))) ∙ ap one-if (odd-mod-two n)
-
--- picked by a bit: the value for that bit
-pub pick-bit : (f : ℕ → ℕ) (b : Bool) → pick (one-if b) (f 0) (f 1) ≡ f (one-if b)
-unfolding one-if
-pick-bit f true = refl
-pick-bit f false = refl
-
--- picked from the two the other way round: the value for the other bit
-pub pick-other : (f : ℕ → ℕ) (b : Bool) → pick (one-if b) (f 1) (f 0) ≡ f (one-if (not b))
-unfolding one-if
-pick-other f true = refl
-pick-other f false = refl
 
 -- WINDOWS. The bit of a window of the last digits, by the first generator
 abbrev pub firstOf : Generators → ℕ → Bool
@@ -37,7 +28,7 @@ firstOf G w = odd (parityOf (tapsOf (G .memory) (G .g1)) w)
 
 -- and by the second
 abbrev pub secondOf : Generators → ℕ → Bool
-secondOf G w = odd (parityOf (tapsOf (G .memory) (G .g2)) w)
+secondOf G w = odd (parityOf (tapsOf (G .memory) (g2 G)) w)
 
 -- a parity is the number of its bit
 pub parity-number : (taps w : ℕ) → parityOf taps w ≡ one-if (odd (parityOf taps w))
@@ -74,5 +65,35 @@ pub word-second : (G : Generators) (w : ℕ) → wordOf G w / 2 ≡ one-if (seco
 unfolding wordOf
 word-second G w =
     let p = parity-number (tapsOf (G .memory) (G .g1)) w in
-    let q = parity-number (tapsOf (G .memory) (G .g2)) w in
+    let q = parity-number (tapsOf (G .memory) (g2 G)) w in
     omega (arith, one-if-le (firstOf G w))
+
+-- a word is its two bits
+word-bits : (G : Generators) (w : ℕ) → wordOf G w ≡ one-if (firstOf G w) + 2 * one-if (secondOf G w)
+unfolding wordOf
+word-bits G w =
+    let p = parity-number (tapsOf (G .memory) (G .g1)) w in
+    let q = parity-number (tapsOf (G .memory) (g2 G)) w in
+    omega arith
+
+-- as bits
+pub word-odd : (G : Generators) (w : ℕ) → odd (wordOf G w) ≡ firstOf G w
+word-odd G w = sym (odd-mod-two (wordOf G w)) ∙ ap odd (word-first G w) ∙ odd-one-if (firstOf G w)
+
+pub word-half : (G : Generators) (w : ℕ) → odd (wordOf G w / 2) ≡ secondOf G w
+word-half G w = ap odd (word-second G w) ∙ odd-one-if (secondOf G w)
+
+-- where both generators begin with 1, the word of the newest digit 1 has the other bits than that of the digit 0
+pub word-flip : (G : Generators) (s : ℕ) → digit (G .memory) (G .g1) 0 ≡ 1 → digit (G .memory) (g2 G) 0 ≡ 1 → 3 - wordOf G (2 * s) ≡ wordOf G (2 * s + 1)
+unfolding one-if
+word-flip G s e f =
+    let z : 2 * s ≡ 2 * s + 0 = omega arith in
+    ap (λ (w : ℕ). 3 - wordOf G w) z
+    ∙ rw (word-bits G (2 * s + 0), word-bits G (2 * s + 1), parity-flip (G .memory) (G .g1) s e, parity-flip (G .memory) (g2 G) s f)
+    (go (firstOf G (2 * s + 0)) (secondOf G (2 * s + 0)))
+  where
+    go : (a b : Bool) → 3 - (one-if a + 2 * one-if b) ≡ one-if (not a) + 2 * one-if (not b)
+    go true true = refl
+    go true false = refl
+    go false true = refl
+    go false false = refl

@@ -1,21 +1,21 @@
 -- The search over digits that finds the best write of a strip, for any choice of a stage's levels.
 --   Choice, Chooses     the cheapest levels of a stage for a wanted word, and what makes a choice that
---   Leads               two words that differ in the first bit differ in the first cell's level
 --   labels, wanted      the data divided by G_1, and the word that a branch wants
 --   Stage, branch, next a stage of the trellis, its branches and its next states
+--   withMemory m E      the encoder with room for m digits in its states
 --   write               the write of a strip: the best over its stages from state zero
 use mathlib.Core.Path.{_≡_}
 use mathlib.Core.Bool.{Bool, true, false}
 use mathlib.Core.List.{List, [], _∷_}
-use Prim.Native.Nat.{ℕ, zero, suc, _<_}
+use Prim.Native.Nat.{ℕ, zero, suc}
 use lib.ListN.{getD, take, replicate, length, drop}
 use mathlib.Core.Option.{Option}
 use Rattle.codes.specs.Sequences.{_+₂_, Bits}
 use Rattle.codes.specs.Registers.{dot, push, quotient}
 use Rattle.codes.specs.Encoders.{Encoder}
-use Rattle.trellis.specs.Best.{Problem, Solution, Solves}
-use Rattle.trellis.specs.Trellis.{best}
-use Rattle.trellis.specs.Strip.{Steps, Cell, Meaning, Group}
+use Rattle.search.specs.Best.{Problem, Solution, Solves}
+use Rattle.search.specs.Trellis.{best}
+use Rattle.search.specs.Strip.{Steps, Cell, Meaning, Group}
 
 -- the optional cheapest levels of a stage's cells for a wanted word
 abbrev pub Choice : Type 0
@@ -25,12 +25,6 @@ Choice = List Cell → List Bool → Option Solution
 pub record Chooses (S : Steps) (M : Meaning) (n : ℕ) (choose : Choice) : Type 0 where
   pub sized : (y : List ℕ) → length y ≡ M .cells → length (M .means y) ≡ n
   pub solves : (xs : List Cell) (w : List Bool) → length xs ≡ M .cells → length w ≡ n → Solves (Group S M xs w) (choose xs w)
-
--- the first code bit is the first level's, so two digits give the first cell two levels
-pub record Leads (M : Meaning) : Type 0 where
-  pub lead : ℕ → Bool
-  pub some-cell : 0 < M .cells
-  pub leads : (v : ℕ) (y : List ℕ) → getD (M .means (v ∷ y)) 0 false ≡ lead v
 
 -- THE SEARCH. What the data adds to each of r code bits after the first at stage t: the quotients by G_1
 unfoldable pub labels : ℕ → List Bool → ℕ → (ℕ → Bits) → ℕ → List Bool
@@ -72,3 +66,7 @@ stages E d k t (suc n) old = record { adds = labels (E .memory) (E .first) (leng
 -- the write of a strip of n stages of k cells
 unfoldable pub write : Encoder → (ℕ → Bits) → Choice → ℕ → ℕ → List Cell → Option Solution
 write E d choose k n old = best (branch E choose) (next E) (stages E d k 0 n old) (replicate (E .memory) false)
+
+-- an encoder with another memory: room in its states for m digits
+abbrev pub withMemory : ℕ → Encoder → Encoder
+withMemory m E = record { memory = m; first = E .first; others = E .others }

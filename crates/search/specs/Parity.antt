@@ -11,10 +11,10 @@ use mathlib.Core.Option.{Option, none, some}
 use lib.Dec.{ltb}
 use Rattle.cells.specs.Climbs.{climb}
 use Rattle.codes.specs.Sequences.{odd}
-use Rattle.trellis.specs.Best.{Solution}
-use Rattle.trellis.specs.Trellis.{joined, free}
-use Rattle.trellis.specs.Strip.{Steps, Cell, Rise, Meaning}
-use Rattle.trellis.specs.Search.{Choice}
+use Rattle.search.specs.Best.{Solution}
+use Rattle.search.specs.Trellis.{joined, free}
+use Rattle.search.specs.Strip.{Steps, Cell, Rise, Meaning}
+use Rattle.search.specs.Search.{Choice}
 
 -- 'A cell's own bit is its level mod 2': n cells, a bit each
 abbrev pub parity : ℕ → Meaning

@@ -10,8 +10,8 @@ use Rattle.codes.specs.Sequences.{_+₂_, odd}
 use Rattle.codes.specs.Encoders.{Encoder}
 use Rattle.codes.specs.Taps.{parityOf}
 use Rattle.codes.specs.Numbers.{one-if, value}
-use Rattle.trellis.specs.Best.{Solution}
-use Rattle.trellis.specs.Search.{Stage, Choice}
+use Rattle.search.specs.Best.{Solution}
+use Rattle.search.specs.Search.{Stage, Choice}
 
 -- the code bits after the first by the window w of the last digits, and the labels xs
 unfoldable pub sumsN : ℕ → List (List Bool) → List Bool → List Bool

@@ -12,10 +12,10 @@ use Rattle.cells.specs.Climbs.{climb}
 use Rattle.cells.proofs.Places.{length-listOf, listOf-at}
 use Rattle.codes.specs.Sequences.{odd}
 use Rattle.codes.specs.Coset.{bit}
-use Rattle.trellis.specs.Strip.{Steps, Cell, cellsOf, Rise, Raised, still, rise, groups, Meaning, words}
-use Rattle.trellis.specs.Demand.{cellAt, levelAt, pays}
-use Rattle.trellis.specs.Parity.{parity}
-use Rattle.trellis.proofs.Raising.{length-groups}
+use Rattle.search.specs.Strip.{Steps, Cell, cellsOf, Rise, Raised, still, rise, groups, Meaning, words}
+use Rattle.search.specs.Levels.{cellAt, levelAt, pays}
+use Rattle.search.specs.Parity.{parity}
+use Rattle.search.proofs.Strip.{length-groups}
 
 -- the cells of a list are those it was made of
 pub length-cells : (n : ℕ) (level : ℕ → ℕ) (mark : ℕ → Bool) → length (cellsOf n level mark) ≡ n
@@ -67,10 +67,3 @@ getD-map f (x ∷ l) (suc j) d e h = getD-map f l j d e (omega arith)
 pub words-at : (M : Meaning) (n : ℕ) (y : List ℕ) (t : ℕ) → t < n → getD (words M n y) t [] ≡ M .means (take (M .cells) (drop (t * M .cells) y))
 unfolding words
 words-at M n y t h = getD-map (M .means) (groups (M .cells) n y) t [] [] (omega (arith, length-groups (M .cells) n y)) ∙ ap (M .means) (groups-at (M .cells) n y t h)
-
--- one bit a cell: bit j of stage t is the parity of the level of cell t·k + j
-pub parity-at : (k n : ℕ) (y : List ℕ) (t j : ℕ) → t < n → j < k → bit j (words (parity k) n y) t ≡ odd (levelAt y (t * k + j))
-unfolding bit odd levelAt
-parity-at k n y t j h i =
-    ap (λ (w : List Bool). getD w j false) (words-at (parity k) n y t h) ∙ List·getD-map odd (take k (drop (t * k) y)) j 0
-    ∙ ap odd (getD-take k (drop (t * k) y) j 0 i ∙ getD-drop (t * k) y j 0)
