@@ -1,6 +1,7 @@
 -- Lists, sums and numbers, place by place: their lengths, their places, and that they depend on their places alone.
 use mathlib.Core.Path.{_≡_, refl, sym, _∙_, ap, ap₂}
-use mathlib.Core.List.{List, _∷_, _++_}
+use mathlib.Core.List.{List, _∷_}
+use mathlib.Core.Logic.{_⊎_, inl, inr, ⊎-elim}
 use Prim.Native.Nat.{ℕ, zero, suc, _<_, _≤_, _+_, _*_, _/_, _%_, _^_}
 use native.Mathlib.Omega.{arith}
 use native.Mathlib.Nat.{not-suc-le-zero, div-div-eq-div-mul, mul-assoc, mul-comm, pow-suc}
@@ -33,16 +34,6 @@ module _ {A : Type 0} where
   -- a list is the list of its places
   pub listOf-getD : (n : ℕ) (l : List A) (d : A) → length l ≡ n → listOf n (λ i. getD l i d) ≡ l
   listOf-getD n l d e = ext-getD d _ l (length-listOf n _ ∙ sym e) (λ i h. listOf-at n _ i d (let k : i < n = rw (length-listOf n (λ i. getD l i d)) at h in k))
-
-  -- n places, and m more
-  pub listOf-append : (n m : ℕ) (f : ℕ → A) → listOf (n + m) f ≡ listOf n f ++ listOf m (λ i. f (n + i))
-  unfolding listOf
-  listOf-append zero m f = let e : 0 + m ≡ m = omega arith in rw e (listOf-same m f _ (λ i h. ap f (omega arith)))
-  listOf-append (suc n) m f =
-      let e : suc n + m ≡ suc (n + m) = omega arith in
-      rw e (ap (λ (l : List A). f 0 ∷ l) (
-      listOf-append n m (λ i. f (suc i)) ∙ ap (λ (l : List A). listOf n (λ i. f (suc i)) ++ l) (listOf-same m _ _ (λ i h. ap f (omega arith)))
-      ))
 
 -- the same places, the same sum
 pub sumOf-same : (n : ℕ) (f g : ℕ → ℕ) → ((i : ℕ) → i < n → f i ≡ g i) → sumOf n f ≡ sumOf n g
@@ -81,7 +72,7 @@ sumOf-add zero f g = refl
 sumOf-add (suc n) f g = omega (arith, sumOf-add n (λ i. f (suc i)) (λ i. g (suc i)))
 
 -- a sum of n places, and of m more
-pub sumOf-append : (n m : ℕ) (f : ℕ → ℕ) → sumOf (n + m) f ≡ sumOf n f + sumOf m (λ i. f (n + i))
+sumOf-append : (n m : ℕ) (f : ℕ → ℕ) → sumOf (n + m) f ≡ sumOf n f + sumOf m (λ i. f (n + i))
 unfolding sumOf
 sumOf-append zero m f = let e : 0 + m ≡ m = omega arith in rw e (omega (arith, sumOf-same m f (λ i. f (0 + i)) (λ i h. ap f (omega arith))))
 sumOf-append (suc n) m f =
@@ -150,3 +141,10 @@ half-power x j = let e : 2 ^ suc j ≡ 2 * 2 ^ j = omega arith in ap (λ (d : �
 pub store-more : (r : List ℕ) (n x : ℕ) (f : ℕ → ℕ) → n < length r → x ≡ f n → ((k : ℕ) → k < n → getD r k 0 ≡ f k) → (k : ℕ) → k < n + 1 → getD (set r n x) k 0 ≡ f k
 store-more r n x f h e p =
     below-more (λ (k : ℕ). getD (set r n x) k 0 ≡ f k) n (λ k l. getD-set-other r n k x 0 (λ z. omega arith) ∙ p k l) (getD-set-same r n x 0 h ∙ e)
+
+-- NUMBERS. Two are the same, or not
+pub same? : (a b : ℕ) → (a ≡ b) ⊎ (a ≡ b → ⊥)
+same? zero zero = inl refl
+same? zero (suc b) = inr (λ e. omega arith)
+same? (suc a) zero = inr (λ e. omega arith)
+same? (suc a) (suc b) = ⊎-elim (λ e. inl (ap suc e)) (λ n. inr (λ e. n (omega arith))) (same? a b)
