@@ -39,7 +39,8 @@ number-bit (suc n) f b zero h =
 number-bit (suc n) f b (suc j) h =
     let k : f 0 < 2 = b 0 (omega arith) in
     let e : (f 0 + 2 * number n (λ i. f (suc i))) / 2 ≡ number n (λ i. f (suc i)) = omega arith in
-    ap (λ (x : ℕ). x % 2) (half-power _ j ∙ ap (λ (x : ℕ). x / 2 ^ j) e) ∙ number-bit n (λ i. f (suc i)) (λ i h. b (suc i) (omega arith)) j (omega arith)
+    ap (λ (x : ℕ). x % 2) (half-power _ j ∙ ap (λ (x : ℕ). x / 2 ^ j) e)
+    ∙ number-bit n (λ i. f (suc i)) (λ i h. b (suc i) (omega arith)) j (omega arith)
 
 -- a number below 2 ^ n is the number of its n bits
 number-bits : (n x : ℕ) → x < 2 ^ n → number n (λ j. (x / 2 ^ j) % 2) ≡ x
@@ -49,7 +50,8 @@ number-bits (suc n) x h =
     let p : 2 ^ suc n ≡ 2 * 2 ^ n = omega arith in
     let q : x / 2 < 2 ^ n = omega arith in
     let r : x / 1 ≡ x = omega arith in
-    let e : number n (λ j. (x / 2 ^ suc j) % 2) ≡ x / 2 = number-same n _ _ (λ j k. ap (λ (y : ℕ). y % 2) (half-power x j)) ∙ number-bits n (x / 2) q in
+    let s = number-same n _ _ (λ j k. ap (λ (y : ℕ). y % 2) (half-power x j)) in
+    let e : number n (λ j. (x / 2 ^ suc j) % 2) ≡ x / 2 = s ∙ number-bits n (x / 2) q in
     omega arith
 
 -- a statement of each number below 8 holds of a number below 8
@@ -75,7 +77,9 @@ unfolding bitOf bytesOf
 bytesOf-bit n f b k h =
     let q : k / 8 < n = omega arith in
     let e : 8 * (k / 8) + k % 8 ≡ k = omega arith in
-    ap (λ (x : ℕ). (x / 2 ^ (k % 8)) % 2) (listOf-at n _ (k / 8) 0 q) ∙ number-bit 8 _ (λ i l. b (8 * (k / 8) + i)) (k % 8) (omega arith) ∙ ap f e
+    ap (λ (x : ℕ). (x / 2 ^ (k % 8)) % 2) (listOf-at n _ (k / 8) 0 q)
+    ∙ number-bit 8 _ (λ i l. b (8 * (k / 8) + i)) (k % 8) (omega arith)
+    ∙ ap f e
 
 -- the bytes of some bits are bytes
 pub octets-bytesOf : (n : ℕ) (f : ℕ → ℕ) → ((i : ℕ) → f i < 2) → Octets (bytesOf n f)
@@ -95,7 +99,10 @@ bytesOf-same n f g e = listOf-same n _ _ (λ q h. number-same 8 _ _ (λ i l. e (
 byte-bits : (bytes : List ℕ) (q : ℕ) → getD bytes q 0 < 256 → number 8 (λ i. bitOf bytes (8 * q + i)) ≡ getD bytes q 0
 unfolding bitOf
 byte-bits bytes q b =
-    number-same 8 _ (λ i. (getD bytes q 0 / 2 ^ i) % 2) (λ i l. let x : (8 * q + i) / 8 ≡ q = omega arith in let y : (8 * q + i) % 8 ≡ i = omega arith in rw (x, y))
+    number-same 8 _ (λ i. (getD bytes q 0 / 2 ^ i) % 2) (λ i l.
+    let x : (8 * q + i) / 8 ≡ q = omega arith in
+    let y : (8 * q + i) % 8 ≡ i = omega arith in
+    rw (x, y))
     ∙ number-bits 8 (getD bytes q 0) b
 
 -- n bytes are the bytes of their bits
@@ -111,7 +118,9 @@ two-bytes f = omega arith
 -- the bits of two bytes that follow each other, as one number
 pub word-bit : (bytes : List ℕ) (q : ℕ) → getD bytes q 0 < 256 → getD bytes (q + 1) 0 < 256
     → (p : ℕ) → p < 16 → ((getD bytes q 0 + getD bytes (q + 1) 0 * 256) / 2 ^ p) % 2 ≡ bitOf bytes (8 * q + p)
-word-bit bytes q l h p r = ap (λ (w : ℕ). (w / 2 ^ p) % 2) (sym word) ∙ number-bit 16 (λ i. bitOf bytes (8 * q + i)) (λ i k. bit-bound bytes (8 * q + i)) p r
+word-bit bytes q l h p r =
+    ap (λ (w : ℕ). (w / 2 ^ p) % 2) (sym word)
+    ∙ number-bit 16 (λ i. bitOf bytes (8 * q + i)) (λ i k. bit-bound bytes (8 * q + i)) p r
   where
     high : number 8 (λ i. bitOf bytes (8 * q + (8 + i))) ≡ getD bytes (q + 1) 0
     high = number-same 8 _ _ (λ i k. ap (bitOf bytes) (omega arith)) ∙ byte-bits bytes (q + 1) h
@@ -150,14 +159,19 @@ digit-above x p e h =
 digit-other : (x p q : ℕ) → (x / 2 ^ p) % 2 ≡ 0 → (q ≡ p → ⊥) → ((x + 2 ^ p) / 2 ^ q) % 2 ≡ (x / 2 ^ q) % 2
 digit-other x p q h n =
     ne-cases q p (((x + 2 ^ p) / 2 ^ q) % 2 ≡ (x / 2 ^ q) % 2) n
-    (λ l. let e : p - q - 1 + 1 + q ≡ p = omega arith in subst (λ (r : ℕ). ((x + 2 ^ r) / 2 ^ q) % 2 ≡ (x / 2 ^ q) % 2) e (digit-below x q (p - q - 1)))
-    (λ l. let e : p + 1 + (q - p - 1) ≡ q = omega arith in subst (λ (r : ℕ). ((x + 2 ^ p) / 2 ^ r) % 2 ≡ (x / 2 ^ r) % 2) e (digit-above x p (q - p - 1) h))
+    (λ l.
+    let e : p - q - 1 + 1 + q ≡ p = omega arith in
+    subst (λ (r : ℕ). ((x + 2 ^ r) / 2 ^ q) % 2 ≡ (x / 2 ^ q) % 2) e (digit-below x q (p - q - 1)))
+    (λ l.
+    let e : p + 1 + (q - p - 1) ≡ q = omega arith in
+    subst (λ (r : ℕ). ((x + 2 ^ p) / 2 ^ r) % 2 ≡ (x / 2 ^ r) % 2) e (digit-above x p (q - p - 1) h))
 
 -- a byte in which a digit that is 0 is set is still a byte
 pub byte-fits : (x p : ℕ) → p < 8 → x < 256 → (x / 2 ^ p) % 2 ≡ 0 → x + 2 ^ p < 256
 byte-fits x p l b h =
     cases8 (λ (p : ℕ). (x / 2 ^ p) % 2 ≡ 0 → x + 2 ^ p < 256)
-    (λ h. omega arith) (λ h. omega arith) (λ h. omega arith) (λ h. omega arith) (λ h. omega arith) (λ h. omega arith) (λ h. omega arith) (λ h. omega arith)
+    (λ h. omega arith) (λ h. omega arith) (λ h. omega arith) (λ h. omega arith)
+    (λ h. omega arith) (λ h. omega arith) (λ h. omega arith) (λ h. omega arith)
     p l h
 
 -- as many bytes as before

@@ -11,11 +11,11 @@
 --   withBit-raises       to set the first zero of a cell, which is there (zeroFrom-unset), is to raise the cell
 use mathlib.Core.Path.{_≡_, refl, sym, _∙_, ap, ap₂}
 use mathlib.Core.Logic.{⊎-elim}
-use mathlib.Core.Bool.{Bool, true, false, cond, _&&_, and-false}
+use mathlib.Core.Bool.{Bool, true, false, _&&_, and-false}
 use mathlib.Core.List.{List, [], _∷_}
 use Prim.Native.Nat.{ℕ, zero, suc, _<_, _≤_, _+_, _*_, _-_, _/_, _%_}
 use native.Mathlib.Omega.{arith}
-use lib.Dec.{eqb, ltb}
+use lib.Dec.{ltb}
 use lib.ListN.{length, getD, set}
 use lib.Seq.{getD-set-same, getD-set-other}
 use borrow.Author.Tests.{lt-ltb, le-ltb, eq-eqb, ne-eqb}
@@ -145,7 +145,9 @@ module _ (s : ℕ) where
 -- each bit of a page raised is 0 or 1
 raised-small : (start : ℕ → ℕ) (page : List ℕ) (to : ℕ → ℕ) (k : ℕ)
     → getD (raisedTimes (start (k / 3)) (to (k / 3) - level page (k / 3)) (triple page (k / 3))) (k % 3) 0 < 2
-raised-small start page to k = three-bit (raised-three (start (k / 3)) (to (k / 3) - level page (k / 3)) (triple-three page (k / 3))) (k % 3)
+raised-small start page to k =
+    let c = k / 3 in
+    three-bit (raised-three (start c) (to c - level page c) (triple-three page c)) (k % 3)
 
 -- THE PAGE. As long as before
 module _ (start : ℕ → ℕ) (page : List ℕ) (to : ℕ → ℕ) where
@@ -173,13 +175,12 @@ module _ (start : ℕ → ℕ) (page : List ℕ) (to : ℕ → ℕ) where
   unfolding level triple ones
   raisedTo-level c h l m =
       let z : 3 * c + 0 ≡ 3 * c = omega arith in
-      let n = to c - level page c in
-      let e : ones (raisedTimes (start c) n (triple page c)) ≡ ones (triple page c) + n = raised-ones (start c) n (triple-three page c) (omega arith) in
+      let e = raised-ones (start c) (to c - level page c) (triple-three page c) (omega arith) in
       let b = ap (bitOf (raisedTo start page to)) (sym z) ∙ raisedTo-bit c 0 (omega arith) (omega arith) in
       omega (arith, b, raisedTo-bit c 1 (omega arith) (omega arith), raisedTo-bit c 2 (omega arith) h)
 
   -- a cell that isn't raised keeps its bits
-  pub raisedTo-keeps : (c i : ℕ) → i < 3 → 3 * c + i < 8 * length page → to c ≤ level page c
+  raisedTo-keeps : (c i : ℕ) → i < 3 → 3 * c + i < 8 * length page → to c ≤ level page c
       → bitOf (raisedTo start page to) (3 * c + i) ≡ bitOf page (3 * c + i)
   unfolding raisedTimes
   raisedTo-keeps c i h k l =
@@ -208,7 +209,8 @@ raisedTo-start start start′ page to e =
 
 module _ (start : ℕ → ℕ) (page : List ℕ) where
   -- and on the levels to reach of its own cells alone
-  pub raisedTo-same : (to to′ : ℕ → ℕ) → ((c : ℕ) → 3 * c < 8 * length page → to c ≡ to′ c) → raisedTo start page to ≡ raisedTo start page to′
+  pub raisedTo-same : (to to′ : ℕ → ℕ) → ((c : ℕ) → 3 * c < 8 * length page → to c ≡ to′ c)
+      → raisedTo start page to ≡ raisedTo start page to′
   unfolding raisedTo
   raisedTo-same to to′ e =
       bytesOf-same (length page) _ _ (λ k h.
@@ -290,7 +292,8 @@ module _ (start : ℕ → ℕ) (page : List ℕ) (to : ℕ → ℕ) (c : ℕ) (i
         let d : to′ c - level page c ≡ 1 = omega arith in
         sym (raisedCell-only start q c (raisedTo start page to′) (raisedTo-length start page to′ ∙ sym l) (raisedTo-octets start page to′)
         (λ i h k. raisedTo-bit start page to′ c i h (omega arith) ∙ rw (d, triple-still))
-        (λ e i n h k. raisedTo-bit start page to′ e i h (omega arith) ∙ rw (others e n) (sym (raisedTo-bit start page to e i h (omega arith)))))
+        (λ e i n h k.
+        raisedTo-bit start page to′ e i h (omega arith) ∙ rw (others e n) (sym (raisedTo-bit start page to e i h (omega arith)))))
 
     -- a full cell stays as it is, also where to′ is one higher there
     pub raisedTo-full : level page c ≡ 3 → to′ c ≡ suc (level page c) → raisedTo start page to ≡ raisedTo start page to′

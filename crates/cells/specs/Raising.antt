@@ -17,8 +17,8 @@ use lib.ListN.{getD, length, set}
 use Rattle.cells.specs.Bytes.{bitOf, bytesOf}
 use Rattle.cells.specs.Levels.{level}
 
--- 'A cell raised by one turns its lowest-numbered zero bit into a one': every cell's raises look for a zero from bit 0 on. Request K7 makes it
--- the cell's number mod 3, here and in the function `raise`.
+-- 'A cell raised by one turns its lowest-numbered zero bit into a one': the raises of every cell look for a zero from bit 0 on. Request K7
+-- makes it the cell's number mod 3, here and in the function `raise`.
 unfoldable pub startOf : ℕ → ℕ
 startOf c = 0
 

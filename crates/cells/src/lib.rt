@@ -77,8 +77,8 @@ fn zero_from(bytes: &[u8], cell: u32, start: usize) -> usize
     k + (start + 2) % 3
 }
 
-// Raises a cell by one: its first zero bit from `startOf cell` on, which is bit 0, becomes one. A cell at level 3, or one that does not lie in
-// the slice whole, is not raised, and nothing changes. The answer is whether it was raised.
+// Raises a cell by one: its lowest-numbered zero bit becomes one, the first zero from bit 0 (`startOf`) on. A cell at level 3, or one that
+// does not lie in the slice whole, is not raised, and nothing changes. The answer is whether it was raised.
 pub fn raise(bytes: &mut [u8], cell: u32) -> bool
     ensures { λ r. ⌜ r ≡ canRise (now (bytes .entry)) cell ⌝ }
     ensures { λ r. ⌜ now (bytes .exit) ≡ cond r (raisedCell startOf (now (bytes .entry)) cell) (now (bytes .entry)) ⌝ }

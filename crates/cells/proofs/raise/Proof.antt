@@ -1,6 +1,6 @@
--- Each refusal is one half of `canRise` that fails. Otherwise both hold, so the first zero is there, and to set it is to raise the cell. The number
--- that the code passes is `startOf cell`.
-use mathlib.Core.Path.{_≡_, refl, sym, _∙_, ap}
+-- Each refusal is one half of `canRise` that fails. Otherwise both hold, so the first zero is there, and to set it is to raise the cell.
+-- The number that the code passes is `startOf cell`.
+use mathlib.Core.Path.{refl, sym, _∙_, ap}
 use Prim.Native.Nat.{_<_, _+_, _*_}
 use native.Mathlib.Omega.{arith}
 use lib.ListN.{length}
@@ -17,11 +17,11 @@ octets : (c : tie.After-slice-known) → Octets (c .before .args .bytes .now)
 octets c = record { below = λ q h. omega (arith, c .slice-known .given q) }
 
 -- past the first test the cell lies in the slice whole
-inside : (c : tie.Else2) → 3 * c .before .before .before .before .before .args .cell + 2 < 8 * length (c .before .before .before .before .before .args .bytes .now)
+inside : (c : tie.Else2) → let a = c .before .before .before .before .before .args in 3 * a .cell + 2 < 8 * length (a .bytes .now)
 inside c = omega arith
 
 -- past the second it is below level 3
-low : (c : tie.Else2) → level (c .before .before .before .before .before .args .bytes .now) (c .before .before .before .before .before .args .cell) < 3
+low : (c : tie.Else2) → let a = c .before .before .before .before .before .args in level (a .bytes .now) (a .cell) < 3
 low c = omega arith
 
 mul-k : tie.Need-mul-k
@@ -56,9 +56,10 @@ unfolding startOf
 returns-3 c =
     let e = c .before .before .before .before .before .before in
     let z = c .before .before .before .before .zero-from .ensures in
-    let o = octets (e .before .before .before .before) in
-    (sym (canRise-yes _ _ (inside e) (low e)), c .before .before .set-bit .ensures ∙ ap (withBit _) z ∙ withBit-raises startOf _ _ (inside e) (low e) o)
+    let raises = withBit-raises startOf _ _ (inside e) (low e) (octets (e .before .before .before .before)) in
+    (sym (canRise-yes _ _ (inside e) (low e)), c .before .before .set-bit .ensures ∙ ap (withBit _) z ∙ raises)
 
 pub raise-spec : {M : Type 1} → statement M
 raise-spec =
-    tie.close (tie.spec mul-k add-if1 returns level-requires same-length returns-2 zero-from-requires set-bit-requires same-length-2 returns-3)
+    tie.close
+    (tie.spec mul-k add-if1 returns level-requires same-length returns-2 zero-from-requires set-bit-requires same-length-2 returns-3)

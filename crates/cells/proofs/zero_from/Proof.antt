@@ -21,6 +21,10 @@ first c =
     let m : a .start % 3 ≡ a .start = omega arith in
     rw m (triple-bit (a .bytes .now) (a .cell) (a .start) (omega arith) ∙ sym (c .bit .ensures))
 
+-- where it fails, that bit is a one
+not-first : (c : tie.Else1) → let s = c .before .before .before in getD (bits s) (s .args .start % 3) 0 ≡ 0 → ⊥
+not-first c e = c .if1 .left (sym (first (c .before)) ∙ e)
+
 -- what the second test reads
 second : (c : tie.After-bit2) → let s = c .before .before .before .before in getD (bits s) ((s .args .start + 1) % 3) 0 ≡ c .bit2 .result
 second c =
@@ -59,8 +63,7 @@ add-result-2 c = search needs
 returns-2 : tie.Need-returns-2
 returns-2 c =
     let s = c .before .before .before .before .before in
-    let f = c .before .before in
-    omega (arith, zeroFrom-second (s .args .start) (bits s) (λ e. f .if1 .left (sym (first (f .before)) ∙ e)) (second (c .before) ∙ c .if2 .taken))
+    omega (arith, zeroFrom-second (s .args .start) (bits s) (not-first (c .before .before)) (second (c .before) ∙ c .if2 .taken))
 
 add-result-3 : tie.Need-add-result-3
 add-result-3 c = search needs
@@ -71,11 +74,13 @@ add-result-4 c = search needs
 returns-3 : tie.Need-returns-3
 returns-3 c =
     let s = c .before .before .before .before .before in
-    let f = c .before .before in
-    omega (arith, zeroFrom-third (s .args .start) (bits s) (λ e. f .if1 .left (sym (first (f .before)) ∙ e)) (λ e. c .if2 .left (sym (second (c .before)) ∙ e)))
+    let n = not-first (c .before .before) in
+    omega (arith, zeroFrom-third (s .args .start) (bits s) n (λ e. c .if2 .left (sym (second (c .before)) ∙ e)))
 
 pub zero-from-spec : {M : Type 1} → statement M
 zero-from-spec =
     tie.close
     (tie.spec
-    mul-k add-bit bit-requires add-result returns add-next add-bit-2 bit-requires-2 add-result-2 returns-2 add-result-3 add-result-4 returns-3)
+    mul-k add-bit bit-requires add-result returns
+    add-next add-bit-2 bit-requires-2 add-result-2 returns-2
+    add-result-3 add-result-4 returns-3)
