@@ -62,19 +62,20 @@ fn set_bit(bytes: &mut [u8], k: usize)
 }
 
 // The first of a cell's three bits that is 0, from the bit `start` on and going round the three, by its number in the slice.
-fn zero_from(bytes: &[u8], cell: u32, start: usize) -> usize
+fn zero_from(bytes: &[u8], cell: u32, start: u32) -> usize
     requires { ⌜ start < 3 ⌝ }
     ensures { λ r. ⌜ r ≡ 3 * cell + zeroFrom start (triple (now (bytes .entry)) cell) ⌝ }
 {
     let k = 3 * (cell as usize);
-    if bit(bytes, k + start) == 0 {
-        return k + start;
+    let first = start as usize;
+    if bit(bytes, k + first) == 0 {
+        return k + first;
     }
-    let next = (start + 1) % 3;
-    if bit(bytes, k + next) == 0 {
-        return k + next;
+    let second = (first + 1) % 3;
+    if bit(bytes, k + second) == 0 {
+        return k + second;
     }
-    k + (start + 2) % 3
+    k + (first + 2) % 3
 }
 
 // Raises a cell by one: its lowest-numbered zero bit becomes one, the first zero from bit 0 (`startOf`) on. A cell at level 3, or one that

@@ -48,8 +48,8 @@ returns c =
     let s = c .before .before .before in
     omega (arith, zeroFrom-first (s .args .start) (bits s) (first (c .before) ∙ c .if1 .taken))
 
-add-next : tie.Need-add-next
-add-next c = search needs
+add-second : tie.Need-add-second
+add-second c = search needs
 
 add-bit-2 : tie.Need-add-bit-2
 add-bit-2 c = search needs
@@ -82,5 +82,5 @@ zero-from-spec =
     tie.close
     (tie.spec
     mul-k add-bit bit-requires add-result returns
-    add-next add-bit-2 bit-requires-2 add-result-2 returns-2
+    add-second add-bit-2 bit-requires-2 add-result-2 returns-2
     add-result-3 add-result-4 returns-3)
