@@ -3,6 +3,7 @@
 --   could-rewrite, rewrite-could   what could be, in the paper's words, is what the search looks for
 --   strip-solves, strip-width      the write of a strip is the best of what could be, and as wide as the strip has cells
 --   oneBit-parity, oneBit-sound    one bit a cell: a cell's bit is its level's parity
+--   oneBit-write                   and each cell is kept or raised by one, with room in the states for more digits
 use mathlib.Core.Path.{_≡_, refl, sym, _∙_, ap, fun-ext}
 use mathlib.Core.Bool.{Bool, false}
 use mathlib.Core.List.{List, [], _∷_, map}
@@ -12,7 +13,7 @@ use native.Mathlib.Omega.{arith}
 use native.Mathlib.Nat.{mul-comm}
 use lib.ListN.{length, getD, take, drop, length-drop, length-map, List·getD-map}
 use lib.Seq.{getD-take, getD-drop, length-take-le}
-use Rattle.cells.specs.Places.{listOf}
+use Rattle.cells.specs.Places.{listOf, Each, no-more, and-each}
 use Rattle.cells.specs.Levels.{level}
 use Rattle.cells.proofs.Places.{listOf-same, listOf-getD}
 use Rattle.cells.proofs.Parts.{within}
@@ -20,20 +21,22 @@ use Rattle.codes.specs.Generators.{Generators, digit}
 use Rattle.codes.specs.Layouts.{Layout, oneBit, stagesIn, cellsIn}
 use Rattle.codes.specs.Reading.{codeBit, dataBit}
 use Rattle.codes.specs.Sequences.{Agree, odd}
-use Rattle.codes.specs.Encoders.{encoderOf}
+use Rattle.codes.specs.Encoders.{InMemory, encoderOf}
 use Rattle.codes.specs.Coset.{bit, Reads}
 use Rattle.codes.proofs.Sums.{odd-mod-two}
 use Rattle.codes.proofs.Encoders.{encoder-in-memory, reads-sums}
 use Rattle.search.specs.Best.{Solves, Width}
-use Rattle.search.specs.Strip.{Steps, Cell, stepsOf, Meaning, words, Rewrite}
+use Rattle.search.specs.Strip.{Steps, Dear, Cell, stepsOf, Meaning, words, Rewrite}
+use Rattle.search.specs.Search.{Choice, withMemory, write}
 use Rattle.search.specs.Levels.{levelAt, CouldBe, pays}
 use Rattle.search.specs.Choices.{choiceOf}
-use Rattle.search.specs.Parity.{parity}
+use Rattle.search.specs.Parity.{parity, parity-choice}
 use Rattle.search.specs.Layouts.{meaningOf, dataBits, stripCells, rewriteOf, Sound}
 use Rattle.search.proofs.Strip.{raised-length, full-length}
 use Rattle.search.proofs.Levels.{length-cells, raised-rises, rises-raised, words-at}
 use Rattle.search.proofs.Choices.{choice-chooses}
-use Rattle.search.proofs.Search.{write-solves}
+use Rattle.search.proofs.Search.{write-solves, room-same}
+use Rattle.search.proofs.Parity.{parity-chosen}
 
 -- CODE BITS. The cells of stage t of n
 stage-levels : (k n : ℕ) (y : List ℕ) → length y ≡ k * n → (t : ℕ) → t < n → take k (drop (t * k) y) ≡ listOf k (λ i. levelAt y (k * t + i))
@@ -74,6 +77,23 @@ module _ (S : Steps) (lay : Layout) (G : Generators) (Z : Sound lay G) (n : ℕ)
     reads = levels-read y (raised-length (w .raised)) .0 (w .reads);
   }
 
+-- the words of a stage have a bit for each generator
+sized : (lay : Layout) (G : Generators) → Sound lay G → (y : List ℕ) → length y ≡ meaningOf lay .cells → length (meaningOf lay .means y) ≡ suc (length (encoderOf G .others))
+unfolding meaningOf encoderOf
+sized lay G Z y e = length-map (lay .shows y) odd ∙ Z .shown y e ∙ ap suc (sym (length-map (G .others) _ ∙ Z .generators))
+
+-- more memory than a code needs is room enough
+room : (G : Generators) (m : ℕ) → G .memory ≤ m → InMemory (withMemory m (encoderOf G))
+unfolding encoderOf
+room G m h = record { first-fits = omega (arith, encoder-in-memory G .first-fits); others-fit = each-more (encoder-in-memory G .others-fit) }
+  where
+    memory-is : encoderOf G .memory ≡ G .memory
+    memory-is = refl
+
+    each-more : {Gs : List (List Bool)} → Each (λ g. length g ≤ suc (encoderOf G .memory)) Gs → Each (λ g. length g ≤ suc m) Gs
+    each-more no-more = no-more
+    each-more (and-each {g = g} k ks) = let e : encoderOf G .memory ≡ G .memory = memory-is in let l : length g ≤ suc m = omega arith in and-each l (each-more ks)
+
 -- THE STRIP
 module _ (lay : Layout) (L : ℕ) (strip : List ℕ) (marks : ℕ → Bool) where
   -- its cells
@@ -85,14 +105,11 @@ module _ (lay : Layout) (L : ℕ) (strip : List ℕ) (marks : ℕ → Bool) wher
     -- the search solves it
     pub strip-solves : Solves (Rewrite (stepsOf W) (meaningOf lay) (encoderOf G) (dataBits lay content) (stagesIn lay L) (stripCells lay L strip marks))
         (rewriteOf lay G W L strip marks content)
-    unfolding rewriteOf meaningOf cellsIn encoderOf
+    unfolding rewriteOf cellsIn meaningOf
     strip-solves =
         write-solves (encoderOf G) (encoder-in-memory G) (dataBits lay content) (stepsOf W) (meaningOf lay) (choiceOf (stepsOf W) (meaningOf lay))
-        (choice-chooses (stepsOf W) (meaningOf lay) _ sized) (stagesIn lay L) (stripCells lay L strip marks)
+        (choice-chooses (stepsOf W) (meaningOf lay) _ (sized lay G Z)) (stagesIn lay L) (stripCells lay L strip marks)
         (full-length (lay .cells) (stagesIn lay L) (stripCells lay L strip marks) (length-strip ∙ mul-comm (lay .cells) (stagesIn lay L)))
-      where
-        sized : (y : List ℕ) → length y ≡ lay .cells → length (map odd (lay .shows y)) ≡ suc (length (encoderOf G .others))
-        sized y e = length-map (lay .shows y) odd ∙ Z .shown y e ∙ ap suc (sym (length-map (G .others) _ ∙ Z .generators))
 
     -- and every write of it has a level for each cell
     pub strip-width : Width (cellsIn lay L) (Rewrite (stepsOf W) (meaningOf lay) (encoderOf G) (dataBits lay content) (stagesIn lay L) (stripCells lay L strip marks))
@@ -110,3 +127,15 @@ oneBit-parity = λ i. record { cells = 2; means = λ y. map-odd y i }
 -- a code of two generators whose G1 begins with 1 goes with it
 pub oneBit-sound : (G : Generators) → digit (G .memory) (G .g1) 0 ≡ 1 → length (G .others) ≡ 1 → Sound oneBit G
 oneBit-sound G e f = record { leads = e; generators = f; shown = λ y h. length-map y (λ l. l % 2) ∙ h }
+
+-- THE WRITE with one bit a cell, where no step is free: each cell is kept or raised by one, and states may have room for more digits
+pub oneBit-write : (m : ℕ) (G : Generators) → Sound oneBit G → G .memory ≤ m → (W : List ℕ) → Dear (stepsOf W) → (L : ℕ) (strip : List ℕ) (marks : ℕ → Bool) (content : List ℕ)
+    → write (withMemory m (encoderOf G)) (dataBits oneBit content) (parity-choice (stepsOf W)) 2 (stagesIn oneBit L) (stripCells oneBit L strip marks)
+    ≡ rewriteOf oneBit G W L strip marks content
+unfolding rewriteOf cellsIn meaningOf
+oneBit-write m G Z h W D L strip marks content =
+    ap (λ (c : Choice). write (withMemory m (encoderOf G)) (dataBits oneBit content) c 2 (stagesIn oneBit L) (stripCells oneBit L strip marks))
+    (sym (ap (choiceOf (stepsOf W)) oneBit-parity ∙ parity-chosen (stepsOf W) D 2))
+    ∙ room-same (encoderOf G) m (encoder-in-memory G) (room G m h) (dataBits oneBit content) (stepsOf W) (meaningOf oneBit) (choiceOf (stepsOf W) (meaningOf oneBit))
+    (choice-chooses (stepsOf W) (meaningOf oneBit) _ (sized oneBit G Z)) (stagesIn oneBit L) (stripCells oneBit L strip marks)
+    (full-length 2 (stagesIn oneBit L) (stripCells oneBit L strip marks) (length-strip oneBit L strip marks ∙ mul-comm 2 (stagesIn oneBit L)))

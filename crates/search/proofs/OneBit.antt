@@ -77,21 +77,35 @@ module _ (m : ℕ) (G : Generators) (K : Both G) where
         let q = joined-both _ _ (p .second) (p .right) in
         rw (p .append, q .append, keep-held S _ _ (p .first) (p .left), keep-held S _ _ (q .first) (q .left), ← Option·some-injective _ _ (q .right))
 
+    -- the price of a branch, by the bits that it wants
+    pub oneBit-price : (x y : Cell) (a : Bool) (s : ℕ) (u : Bool)
+        → priceBy (λ s. wordOf G (2 * s)) (oneBitPrices S (record { adds = a ∷ []; cells = x ∷ y ∷ [] })) s u
+        ≡ add (bitPrice S x (firstOf G (2 * s + one-if u))) (bitPrice S y (secondOf G (2 * s + one-if u) +₂ a))
+    unfolding priceBy oneBitPrices cellAt
+    oneBit-price x y a s u = rw (word-by s u, word-odd G (2 * s + one-if u), word-half G (2 * s + one-if u))
+
+    -- the digit 1 wins a tie where its first bit is the one that the first cell shows
+    pub oneBit-tie : (x y : Cell) (a : Bool) (s : ℕ)
+        → tieBy (λ s. wordOf G (2 * s)) (oneBitPrices S (record { adds = a ∷ []; cells = x ∷ y ∷ [] })) s ≡ Bool·beq (odd (x .level)) (firstOf G (2 * s + 1))
+    unfolding tieBy oneBitPrices cellAt one-if
+    oneBit-tie x y a s = rw (word-by s true, word-odd G (2 * s + 1))
+
     -- THE PRICES are the costs of the branches
     priced : (g : Stage) → Pair g → (s : ℕ) (u : Bool)
         → priceBy (λ s. wordOf G (2 * s)) (oneBitPrices S g) s u ≡ cost-of (branchN (withMemory m (encoderOf G)) (parity-choice S) g s u)
-    unfolding priceBy oneBitPrices bitPrice cellAt
+    unfolding bitPrice
     priced g (pair {x = x} {y = y} {a = a}) s u =
-        rw (word-by s u, word-odd G (2 * s + one-if u), word-half G (2 * s + one-if u), branch-cells x y a s u)
-        (sym (cost-joined _ _ ∙ ap (add _) (cost-joined _ _ ∙ free-after (keep-or-raise S y _))))
+        oneBit-price x y a s u
+        ∙ sym (ap cost-of (branch-cells x y a s u) ∙ cost-joined _ _ ∙ ap (add _) (cost-joined _ _ ∙ free-after (keep-or-raise S y _)))
 
     -- THE TIES are decided by the bit that the first cell shows
     tied : (g : Stage) → Pair g → (s : ℕ) (r q : Solution) → branchN (withMemory m (encoderOf G)) (parity-choice S) g s false ≡ some r
         → branchN (withMemory m (encoderOf G)) (parity-choice S) g s true ≡ some q → Decides (tieBy (λ s. wordOf G (2 * s)) (oneBitPrices S g) s) (r .levels) (q .levels)
-    unfolding tieBy oneBitPrices cellAt one-if
+    unfolding one-if
     tied g (pair {x = x} {y = y} {a = a}) s r q e f =
-        rw (word-by s true, word-odd G (2 * s + 1), oneBit-held x y a s false r e, oneBit-held x y a s true q f, parity-flip (G .memory) (G .g1) s (K .g1-leads))
+        rw (oneBit-tie x y a s, oneBit-held x y a s false r e, oneBit-held x y a s true q f, parity-flip (G .memory) (G .g1) s (K .g1-leads))
         (held-lower x (firstOf G (2 * s + 0)))
 
+    -- the two facts
     pub oneBit-quotes : Quotes (withMemory m (encoderOf G)) (parity-choice S) (λ s. wordOf G (2 * s)) (oneBitPrices S) Pair
     oneBit-quotes = record { priced = priced; tied = tied }

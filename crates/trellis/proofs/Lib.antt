@@ -1,25 +1,10 @@
--- The laws of the search, from best answers to the strip.
-pub mod Best
-pub mod Trellis
-pub mod Raising
-pub mod Search
-pub mod Parity
-pub mod Plan
-pub mod Apart
-pub mod Numbered
-pub mod Table
-pub mod Places
-pub mod Demand
-pub mod Examples
+-- The laws of the program of the search: one stage, the numbers that tell optional costs, the labels, the costs and digits of all stages, and carrying out.
 pub mod Stages
 pub mod Signed
 pub mod Costs
 pub mod Labels
 pub mod Passes
-pub mod Carrying
-pub mod Windows
 pub mod Prices
-pub mod Digits
 pub mod Program
-pub mod Planned
-pub mod Room
+pub mod Carrying
+pub mod Plans

@@ -107,10 +107,10 @@ module _ (G : Generators) (W strip content : List ℕ) (n : ℕ) where
   length-over (suc k) = length-before _ _ _ _ _ _
 
   -- each stage adds two steps at most
-  pub over-le : ((i : ℕ) → getD W i 0 ≤ 255) → (k i : ℕ) → getD (costsOver G W strip content n k) i 0 ≤ k * 524288
+  pub over-le : ((i : ℕ) → getD W i 0 ≤ 255) → (k i : ℕ) → getD (costsOver G W strip content n k) i 0 ≤ k * (2 * closed)
   unfolding costsOver
   over-le h zero i = zeros-le 64 i
-  over-le h (suc k) i = omega (arith, before-le (k * 524288) closed (stepList W) strip (n - suc k) (labelAt G content (n - suc k)) (wordsOf G) (costsOver G W strip content n k) (steps-le W h) (over-le h k) i)
+  over-le h (suc k) i = omega (arith, before-le (k * (2 * closed)) closed (stepList W) strip (n - suc k) (labelAt G content (n - suc k)) (wordsOf G) (costsOver G W strip content n k) (steps-le W h) (over-le h k) i)
 
   -- the stage t before the costs of those after it
   pub over-more : (t : ℕ) → t < n

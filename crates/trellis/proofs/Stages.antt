@@ -1,5 +1,6 @@
 -- Laws of one stage on numbers, for any number of states: its widths, its costs and its digits state by state.
 use mathlib.Core.Path.{_≡_, refl, sym, ap, ap₂, _∙_}
+use mathlib.Core.Bool.{Bool, true, false, not}
 use mathlib.Core.List.{List}
 use Prim.Native.Nat.{ℕ, zero, suc, _+_, _-_, _*_, _/_, _%_, _^_, _<_, _≤_, min}
 use native.Mathlib.Omega.{arith}
@@ -8,6 +9,7 @@ use native.Mathlib.Numerals.{add-one}
 use lib.ListN.{length, getD}
 use lib.Seq.{ext-getD}
 use Rattle.cells.specs.Places.{listOf, number}
+use Rattle.codes.specs.Numbers.{one-if}
 use Rattle.cells.proofs.Places.{length-listOf, listOf-at, number-same, number-more, number-join, one-shl}
 use Rattle.cells.proofs.Bytes.{number-bit}
 use Rattle.trellis.specs.Stage.{pick, below, branchCost, by0, by1, lesserOf, stageOf, digitOf, digitsOf, Capped}
@@ -21,6 +23,18 @@ pick-second (suc d) x y h = refl
 pub pick-le : (d x y n : ℕ) → x ≤ n → y ≤ n → pick d x y ≤ n
 pick-le zero x y n p q = p
 pick-le (suc d) x y n p q = q
+
+-- picked by a bit: the value for that bit
+pub pick-bit : (f : ℕ → ℕ) (b : Bool) → pick (one-if b) (f 0) (f 1) ≡ f (one-if b)
+unfolding one-if
+pick-bit f true = refl
+pick-bit f false = refl
+
+-- picked from the two the other way round: the value for the other bit
+pub pick-other : (f : ℕ → ℕ) (b : Bool) → pick (one-if b) (f 1) (f 0) ≡ f (one-if (not b))
+unfolding one-if
+pick-other f true = refl
+pick-other f false = refl
 
 -- TESTS. Where x is below y, the bit b is marked
 pub below-yes : (x y b : ℕ) → x < y → b ≡ below x y * b

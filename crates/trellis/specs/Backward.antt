@@ -5,7 +5,7 @@
 --   wordsOf G            the word that each of 64 states wants for the digit 0
 --   registerAt, labelAt  the register of the labels before a stage, and a stage's label
 --   costsBefore, costsOver   a stage's costs by those after it; the costs over the last k stages
---   decisionAt           the digits that the states take at a stage, state s at bit s
+--   decisionAt, Decided  the digits that the states take at a stage, state s at bit s, and of all stages
 use mathlib.Core.Bool.{cond}
 use mathlib.Core.List.{List, [], _∷_, _++_}
 use Prim.Native.Nat.{ℕ, zero, suc, _+_, _*_, _-_, _%_, _<_, _≤_}
@@ -16,12 +16,14 @@ use Rattle.cells.specs.Places.{listOf}
 use Rattle.cells.specs.Bytes.{bitOf}
 use Rattle.cells.specs.Levels.{level}
 use Rattle.codes.specs.Generators.{Generators}
+use Rattle.codes.specs.Layouts.{oneBit, bytesIn}
+use Rattle.search.specs.Strip.{Dear, stepsOf}
 use Rattle.codes.specs.Taps.{tapsOf, wordOf, forthOf}
-use Rattle.trellis.specs.Stage.{stageOf, digitsOf}
+use Rattle.trellis.specs.Stage.{mostCost, stageOf, digitsOf}
 
--- more than the 1,024 cells of a strip can cost at 255 a step
+-- 2 ^ 19: more than the dearest write of a strip, also where a cell climbs three levels at 255 each
 abbrev pub closed : ℕ
-closed = 262144
+closed = 524288
 
 -- the three weights, and closed for the step from level 3
 unfoldable pub stepList : List ℕ → List ℕ
@@ -73,16 +75,21 @@ module _ (G : Generators) (W strip content : List ℕ) (n : ℕ) where
   unfoldable pub decisionAt : ℕ → ℕ
   decisionAt t = digitsBefore (stepList W) strip t (labelAt G content t) (wordsOf G) (costsOver (n - suc t))
 
--- what the functions of a strip ask: the words of the code, data of at most 64 bytes, and six bytes of strip for each
-pub record Shaped (G : Generators) (words strip content : List ℕ) : Type 0 where
+-- the decisions of all stages are those that the states take
+pub record Decided (G : Generators) (W strip content decisions : List ℕ) : Type 0 where
+  pub at : (t : ℕ) → t < 8 * length content → getD decisions t 0 ≡ decisionAt G W strip content (8 * length content) t
+
+-- what the functions of a strip ask: the words of the code, data of at most 64 bytes, a strip for them, and no step that is free
+pub record Shaped (G : Generators) (W words strip content : List ℕ) : Type 0 where
   pub words-are : words ≡ wordsOf G
-  pub size : length strip ≡ 6 * length content
+  pub size : length strip ≡ bytesIn oneBit (length content)
   pub most : length content ≤ 64
+  pub dear : Dear (stepsOf W)
 
 -- what a stage back asks: 64 costs and four prices that leave room for a sum
 pub record StageAsked (steps costs : List ℕ) (t label : ℕ) : Type 0 where
   pub states : length costs ≡ 64
-  pub costs-le : (i : ℕ) → getD costs i 0 ≤ 1073741824
+  pub costs-le : (i : ℕ) → getD costs i 0 ≤ mostCost
   pub steps-le : (i : ℕ) → getD steps i 0 ≤ closed
   pub stage-le : t < 512
   pub label-le : label ≤ 1

@@ -1,15 +1,8 @@
 -- Costs as a program holds them: a number for each optional cost. Closed is any number from `top` on, never a cost, and no sum brings it back among the
 -- costs.
---   add               two optional costs one after the other, closed as soon as one is
 --   Tells             the number v tells an optional cost
-use Prim.Native.Nat.{ℕ, _+_, _≤_}
+use Prim.Native.Nat.{ℕ, _≤_}
 use mathlib.Core.Option.{Option, none, some}
-
--- two costs one after the other
-unfoldable pub add : Option ℕ → Option ℕ → Option ℕ
-add none d = none
-add (some c) none = none
-add (some c) (some d) = some (c + d)
 
 -- the number v tells the optional cost: a cost up to `most` is itself, and from `top` on there is none
 pub data Tells (top most : ℕ) : ℕ → Option ℕ → Type 0 where

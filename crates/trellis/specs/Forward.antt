@@ -5,13 +5,16 @@
 --   wantedFirst, wantedSecond   the bits that the digits want of a stage's cells
 --   shown              a page with one cell raised where it does not show the bit that is wanted
 --   carriedTo          the level of each cell after the digits are carried out
-use Prim.Native.Nat.{ℕ, zero, suc, _+_, _*_, _/_, _%_, _^_}
+use mathlib.Core.Path.{_≡_}
+use Prim.Native.Nat.{ℕ, zero, suc, _+_, _*_, _/_, _%_, _^_, _≤_}
+use lib.ListN.{length}
 use mathlib.Core.Bool.{cond}
 use mathlib.Core.List.{List}
 use lib.Dec.{eqb}
 use Rattle.cells.specs.Levels.{level}
-use Rattle.cells.specs.Raising.{raisedCell, canRise}
-use Rattle.codes.specs.Generators.{Generators}
+use Rattle.cells.specs.Raising.{startOf, raisedCell, canRise}
+use Rattle.codes.specs.Generators.{Generators, g2}
+use Rattle.codes.specs.Layouts.{oneBit, bytesIn}
 use Rattle.codes.specs.Taps.{tapsOf, parityOf}
 use Rattle.trellis.specs.Stage.{pick}
 use Rattle.trellis.specs.Backward.{labelAt}
@@ -36,7 +39,7 @@ wantedFirst G u t = parityOf (tapsOf (G .memory) (G .g1)) (2 * stateAt u t + u t
 
 -- and of the second: the label added
 unfoldable pub wantedSecond : Generators → List ℕ → (ℕ → ℕ) → ℕ → ℕ
-wantedSecond G content u t = (parityOf (tapsOf (G .memory) (G .g2)) (2 * stateAt u t + u t) + labelAt G content t) % 2
+wantedSecond G content u t = (parityOf (tapsOf (G .memory) (g2 G)) (2 * stateAt u t + u t) + labelAt G content t) % 2
 
 -- the bit that is wanted of cell c
 unfoldable pub wantedOf : Generators → List ℕ → (ℕ → ℕ) → ℕ → ℕ
@@ -48,4 +51,10 @@ carriedTo G strip content u c = level strip c + (level strip c + wantedOf G cont
 
 -- the page with cell c raised by one where it does not show the bit that is wanted, and can rise
 unfoldable pub shown : List ℕ → ℕ → ℕ → List ℕ
-shown page c wanted = cond (eqb (level page c % 2) wanted) page (cond (canRise page c) (raisedCell page c) page)
+shown page c wanted = cond (eqb (level page c % 2) wanted) page (cond (canRise page c) (raisedCell startOf page c) page)
+
+-- what carrying out asks: a digit for each stage of data of at most 64 bytes, and a strip for them
+pub record CarryAsked (strip content digits : List ℕ) : Type 0 where
+  pub digits-are : length digits ≡ length content
+  pub most : length content ≤ 64
+  pub size : length strip ≡ bytesIn oneBit (length content)

@@ -1,4 +1,5 @@
 -- One backward stage of the search on numbers: what each state costs to the end, and the digit that it takes, from what the states after it cost.
+--   mostPrice, mostCost   the most that a price and a cost may be
 --   pick d x y       x for the digit 0, else y
 --   below x y        1 where x is below y, else 0
 --   branchCost       a branch: the prices of its two cells and the cost after it
@@ -9,6 +10,13 @@ use mathlib.Core.List.{List}
 use mathlib.Core.Path.{_≡_}
 use lib.ListN.{length, getD}
 use Rattle.cells.specs.Places.{listOf, number}
+
+-- the most that a cell's price and a state's cost may be: a stage's sums then stay below 2 ^ 31
+abbrev pub mostPrice : ℕ
+mostPrice = 1048576
+
+abbrev pub mostCost : ℕ
+mostCost = 1073741824
 
 -- the first for the digit 0, else the second
 abbrev pub pick : ℕ → ℕ → ℕ → ℕ

@@ -8,11 +8,12 @@ ghost use Prim.Native.Nat.{ℕ, _*_, _<_, _≤_};
 ghost use lib.ListN.{length, getD};
 ghost use Rattle.codes.specs.Taps.{tapsOf};
 ghost use Rattle.codes.specs.Codes.{generatorsOf};
-ghost use Rattle.trellis.specs.Backward.{stepList, priceFor, wordsOf, registerAt, costsBefore, digitsBefore, costsOver, decisionAt, Shaped, StageAsked};
-ghost use Rattle.trellis.specs.Outcomes.{toldOutcome};
+ghost use Rattle.trellis.specs.Backward.{closed, stepList, priceFor, wordsOf, registerAt, costsBefore, digitsBefore, Decided, Shaped, StageAsked};
+ghost use Rattle.trellis.specs.Outcomes.{toldOutcome, solutionOutcome};
+ghost use Rattle.trellis.specs.Plans.{writeOf};
 
 // From this number on there is no cost.
-const CLOSED: u32 = 262144;
+const CLOSED: u32 = 524288;
 
 // The word that each of 64 states wants for the digit 0.
 pub fn words_of(code: Code) -> [u8; 64]
@@ -39,8 +40,8 @@ fn steps_of(weights: [u8; 3]) -> [u32; 4]
 
 // What it costs that a cell at a level shows the bit v, by the steps' weights.
 fn price_for(steps: [u32; 4], level: u8, v: u8) -> u32
-    requires { ⌜ (level ≤ 3) × ((i : ℕ) → getD steps i 0 ≤ 262144) ⌝ }
-    ensures { λ r. ⌜ (r ≡ priceFor steps level v) × (r ≤ 262144) ⌝ }
+    requires { ⌜ (level ≤ 3) × ((i : ℕ) → getD steps i 0 ≤ closed) ⌝ }
+    ensures { λ r. ⌜ (r ≡ priceFor steps level v) × (r ≤ closed) ⌝ }
 {
     let w = steps[level as usize];
     if level % 2 == v { 0 } else { w }
@@ -105,8 +106,8 @@ pub fn price_strip(
     strip: &[u8],
     data: &[u8],
 ) -> Outcome
-    requires { ⌜ Shaped (generatorsOf code) (now words) (now strip) (now «data») ⌝ }
-    ensures { λ r. ⌜ r ≡ toldOutcome (getD (costsOver (generatorsOf code) weights (now (strip .entry)) (now («data» .entry)) (8 * length (now («data» .entry))) (8 * length (now («data» .entry)))) 0 0) ⌝ }
+    requires { ⌜ Shaped (generatorsOf code) weights (now words) (now strip) (now «data») ⌝ }
+    ensures { λ r. ⌜ r ≡ solutionOutcome (writeOf (generatorsOf code) weights (now (strip .entry)) (now («data» .entry))) ⌝ }
 {
     let taps = code.first_taps();
     let steps = steps_of(weights);
@@ -131,10 +132,10 @@ pub fn decide(
     data: &[u8],
     decisions: &mut [u64; 512],
 ) -> Outcome
-    requires { ⌜ Shaped (generatorsOf code) (now words) (now strip) (now «data») ⌝ }
+    requires { ⌜ Shaped (generatorsOf code) weights (now words) (now strip) (now «data») ⌝ }
     requires { ⌜ length (now decisions) ≡ 512 ⌝ }
-    ensures { λ r. ⌜ r ≡ toldOutcome (getD (costsOver (generatorsOf code) weights (now (strip .entry)) (now («data» .entry)) (8 * length (now («data» .entry))) (8 * length (now («data» .entry)))) 0 0) ⌝ }
-    ensures { λ r. ⌜ ((t : ℕ) → t < 8 * length (now («data» .entry)) → getD (now (decisions .exit)) t 0 ≡ decisionAt (generatorsOf code) weights (now (strip .entry)) (now («data» .entry)) (8 * length (now («data» .entry))) t) ⌝ }
+    ensures { λ r. ⌜ r ≡ solutionOutcome (writeOf (generatorsOf code) weights (now (strip .entry)) (now («data» .entry))) ⌝ }
+    ensures { λ _. ⌜ Decided (generatorsOf code) weights (now (strip .entry)) (now («data» .entry)) (now (decisions .exit)) ⌝ }
 {
     let taps = code.first_taps();
     let steps = steps_of(weights);

@@ -7,11 +7,12 @@ ghost use Prim.Native.Nat.{ℕ, _+_, _*_, _<_, _≤_};
 ghost use lib.ListN.{length, getD};
 ghost use Rattle.cells.specs.Places.{number};
 ghost use Rattle.cells.specs.Bytes.{bytesOf, bitOf};
-ghost use Rattle.cells.specs.Raising.{raisedTo};
+ghost use Rattle.cells.specs.Raising.{startOf, raisedTo};
 ghost use Rattle.codes.specs.Codes.{generatorsOf};
-ghost use Rattle.trellis.specs.Backward.{costsOver, decisionAt, Shaped};
-ghost use Rattle.trellis.specs.Forward.{followed, followedState, carriedTo, shown};
-ghost use Rattle.trellis.specs.Outcomes.{toldOutcome};
+ghost use Rattle.trellis.specs.Backward.{Shaped};
+ghost use Rattle.trellis.specs.Forward.{followed, followedState, carriedTo, shown, CarryAsked};
+ghost use Rattle.trellis.specs.Outcomes.{solutionOutcome};
+ghost use Rattle.trellis.specs.Plans.{writeOf, Plans};
 
 // Eight digits, and the state after them.
 struct Followed {
@@ -64,10 +65,10 @@ pub fn plan_strip(
     data: &[u8],
     digits: &mut [u8],
 ) -> Outcome
-    requires { ⌜ Shaped (generatorsOf code) (now words) (now strip) (now «data») ⌝ }
+    requires { ⌜ Shaped (generatorsOf code) weights (now words) (now strip) (now «data») ⌝ }
     requires { ⌜ length (now digits) ≡ length (now «data») ⌝ }
-    ensures { λ r. ⌜ r ≡ toldOutcome (getD (costsOver (generatorsOf code) weights (now (strip .entry)) (now («data» .entry)) (8 * length (now («data» .entry))) (8 * length (now («data» .entry)))) 0 0) ⌝ }
-    ensures { λ r. ⌜ now (digits .exit) ≡ bytesOf (length (now («data» .entry))) (followed (decisionAt (generatorsOf code) weights (now (strip .entry)) (now («data» .entry)) (8 * length (now («data» .entry))))) ⌝ }
+    ensures { λ r. ⌜ r ≡ solutionOutcome (writeOf (generatorsOf code) weights (now (strip .entry)) (now («data» .entry))) ⌝ }
+    ensures { λ _. ⌜ (length (now (digits .exit)) ≡ length (now («data» .entry))) × Plans (generatorsOf code) weights (now (strip .entry)) (now («data» .entry)) (now (digits .exit)) ⌝ }
 {
     let mut decisions = [0u64; 512];
     let r = decide(code, words, weights, strip, data, &mut decisions);
@@ -87,8 +88,8 @@ fn raise_if(strip: &mut [u8], cell: u32, wanted: u32)
 
 // Carries the digits out: each cell that does not show the bit that they want is raised by one.
 pub fn carry_strip(code: Code, strip: &mut [u8], data: &[u8], digits: &[u8])
-    requires { ⌜ (length (now digits) ≡ length (now «data»)) × (length (now «data») ≤ 64) × (length (now strip) ≡ 6 * length (now «data»)) ⌝ }
-    ensures { λ _. ⌜ now (strip .exit) ≡ raisedTo (now (strip .entry)) (carriedTo (generatorsOf code) (now (strip .entry)) (now («data» .entry)) (bitOf (now (digits .entry)))) ⌝ }
+    requires { ⌜ CarryAsked (now strip) (now «data») (now digits) ⌝ }
+    ensures { λ _. ⌜ now (strip .exit) ≡ raisedTo startOf (now (strip .entry)) (carriedTo (generatorsOf code) (now (strip .entry)) (now («data» .entry)) (bitOf (now (digits .entry)))) ⌝ }
 {
     let first = code.first_taps();
     let second = code.second_taps();

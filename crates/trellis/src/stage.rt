@@ -1,21 +1,21 @@
 // One stage of the search, from the back: one function that a reader can hold in the head.
 ghost use mathlib.Core.Path.{_≡_};
-ghost use Prim.Native.Nat.{ℕ, _+_, _*_, _/_, _%_, _<_, _≤_, min};
+ghost use Prim.Native.Nat.{ℕ, _+_, _*_, _/_, _%_, _^_, _<_, _≤_, min};
 ghost use lib.ListN.{length, getD};
 ghost use Rattle.cells.specs.Places.{number};
-ghost use Rattle.trellis.specs.Stage.{pick, below, branchCost, lesserOf, stageOf, digitOf, digitsOf, Capped, HalfAsked};
+ghost use Rattle.trellis.specs.Stage.{mostPrice, mostCost, pick, below, branchCost, lesserOf, stageOf, digitOf, digitsOf, Capped, HalfAsked};
 
 // The first for the digit 0, else the second.
 pub fn pick(d: u8, x: u32, y: u32) -> u32
-    requires { ⌜ (x ≤ 1048576) × (y ≤ 1048576) ⌝ }
-    ensures { λ r. ⌜ (r ≡ pick d x y) × (r ≤ 1048576) ⌝ }
+    requires { ⌜ (x ≤ mostPrice) × (y ≤ mostPrice) ⌝ }
+    ensures { λ r. ⌜ (r ≡ pick d x y) × (r ≤ mostPrice) ⌝ }
 {
     if d == 0 { x } else { y }
 }
 
 // The lesser of two, tested as signed: the vector unit of plain x86-64 has no unsigned test.
 fn least(x: u32, y: u32) -> u32
-    requires { ⌜ (x < 2147483648) × (y < 2147483648) ⌝ }
+    requires { ⌜ (x < 2 ^ 31) × (y < 2 ^ 31) ⌝ }
     ensures { λ r. ⌜ r ≡ min x y ⌝ }
 {
     if (x as i32) < (y as i32) { x } else { y }
@@ -23,7 +23,7 @@ fn least(x: u32, y: u32) -> u32
 
 // The bit b where x is below y, else 0.
 fn bit_below(x: u32, y: u32, b: u32) -> u32
-    requires { ⌜ (x < 2147483648) × (y < 2147483648) ⌝ }
+    requires { ⌜ (x < 2 ^ 31) × (y < 2 ^ 31) ⌝ }
     ensures { λ r. ⌜ r ≡ below x y * b ⌝ }
 {
     if (x as i32) < (y as i32) { b } else { 0 }
@@ -31,8 +31,8 @@ fn bit_below(x: u32, y: u32, b: u32) -> u32
 
 // What a branch costs that wants the word j, where x is the cost after it.
 fn branch_cost(j: u8, x: u32, a0: u32, a1: u32, b0: u32, b1: u32) -> u32
-    requires { ⌜ (x ≤ 1073741824) × (a0 ≤ 1048576) × (a1 ≤ 1048576) × (b0 ≤ 1048576) × (b1 ≤ 1048576) ⌝ }
-    ensures { λ r. ⌜ (r ≡ branchCost j x a0 a1 b0 b1) × (r ≤ 1075838976) ⌝ }
+    requires { ⌜ (x ≤ mostCost) × (a0 ≤ mostPrice) × (a1 ≤ mostPrice) × (b0 ≤ mostPrice) × (b1 ≤ mostPrice) ⌝ }
+    ensures { λ r. ⌜ (r ≡ branchCost j x a0 a1 b0 b1) × (r ≤ mostCost + 2 * mostPrice) ⌝ }
 {
     pick(j % 2, a0, a1) + pick(j / 2, b0, b1) + x
 }
@@ -56,7 +56,7 @@ fn half(
     b1: u32,
     stay: u32,
 ) -> u32
-    requires { ⌜ HalfAsked 1073741824 1048576 (lesserOf 64 (now after) (now words) a0 a1 b0 b1) (now costs) (now after) at a0 a1 b0 b1 stay ⌝ }
+    requires { ⌜ HalfAsked mostCost mostPrice (lesserOf 64 (now after) (now words) a0 a1 b0 b1) (now costs) (now after) at a0 a1 b0 b1 stay ⌝ }
     ensures { λ r. ⌜ r ≡ number 32 (λ k. digitOf 64 (now (after .entry)) (now (words .entry)) a0 a1 b0 b1 stay (at + k)) ⌝ }
     ensures { λ r. ⌜ length (now (costs .exit)) ≡ 64 ⌝ }
     ensures { λ r. ⌜ ((k : ℕ) → k < at + 32 → getD (now (costs .exit)) k 0 ≡ lesserOf 64 (now (after .entry)) (now (words .entry)) a0 a1 b0 b1 k) ⌝ }
@@ -87,7 +87,7 @@ pub fn stage(
     stay: u32,
 ) -> u64
     requires { ⌜ (length (now costs) ≡ 64) × (stay ≤ 1) ⌝ }
-    requires { ⌜ Capped 1073741824 1048576 (now costs) a0 a1 b0 b1 ⌝ }
+    requires { ⌜ Capped mostCost mostPrice (now costs) a0 a1 b0 b1 ⌝ }
     ensures { λ r. ⌜ r ≡ digitsOf 64 (now (costs .entry)) (now (words .entry)) a0 a1 b0 b1 stay ⌝ }
     ensures { λ r. ⌜ now (costs .exit) ≡ stageOf 64 (now (costs .entry)) (now (words .entry)) a0 a1 b0 b1 ⌝ }
 {

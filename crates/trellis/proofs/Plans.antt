@@ -11,7 +11,7 @@ use lib.ListN.{length}
 use Rattle.cells.specs.Places.{listOf, no-more, and-each}
 use Rattle.cells.specs.Levels.{level}
 use Rattle.cells.proofs.Places.{length-listOf}
-use Rattle.codes.specs.Generators.{Generators, digit}
+use Rattle.codes.specs.Generators.{Generators, g2, digit}
 use Rattle.codes.specs.Sequences.{_+₂_, odd}
 use Rattle.codes.specs.Numbers.{one-if}
 use Rattle.codes.specs.Encoders.{encoderOf, InMemory}
@@ -31,9 +31,9 @@ use Rattle.search.proofs.Parity.{parity-chooses, parity-leads}
 use Rattle.search.proofs.Levels.{length-cells}
 use Rattle.search.proofs.Strip.{full-length}
 use Rattle.search.proofs.Apart.{held}
-use Rattle.trellis.proofs.Windows.{firstOf, secondOf, parity-number}
+use Rattle.search.proofs.Windows.{firstOf, secondOf, parity-number}
 use Rattle.trellis.proofs.Prices.{Suits, branchFor, cellFor, stageFor, labelFor, label-told}
-use Rattle.trellis.proofs.Digits.{joined-both, play-shut, raised-held, branch-held, digit-told}
+use Rattle.trellis.proofs.Prices.{joined-both, play-shut, raised-held, branch-held, digit-told}
 use Rattle.trellis.proofs.Program.{stagesFrom, stages-are, costs-from}
 
 -- CARRYING OUT. The digits that are followed lead through the states that are followed
@@ -74,8 +74,8 @@ wide-in-memory : (G : Generators) (W : List ℕ) → Suits G W → InMemory (wid
 unfolding wide encoderOf
 wide-in-memory G W K = record { first-fits = omega (arith, length-listOf (G .memory) (λ i. odd (digit (G .memory) (G .g1) (suc i)))); others-fit = and-each most no-more }
   where
-    most : length (listOf (suc (G .memory)) (λ i. odd (digit (G .memory) (G .g2) i))) ≤ 7
-    most = omega (arith, length-listOf (suc (G .memory)) (λ i. odd (digit (G .memory) (G .g2) i)))
+    most : length (listOf (suc (G .memory)) (λ i. odd (digit (G .memory) (g2 G) i))) ≤ 7
+    most = omega (arith, length-listOf (suc (G .memory)) (λ i. odd (digit (G .memory) (g2 G) i)))
 
 module _ (G : Generators) (W strip content : List ℕ) where
   -- the answer of the plan over k stages from stage t and the state s
