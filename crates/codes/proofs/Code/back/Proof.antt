@@ -7,7 +7,7 @@ use lib.Pow.{pow-mono}
 use borrow.Author.Needs.{needs}
 use Rattle.codes.specs.Taps.{backOf, labelOf}
 use Rattle.cells.proofs.Places.{one-shl}
-use Rattle.codes.proofs.Parities.{memory-bounds}
+use Rattle.codes.proofs.Codes.{memory-bounds}
 use Rattle.codes.proofs.Code.back.Statement.{statement}
 use Rattle.codes.proofs.Code.back.Tie as tie
 

@@ -1,7 +1,7 @@
 -- The memory is that of the code's row, 2 or 6.
 use native.Mathlib.Omega.{arith}
 use borrow.Author.Needs.{needs}
-use Rattle.codes.proofs.Parities.{memory-bounds}
+use Rattle.codes.proofs.Codes.{memory-bounds}
 use Rattle.codes.proofs.Code.memory.Statement.{statement}
 use Rattle.codes.proofs.Code.memory.Tie as tie
 

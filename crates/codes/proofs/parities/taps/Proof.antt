@@ -7,9 +7,9 @@ use Rattle.cells.specs.Places.{number}
 use Rattle.codes.specs.Generators.{digit}
 use Rattle.codes.specs.Taps.{tapsOf}
 use Rattle.cells.proofs.Places.{number-next, number-fits}
-use Rattle.codes.proofs.Parities.{digit-bound}
-use Rattle.codes.proofs.taps.Statement.{statement}
-use Rattle.codes.proofs.taps.Tie as tie
+use Rattle.codes.proofs.Generators.{digit-bound}
+use Rattle.codes.proofs.parities.taps.Statement.{statement}
+use Rattle.codes.proofs.parities.taps.Tie as tie
 
 abbrev Inv-loop : tie.InvT-loop
 Inv-loop memory generator sum₀ i₀ sum i = (i ≤ memory + 1) × (sum ≡ number i (digit memory generator))
