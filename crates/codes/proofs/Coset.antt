@@ -37,7 +37,7 @@ module _ (m : ℕ) (gs : List Bool) (l : length gs ≤ m) where
   column-arises-below n g a b d e =
       let u : Bits = quotient m gs a in
       let same : conv (true ∷ gs) (conv g u ⊕ b) ≡ conv g a ⊕ conv (true ∷ gs) b =
-          rw (conv-⊕ (true ∷ gs) (conv g u) b, conv-comm (true ∷ gs) g u, conv-quotient m gs l a) in
+      rw (conv-⊕ (true ∷ gs) (conv g u) b, conv-comm (true ∷ gs) g u, conv-quotient m gs l a) in
       let q : Agree n (conv g u ⊕ b) (quotient m gs d) = quotient-below m gs l n (conv g u ⊕ b) d (rw same e) in
       rw (⊕-twice (conv g u) b) at (agree-⊕ (agree-refl n (conv g u)) q)
 

@@ -17,14 +17,14 @@ use Rattle.codes.specs.Generators.{Generators, digit}
 use Rattle.codes.specs.Layouts.{Layout}
 use Rattle.codes.specs.Reading.{sumBit, codeBit, dataBit}
 use Rattle.codes.specs.Sequences.{_⊕_, conv, Agree, odd}
-use Rattle.codes.specs.Encoders.{InMemory, digitsOf, encoderOf}
+use Rattle.codes.specs.Encoders.{InMemory, digitBits, encoderOf}
 use Rattle.codes.specs.Coset.{column, Reads}
 use Rattle.codes.proofs.Sequences.{odd-only, agree-trans, agree-⊕, agree-conv}
 use Rattle.codes.proofs.Reading.{sumBit-conv}
 use Rattle.codes.proofs.Layouts.{dataBit-bound}
 
 -- the digits of G1, digit 0 being 1
-pub first-digits : (G : Generators) → digit (G .memory) (G .g1) 0 ≡ 1 → true ∷ encoderOf G .first ≡ digitsOf (G .memory) (G .g1)
+pub first-digits : (G : Generators) → digit (G .memory) (G .g1) 0 ≡ 1 → true ∷ encoderOf G .first ≡ digitBits (G .memory) (G .g1)
 unfolding encoderOf listOf odd
 first-digits G e = ap (λ (x : ℕ). odd x ∷ encoderOf G .first) (sym e)
 
@@ -36,14 +36,14 @@ encoder-in-memory G = record {
   others-fit = each (G .others);
 }
   where
-    each : (gs : List ℕ) → Each (λ G′. length G′ ≤ suc (G .memory)) (map (λ g. digitsOf (G .memory) g) gs)
+    each : (gs : List ℕ) → Each (λ G′. length G′ ≤ suc (G .memory)) (map (λ g. digitBits (G .memory) g) gs)
     each [] = no-more
     each (g ∷ gs) =
-        let e : length (digitsOf (G .memory) g) ≤ suc (G .memory) = omega (arith, length-listOf (suc (G .memory)) (λ i. odd (digit (G .memory) g i))) in
+        let e : length (digitBits (G .memory) g) ≤ suc (G .memory) = rw length-listOf (omega arith) in
         and-each e (each gs)
 
 -- generator j after the first, by its digits
-others-at : (m : ℕ) (gs : List ℕ) (j : ℕ) → j < length gs → getD (map (λ g. digitsOf m g) gs) j [] ≡ digitsOf m (getD gs j 0)
+others-at : (m : ℕ) (gs : List ℕ) (j : ℕ) → j < length gs → getD (map (λ g. digitBits m g) gs) j [] ≡ digitBits m (getD gs j 0)
 others-at m [] j h = absurd (not-suc-le-zero h)
 others-at m (g ∷ gs) zero h = refl
 others-at m (g ∷ gs) (suc j) h = others-at m gs j (omega arith)
@@ -61,7 +61,7 @@ module _ (lay : Layout) (G : Generators) (lead : digit (G .memory) (G .g1) 0 ≡
   -- column j reads as the data bits of that generator
   sums-agree : (j : ℕ) → j < lay .bits
       → Agree n (conv (getD (encoderOf G .others) j []) (column 0 W) ⊕ conv (true ∷ encoderOf G .first) (column (suc j) W))
-        (λ t. odd (dataBit lay G v (lay .bits * t + j)))
+      (λ t. odd (dataBit lay G v (lay .bits * t + j)))
   unfolding encoderOf
   sums-agree j h =
       rw (first-digits G lead, others-at (G .memory) (G .others) j (omega arith))
@@ -71,7 +71,7 @@ module _ (lay : Layout) (G : Generators) (lead : digit (G .memory) (G .g1) 0 ≡
   -- a generator for each data bit of a stage
   others-many : length (encoderOf G .others) ≡ lay .bits
   unfolding encoderOf
-  others-many = length-map (G .others) (λ g. digitsOf (G .memory) g) ∙ whole
+  others-many = length-map (G .others) (λ g. digitBits (G .memory) g) ∙ whole
 
   -- both ways
   pub reads-sums : Reads (encoderOf G) (λ j t. odd (d (lay .bits * t + j))) n W ↔ ((b : ℕ) → b < lay .bits * n → dataBit lay G v b ≡ d b)
@@ -79,7 +79,7 @@ module _ (lay : Layout) (G : Generators) (lead : digit (G .memory) (G .g1) 0 ≡
     where
       from : ((b : ℕ) → b < lay .bits * n → dataBit lay G v b ≡ d b) → (j : ℕ) → j < lay .bits
           → Agree n (conv (getD (encoderOf G .others) j []) (column 0 W) ⊕ conv (true ∷ encoderOf G .first) (column (suc j) W))
-            (λ t. odd (d (lay .bits * t + j)))
+          (λ t. odd (d (lay .bits * t + j)))
       from f j h = agree-trans (sums-agree j h) (record { at = λ t l. ap odd (f _ (place-inside (lay .bits) t j h n l)) })
 
       to : Reads (encoderOf G) (λ j t. odd (d (lay .bits * t + j))) n W → (b : ℕ) → b < lay .bits * n → dataBit lay G v b ≡ d b

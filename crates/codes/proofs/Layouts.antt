@@ -4,9 +4,9 @@
 --   oneBit-first, oneBit-second  one bit a cell: the code bits are those of the two cells
 --   oneBit-data                  and data bit t is the paper's sum of stage t
 --   oneBit-stages, oneBit-cells, oneBit-bytes   8·L stages, 16·L cells and 6·L bytes
-use mathlib.Core.Path.{_≡_, _∙_, ap, ap₂}
+use mathlib.Core.Path.{_≡_, ap}
 use mathlib.Core.List.{List}
-use Prim.Native.Nat.{ℕ, suc, _<_, _≤_, _+_, _*_, _/_, _%_}
+use Prim.Native.Nat.{ℕ, _<_, _+_, _*_, _/_, _%_}
 use native.Mathlib.Omega.{arith}
 use lib.ListN.{getD}
 use Rattle.cells.specs.Places.{listOf}

@@ -1,11 +1,11 @@
 -- Laws of bits and registers as numbers: what the program computes with taps and windows is what the laws say of lists of bits.
---   one-if-le, odd-one-if, one-if-odd   a bit as a number, and back
---   sum-bits                            the sum of two bits
---   value-bound, value-zeros, value-take   a list of bits as a number: its bound, zeros, its first bits
---   parity-dot                          a parity is the sum of digits times bits
---   taps-value                          the taps of a generator are its digits
+--   one-if-le, odd-one-if, one-if-odd       a bit as a number, and back
+--   sum-bits                                the sum of two bits
+--   value-zeros, value-take                 a list of bits as a number: zeros, and its first bits
+--   parity-dot                              a parity is the sum of digits times bits
+--   taps-value                              the taps of a generator are its digits
 --   register-forth, register-stepped-back   the register of the labels steps forth, and back
---   register-label                      its newest bit is the label
+--   register-label                          its newest bit is the label
 use mathlib.Core.Path.{_≡_, refl, sym, _∙_, ap, ap₂}
 use mathlib.Core.Bool.{Bool, true, false, _&&_}
 use mathlib.Core.List.{List, [], _∷_, _++_}
@@ -23,7 +23,7 @@ use Rattle.codes.specs.Taps.{tapsOf, parityOf, labelOf, forthOf, backOf}
 use Rattle.codes.specs.Sequences.{_+₂_, Bits, odd}
 use Rattle.codes.specs.Registers.{dot, push, register, quotient, stepForth, stepBack}
 use Rattle.codes.specs.Numbers.{one-if, value}
-use Rattle.codes.specs.Encoders.{digitsOf}
+use Rattle.codes.specs.Encoders.{digitBits}
 use Rattle.codes.proofs.Sequences.{odd-add, odd-mod-two, odd-only}
 use Rattle.codes.proofs.Generators.{digit-bound}
 use Rattle.codes.proofs.Taps.{ones-pair}
@@ -45,13 +45,7 @@ odd-one-if false = refl
 pub one-if-odd : (n : ℕ) → n < 2 → one-if (odd n) ≡ n
 one-if-odd n h = odd-only (one-if (odd n)) n (omega (arith, one-if-le (odd n))) h (odd-one-if (odd n))
 
--- LISTS. A list of bits of length n is a number below 2 ^ n
-pub value-bound : (s : List Bool) → value s < 2 ^ length s
-unfolding value
-value-bound [] = omega arith
-value-bound (b ∷ s) = omega (arith, one-if-le b, value-bound s, pow-suc 2 (length s))
-
--- the first bit is the number mod 2
+-- LISTS. The first bit is the number mod 2
 value-first : (s : List Bool) → value s % 2 ≡ one-if (getD s 0 false)
 unfolding value one-if
 value-first [] = refl
@@ -107,7 +101,7 @@ ones-dot (g ∷ gs) (u ∷ us) =
     let l : one-if g ≤ 1 = one-if-le g in
     let r : ℕ = min (one-if g) (one-if u) in
     let e : bitAnd (value (g ∷ gs)) (value (u ∷ us)) ≡ bitAnd (value gs) (value us) * 2 + r =
-        rw (and-step (value (g ∷ gs)) (value (u ∷ us)), value-half g gs, value-half u us, value-first (g ∷ gs), value-first (u ∷ us)) in
+    rw (and-step (value (g ∷ gs)) (value (u ∷ us)), value-half g gs, value-half u us, value-first (g ∷ gs), value-first (u ∷ us)) in
     ap (λ (x : ℕ). odd (ones x)) e ∙ ap odd (ones-pair (bitAnd (value gs) (value us)) r (omega arith)) ∙ odd-add r _
     ∙ ap₂ (λ (x y : Bool). x +₂ y) (min-bits g u) (ones-dot gs us)
 
@@ -125,7 +119,7 @@ number-value zero f h = refl
 number-value (suc n) f h = ap₂ (λ (x y : ℕ). x + 2 * y) (sym (one-if-odd (f 0) (h 0))) (number-value n (λ i. f (suc i)) (λ i. h (suc i)))
 
 -- the taps of a generator are its digits
-pub taps-value : (m g : ℕ) → tapsOf m g ≡ value (digitsOf m g)
+pub taps-value : (m g : ℕ) → tapsOf m g ≡ value (digitBits m g)
 unfolding tapsOf
 taps-value m g = number-value (suc m) (digit m g) (digit-bound m g)
 

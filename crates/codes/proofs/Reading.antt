@@ -16,7 +16,7 @@ use Rattle.cells.proofs.Places.{sumOf-same, sumOf-zero, sumOf-add}
 use Rattle.codes.specs.Generators.{digit}
 use Rattle.codes.specs.Reading.{ago, sumBit}
 use Rattle.codes.specs.Sequences.{_+₂_, Bits, zeros, _⊕_, scale, shift, conv, odd}
-use Rattle.codes.specs.Encoders.{digitsOf}
+use Rattle.codes.specs.Encoders.{digitBits}
 use Rattle.codes.proofs.Sequences.{odd-add, odd-mul, odd-mod-two}
 
 -- AGO. No stage ago is now
@@ -62,7 +62,7 @@ sumBit-bound m g1 g a b t = mod-lt _ (zero-lt-suc 1)
 
 -- it is g times the bits a plus G1 times the bits b
 pub sumBit-conv : (m g1 g : ℕ) (a b : ℕ → ℕ) (t : ℕ)
-    → odd (sumBit m g1 g a b t) ≡ (conv (digitsOf m g) (λ s. odd (a s)) ⊕ conv (digitsOf m g1) (λ s. odd (b s))) t
+    → odd (sumBit m g1 g a b t) ≡ (conv (digitBits m g) (λ s. odd (a s)) ⊕ conv (digitBits m g1) (λ s. odd (b s))) t
 unfolding sumBit _⊕_
 sumBit-conv m g1 g a b t =
     odd-mod-two _ ∙ ap odd (sumOf-add (suc m) _ _) ∙ odd-add _ _

@@ -1,13 +1,12 @@
--- Laws of registers of the last bits: a convolution is what a register sums, the quotient is what a fed back register gives, and the register
--- steps back.
---   hist m t u            the bits before stage t, the newest first
---   conv-dot              a convolution at a stage is the sum of the generator with the bits so far
---   dot-state, push-state a register of m bits is all that generators of memory m need
---   conv-quotient         the generator times the quotient is the data
---   quotient-below        and nothing else is
---   conv-cancel           a generator whose digit 0 is 1 loses nothing
+-- Laws of registers of the last bits: a convolution is what a register sums, the quotient is what a fed back register gives, and the
+-- register steps back.
+--   hist m t u                         the bits before stage t, the newest first
+--   conv-dot                           a convolution at a stage is the sum of the generator with the bits so far
+--   dot-state, push-state              a register of m bits is all that generators of memory m need
+--   conv-quotient, quotient-below      the generator times the quotient is the data, and nothing else is
+--   conv-cancel                        a generator whose digit 0 is 1 loses nothing
 --   register-length, register-newest   the register has m bits, and its newest is the quotient's
---   stepBack-register     the register steps back, where the generator's last digit is 1
+--   stepBack-register                  the register steps back, where the generator's last digit is 1
 use mathlib.Core.Path.{_≡_, refl, sym, _∙_, ap, ap₂, fun-ext}
 use mathlib.Core.Bool.{Bool, true, false, _&&_}
 use mathlib.Core.List.{List, [], _∷_, _++_}
@@ -52,7 +51,7 @@ conv-dot m (g ∷ gs) u zero = ap (λ (b : Bool). (g && u 0) +₂ b) (sym (dot-n
 conv-dot m (g ∷ gs) u (suc t) = ap (λ (b : Bool). (g && u (suc t)) +₂ b) (conv-dot m gs u t)
 
 -- a register of m bits keeps what generators of m + 1 digits reach
-pub dot-take : (m : ℕ) (gs h : List Bool) → length gs ≤ m → dot gs (take m h) ≡ dot gs h
+dot-take : (m : ℕ) (gs h : List Bool) → length gs ≤ m → dot gs (take m h) ≡ dot gs h
 unfolding dot
 dot-take m [] h l = refl
 dot-take zero (g ∷ gs) h l = absurd (not-suc-le-zero l)
@@ -74,10 +73,10 @@ push-state (suc m) b h = ap (λ (l : List Bool). b ∷ l) (take-take m (suc m) h
 -- THE QUOTIENT: times the generator it is the data, and nothing else is
 module _ (m : ℕ) (gs : List Bool) where
   -- the register holds the quotient's last bits
-  pub register-hist : (d : Bits) (t : ℕ) → register m gs d t ≡ take m (hist m t (quotient m gs d))
+  register-hist : (d : Bits) (t : ℕ) → register m gs d t ≡ take m (hist m t (quotient m gs d))
   unfolding register hist quotient
   register-hist d zero = sym (hist-zero m (quotient m gs d))
-  register-hist d (suc t) = let x : Bool = quotient m gs d t in ap (push m x) (register-hist d t) ∙ push-state m x (hist m t (quotient m gs d))
+  register-hist d (suc t) = ap (push m (quotient m gs d t)) (register-hist d t) ∙ push-state m _ (hist m t (quotient m gs d))
 
   module _ (l : length gs ≤ m) where
     sum-quotient : (d : Bits) (t : ℕ) → dot (true ∷ gs) (hist m (suc t) (quotient m gs d)) ≡ d t

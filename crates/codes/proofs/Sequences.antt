@@ -33,11 +33,11 @@ pub +₂-comm : (a b : Bool) → a +₂ b ≡ b +₂ a
 +₂-comm true false = refl
 +₂-comm true true = refl
 
-pub +₂-self : (a : Bool) → a +₂ a ≡ false
++₂-self : (a : Bool) → a +₂ a ≡ false
 +₂-self false = refl
 +₂-self true = refl
 
-pub +₂-false : (a : Bool) → a +₂ false ≡ a
++₂-false : (a : Bool) → a +₂ false ≡ a
 +₂-false false = refl
 +₂-false true = refl
 
@@ -96,26 +96,26 @@ odd-only zero (suc (suc y)) h k e = absurd (let z : ⊥ = omega arith in z)
 odd-only (suc zero) (suc (suc y)) h k e = absurd (let z : ⊥ = omega arith in z)
 
 -- SEQUENCES. The laws of their sum
-pub ⊕-assoc : (x y z : Bits) → x ⊕ y ⊕ z ≡ x ⊕ (y ⊕ z)
+⊕-assoc : (x y z : Bits) → x ⊕ y ⊕ z ≡ x ⊕ (y ⊕ z)
 unfolding _⊕_
 ⊕-assoc x y z = fun-ext λ t. +₂-assoc (x t) (y t) (z t)
 
-pub ⊕-comm : (x y : Bits) → x ⊕ y ≡ y ⊕ x
+⊕-comm : (x y : Bits) → x ⊕ y ≡ y ⊕ x
 unfolding _⊕_
 ⊕-comm x y = fun-ext λ t. +₂-comm (x t) (y t)
 
-pub ⊕-left : (x y z : Bits) → x ⊕ (y ⊕ z) ≡ y ⊕ (x ⊕ z)
+⊕-left : (x y z : Bits) → x ⊕ (y ⊕ z) ≡ y ⊕ (x ⊕ z)
 ⊕-left x y z = sym (⊕-assoc x y z) ∙ ap (λ (w : Bits). w ⊕ z) (⊕-comm x y) ∙ ⊕-assoc y x z
 
-pub ⊕-self : (x : Bits) → x ⊕ x ≡ zeros
+⊕-self : (x : Bits) → x ⊕ x ≡ zeros
 unfolding _⊕_ zeros
 ⊕-self x = fun-ext λ t. +₂-self (x t)
 
-pub ⊕-zeros : (x : Bits) → x ⊕ zeros ≡ x
+⊕-zeros : (x : Bits) → x ⊕ zeros ≡ x
 unfolding _⊕_ zeros
 ⊕-zeros x = fun-ext λ t. +₂-false (x t)
 
-pub zeros-⊕ : (x : Bits) → zeros ⊕ x ≡ x
+zeros-⊕ : (x : Bits) → zeros ⊕ x ≡ x
 zeros-⊕ x = ⊕-comm zeros x ∙ ⊕-zeros x
 
 -- what is added twice goes
@@ -123,7 +123,7 @@ pub ⊕-twice : (x y : Bits) → x ⊕ (x ⊕ y) ≡ y
 ⊕-twice x y = sym (⊕-assoc x x y) ∙ ap (λ (w : Bits). w ⊕ y) (⊕-self x) ∙ zeros-⊕ y
 
 -- scale, shift and conv go through sums and through each other
-pub scale-⊕ : (g : Bool) (x y : Bits) → scale g (x ⊕ y) ≡ scale g x ⊕ scale g y
+scale-⊕ : (g : Bool) (x y : Bits) → scale g (x ⊕ y) ≡ scale g x ⊕ scale g y
 unfolding _⊕_ scale
 scale-⊕ g x y = fun-ext λ t. &&-+₂ g (x t) (y t)
 
@@ -173,7 +173,7 @@ unfolding conv
 conv-cons g gs x = refl
 
 -- conv of zeros is zeros
-pub conv-zeros : (g : List Bool) → conv g zeros ≡ zeros
+conv-zeros : (g : List Bool) → conv g zeros ≡ zeros
 conv-zeros [] = conv-nil zeros
 conv-zeros (g ∷ gs) = simp (conv-cons, conv-zeros gs, scale-zeros, shift-zeros, ⊕-zeros)
 
@@ -183,12 +183,12 @@ conv-⊕ [] x y = simp (conv-nil, ⊕-zeros)
 conv-⊕ (g ∷ gs) x y = simp (conv-cons, conv-⊕ gs x y, scale-⊕, shift-⊕, ⊕-assoc, ⊕-left)
 
 -- conv commutes with shift
-pub conv-shift : (g : List Bool) (x : Bits) → conv g (shift x) ≡ shift (conv g x)
+conv-shift : (g : List Bool) (x : Bits) → conv g (shift x) ≡ shift (conv g x)
 conv-shift [] x = simp (conv-nil, shift-zeros)
 conv-shift (g ∷ gs) x = simp (conv-cons, conv-shift gs x, shift-⊕, shift-scale)
 
 -- conv commutes with scale
-pub conv-scale : (g : List Bool) (b : Bool) (x : Bits) → conv g (scale b x) ≡ scale b (conv g x)
+conv-scale : (g : List Bool) (b : Bool) (x : Bits) → conv g (scale b x) ≡ scale b (conv g x)
 conv-scale [] b x = simp (conv-nil, scale-zeros)
 conv-scale (g ∷ gs) true x = simp scale-true
 conv-scale (g ∷ gs) false x = simp (scale-false, conv-zeros)

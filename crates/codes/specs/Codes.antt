@@ -5,7 +5,7 @@
 --   WindowsBefore strip q w   the program's windows w hold the cell bits before byte q of the data
 use mathlib.Core.Path.{_≡_}
 use mathlib.Core.List.{List}
-use Prim.Native.Nat.{ℕ, _+_, _*_, _%_, _^_}
+use Prim.Native.Nat.{ℕ, _+_, _*_, _%_, _^_, _≤_}
 use Rattle.cells.specs.Levels.{level}
 use Rattle.codes.specs.Generators.{Generators, g2, short, long}
 use Rattle.codes.specs.Taps.{firstBit, secondBit, windowOf}
@@ -29,9 +29,10 @@ generatorsOf c = named (c .name)
 abbrev pub nextOf : ℕ → ℕ → ℕ → ℕ
 nextOf m s d = (2 * s + d % 2) % 2 ^ m
 
--- a row of the program's table holds the memory and the generators of a code
+-- a row of the program's table holds the memory, which is at most 6, and the generators of a code
 pub record TableRow (c : Code) (r : CodeRow) : Type 0 where
   pub memory-is : r .memory ≡ generatorsOf c .memory
+  pub memory-fits : r .memory ≤ 6
   pub g1-is : r .g1 ≡ generatorsOf c .g1
   pub g2-is : r .g2 ≡ g2 (generatorsOf c)
 

@@ -1,5 +1,5 @@
-// The two coset codes, made by name: their table, and the states of their encoders. The modules: `parities`, what a code's generators make of
-// the last bits; `labels`, the data divided by the first generator; `strips`, reading a strip.
+// The two coset codes, made by name: their table, and the states of their encoders. Beside them `parities`, what the generators make of the
+// last bits; `labels`, the data divided by the first generator; and `strips`, reading a strip.
 mod labels;
 mod parities;
 mod strips;

@@ -1,9 +1,7 @@
--- The taps of the second generator of the code's row.
+-- The taps of G2 of the code's row.
 use mathlib.Core.Path.{_∙_, ap₂}
-use native.Mathlib.Omega.{arith}
 use borrow.Author.Needs.{needs}
 use Rattle.codes.specs.Taps.{tapsOf}
-use Rattle.codes.proofs.Codes.{memory-bounds}
 use Rattle.codes.proofs.Code.g2_taps.Statement.{statement}
 use Rattle.codes.proofs.Code.g2_taps.Tie as tie
 
@@ -11,10 +9,10 @@ generators-requires : tie.Need-generators-requires
 generators-requires c κs = search needs
 
 taps-requires : tie.Need-taps-requires
-taps-requires c κs = omega (arith, c .generators .ensures .memory-is, memory-bounds (c .before .args .self .name))
+taps-requires c κs = search needs
 
 returns : tie.Need-returns
-returns c = (c .taps .ensures .0 ∙ ap₂ tapsOf (c .before .generators .ensures .memory-is) (c .before .generators .ensures .g2-is), c .taps .ensures .1)
+returns c = let g = c .before .generators .ensures in (c .taps .ensures .0 ∙ ap₂ tapsOf (g .memory-is) (g .g2-is), c .taps .ensures .1)
 
 pub g2-taps-spec : {M : Type 1} → statement M
 g2-taps-spec = tie.close (tie.spec generators-requires taps-requires returns)

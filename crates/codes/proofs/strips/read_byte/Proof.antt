@@ -5,8 +5,7 @@ use native.Mathlib.Omega.{arith}
 use borrow.Author.Needs.{needs}
 use Rattle.cells.specs.Places.{number}
 use Rattle.cells.specs.Levels.{level}
-use Rattle.codes.specs.Taps.{firstBit, secondBit}
-use Rattle.codes.specs.Taps.{windowOf, tappedBit}
+use Rattle.codes.specs.Taps.{windowOf, firstBit, secondBit, tappedBit}
 use Rattle.cells.proofs.Places.{number-next, number-fits}
 use Rattle.codes.proofs.Taps.{window-less, tapped-bound, first-next, second-next, data-next}
 use Rattle.codes.proofs.strips.read_byte.Statement.{statement}
@@ -46,13 +45,16 @@ second-window c =
 byte-next : (c : tie.After-parity2 Inv-loop μ-loop) →
     let a = c .before .before .before .before .before .before .before .args in
     let l = c .before .before .before .before .before .loop in
-    l .byte + ((c .before .parity .result + c .parity2 .result) % 2 * 2 ^ l .i) % 2 ^ 32 ≡ number (l .i + 1) (λ k. tappedBit (a .g1) (a .g2) (level (a .strip .now)) (8 * a .q + k))
+    l .byte + ((c .before .parity .result + c .parity2 .result) % 2 * 2 ^ l .i) % 2 ^ 32
+    ≡ number (l .i + 1) (λ k. tappedBit (a .g1) (a .g2) (level (a .strip .now)) (8 * a .q + k))
 byte-next c =
     let a = c .before .before .before .before .before .before .before .args in
     let l = c .before .before .before .before .before .loop in
     let v = level (a .strip .now) in
+    let e = first-window (c .before .before) in
+    let f = second-window (c .before .before) in
     number-next (l .i) 32 (l .byte) _ _ (λ k. tapped-bound (a .g1) (a .g2) v (8 * a .q + k)) (omega arith) (l .inv .3)
-    (data-next v (a .q) (l .i) (a .g1) (a .g2) _ _ _ _ (first-window (c .before .before)) (second-window (c .before .before)) (c .before .parity .ensures .0) (c .parity2 .ensures .0))
+    (data-next v (a .q) (l .i) (a .g1) (a .g2) _ _ _ _ e f (c .before .parity .ensures .0) (c .parity2 .ensures .0))
 
 loop-holds : tie.Need-loop-holds Inv-loop μ-loop
 unfolding number
@@ -131,7 +133,8 @@ add-byte : tie.Need-add-byte Inv-loop μ-loop
 add-byte c =
     let a = c .before .before .before .before .before .before .before .args in
     let i = c .before .before .before .before .before .loop .i in
-    omega (arith, byte-next c, number-fits (i + 1) 32 _ (λ k. tapped-bound (a .g1) (a .g2) (level (a .strip .now)) (8 * a .q + k)) (omega arith))
+    let v = level (a .strip .now) in
+    omega (arith, byte-next c, number-fits (i + 1) 32 _ (λ k. tapped-bound (a .g1) (a .g2) v (8 * a .q + k)) (omega arith))
 
 add-i : tie.Need-add-i Inv-loop μ-loop
 add-i c = search needs
@@ -145,7 +148,8 @@ loop-again c = (omega arith, first-window (c .before .before), second-window (c 
 cast-t20 : tie.Need-cast-t20 Inv-loop μ-loop
 cast-t20 c =
     let a = c .before .before .before .args in
-    omega (arith, number-fits (c .before .loop .i) 8 _ (λ k. tapped-bound (a .g1) (a .g2) (level (a .strip .now)) (8 * a .q + k)) (omega arith))
+    let v = level (a .strip .now) in
+    omega (arith, number-fits (c .before .loop .i) 8 _ (λ k. tapped-bound (a .g1) (a .g2) v (8 * a .q + k)) (omega arith))
 
 returns : tie.Need-returns Inv-loop μ-loop
 returns c =
