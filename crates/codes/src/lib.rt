@@ -42,6 +42,7 @@ const CODE_TABLE: [CodeRow; 2] = [
 ];
 
 impl Code {
+    // The most memory that a code has.
     pub const MAX_MEMORY: u32 = 6;
 
     pub fn short() -> Code
@@ -56,6 +57,7 @@ impl Code {
         Code { name: Name::Long }
     }
 
+    // The code's row of the table.
     fn generators(self) -> CodeRow
         ensures { λ r. ⌜ TableRow self r ⌝ }
     {

@@ -28,6 +28,9 @@ next-digit c =
     let l = c .before .loop in
     number-next (l .i) 32 (l .sum) _ _ (digit-bound (a .memory) (a .generator)) (omega arith) (l .inv .1) refl
 
+loop-again : tie.Need-loop-again Inv-loop μ-loop
+loop-again c = (omega arith, next-digit c)
+
 loop-holds : tie.Need-loop-holds Inv-loop μ-loop
 unfolding number
 loop-holds c = search needs
@@ -49,9 +52,6 @@ add-i c = search needs
 
 loop-less : tie.Need-loop-less Inv-loop μ-loop
 loop-less c = search needs
-
-loop-again : tie.Need-loop-again Inv-loop μ-loop
-loop-again c = (omega arith, next-digit c)
 
 returns : tie.Need-returns Inv-loop μ-loop
 unfolding tapsOf
