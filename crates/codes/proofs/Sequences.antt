@@ -139,29 +139,25 @@ scale-true : (x : Bits) → scale true x ≡ x
 unfolding scale
 scale-true x = refl
 
+-- sequences are the same if they are at stage 0 and after it
+by-stage : {x y : Bits} → x 0 ≡ y 0 → ((t : ℕ) → x (suc t) ≡ y (suc t)) → x ≡ y
+by-stage {x} {y} a b = fun-ext go
+  where
+    go : (t : ℕ) → x t ≡ y t
+    go zero = a
+    go (suc t) = b t
+
 shift-⊕ : (x y : Bits) → shift (x ⊕ y) ≡ shift x ⊕ shift y
 unfolding _⊕_ shift
-shift-⊕ x y = fun-ext go
-  where
-    go : (t : ℕ) → (shift (x ⊕ y)) t ≡ (shift x ⊕ shift y) t
-    go zero = refl
-    go (suc t) = refl
+shift-⊕ x y = by-stage refl (λ t. refl)
 
 shift-zeros : shift zeros ≡ zeros
 unfolding zeros shift
-shift-zeros = fun-ext go
-  where
-    go : (t : ℕ) → shift zeros t ≡ zeros t
-    go zero = refl
-    go (suc t) = refl
+shift-zeros = by-stage refl (λ t. refl)
 
 shift-scale : (g : Bool) (x : Bits) → shift (scale g x) ≡ scale g (shift x)
 unfolding scale shift
-shift-scale g x = fun-ext go
-  where
-    go : (t : ℕ) → shift (scale g x) t ≡ scale g (shift x) t
-    go zero = sym (&&-false g)
-    go (suc t) = refl
+shift-scale g x = by-stage (sym (&&-false g)) (λ t. refl)
 
 -- the clauses of conv as equations
 conv-nil : (x : Bits) → conv [] x ≡ zeros

@@ -1,11 +1,11 @@
 -- Laws of the program's taps and windows: their parities are the paper's sums.
---   ones-pair        the ones of a number, from its last bit and its half
---   parity-digits    a parity is the sum mod 2 of digit i times bit i of the window
---   window-bit       bit i of a window is what the sequence was i stages ago
---   parity-window    a parity with a window is the sum mod 2 of digit i times what the sequence was i stages ago
---   tapped-data      the data bit by taps and windows is the paper's
+--   ones-pair                            the ones of a number, from its last bit and its half
+--   parity-digits                        a parity is the sum mod 2 of digit i times bit i of the window
+--   window-bit                           bit i of a window is what the sequence was i stages ago
+--   parity-window                        a parity with a window is the sum mod 2 of digit i times what the sequence was i stages ago
+--   tapped-data                          the data bit by taps and windows is the paper's
 --   first-next, second-next, data-next   a turn of reading a byte
---   read-bytes       bytes of such data bits are what the strip reads as
+--   read-bytes                           bytes of such data bits are what the strip reads as
 use mathlib.Core.Path.{_≡_, sym, _∙_, ap, ap₂}
 use mathlib.Core.List.{List}
 use Prim.Native.Nat.{ℕ, zero, suc, _<_, _≤_, _+_, _*_, _-_, _/_, _%_, _^_, min}
