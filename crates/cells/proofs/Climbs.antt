@@ -1,4 +1,9 @@
--- What a climb costs: nothing where the cell stays, the step's weight for one step, and more for each step that costs something.
+-- What a climb costs, for any weights of the steps.
+--   climb-stay     a cell that stays costs nothing
+--   climb-step     a climb of one level costs its step
+--   climb-more     one level more costs its last step more
+--   climb-same     a climb costs what its number of steps from its level says
+--   climb-rises    a higher climb costs more, where no step is free
 use mathlib.Core.Path.{_≡_, refl, _∙_, ap}
 use Prim.Native.Nat.{ℕ, zero, suc, _<_, _≤_, _+_, _-_}
 use native.Mathlib.Omega.{arith}
@@ -19,7 +24,9 @@ module _ (w : ℕ → ℕ) where
   climb-more from to h =
       let e : suc to - from ≡ suc (to - from) = omega arith in
       let f : from + (to - from) ≡ to = omega arith in
-      ap (λ (n : ℕ). sumOf n (λ i. w (from + i))) e ∙ sumOf-more (to - from) (λ i. w (from + i)) ∙ ap (λ (l : ℕ). sumOf (to - from) (λ i. w (from + i)) + w l) f
+      ap (λ (n : ℕ). sumOf n (λ i. w (from + i))) e
+      ∙ sumOf-more (to - from) (λ i. w (from + i))
+      ∙ ap (λ (l : ℕ). sumOf (to - from) (λ i. w (from + i)) + w l) f
 
   -- a climb costs what its number of steps from its level says
   pub climb-same : (from to high : ℕ) → to - from ≡ high - from → climb w from to ≡ climb w from high
@@ -31,10 +38,12 @@ module _ (w : ℕ → ℕ) where
   climb-step v = let h : v ≤ v = omega arith in omega (arith, climb-more v v h, climb-stay v)
 
   -- a higher climb costs more, where each step below the top costs something
-  pub climb-rises : (top : ℕ) → ((l : ℕ) → l < top → 0 < w l) → (from low high : ℕ) → from ≤ low → low < high → high ≤ top → climb w from low < climb w from high
+  pub climb-rises : (top : ℕ) → ((l : ℕ) → l < top → 0 < w l) → (from low high : ℕ) → from ≤ low → low < high → high ≤ top
+      → climb w from low < climb w from high
   climb-rises top dear from low zero h k l = absurd (not-suc-le-zero k)
   climb-rises top dear from low (suc high) h k l = go (high - low) refl (climb-rises top dear from low high h)
     where
-      go : (n : ℕ) → high - low ≡ n → (low < high → high ≤ top → climb w from low < climb w from high) → climb w from low < climb w from (suc high)
+      go : (n : ℕ) → high - low ≡ n → (low < high → high ≤ top → climb w from low < climb w from high)
+          → climb w from low < climb w from (suc high)
       go zero e f = let s : high ≡ low = omega arith in omega (arith, climb-more from high (omega arith), dear high l, ap (climb w from) s)
       go (suc n) e f = omega (arith, climb-more from high (omega arith), f (omega arith) (omega arith))

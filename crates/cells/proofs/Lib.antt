@@ -1,7 +1,6 @@
 -- The laws of cells, in the order of the definitions.
 pub mod Places
 pub mod Bytes
-pub mod Setting
 pub mod Levels
 pub mod Raising
 pub mod Climbs

@@ -1,6 +1,18 @@
--- Lists, sums and numbers, place by place: their lengths, their places, and that they depend on their places alone.
+-- Lists, sums and numbers, made place by place.
+--   length-listOf    listOf n f has n places, and f i at place i (listOf-at)
+--   listOf-same      a list, a sum (sumOf-same) and a number (number-same) depend on their places alone
+--   listOf-getD      a list is the list of its places
+--   sumOf-more       a sum by its last place; of zeros (-zero); by parts (-parts); of two sums (-add)
+--   sumOf-le         a sum of n numbers that are at most k each
+--   number-more      a number by its last bit; by two runs of bits (-join); as the code adds them up (-next)
+--   number-less      n bits make a number below 2 ^ n, which fits n bits and more (-fits)
+--   one-shl          what 1 << i is
+--   half-power       halving drops bit 0
+--   store-more       what a loop that stores place by place has stored
+--   same?            two numbers are the same, or not
 use mathlib.Core.Path.{_≡_, refl, sym, _∙_, ap, ap₂}
-use mathlib.Core.List.{List, _∷_, _++_}
+use mathlib.Core.List.{List, _∷_}
+use mathlib.Core.Logic.{_⊎_, inl, inr, ⊎-elim}
 use Prim.Native.Nat.{ℕ, zero, suc, _<_, _≤_, _+_, _*_, _/_, _%_, _^_}
 use native.Mathlib.Omega.{arith}
 use native.Mathlib.Nat.{not-suc-le-zero, div-div-eq-div-mul, mul-assoc, mul-comm, pow-suc}
@@ -28,39 +40,35 @@ module _ {A : Type 0} where
   pub listOf-same : (n : ℕ) (f g : ℕ → A) → ((i : ℕ) → i < n → f i ≡ g i) → listOf n f ≡ listOf n g
   unfolding listOf
   listOf-same zero f g e = refl
-  listOf-same (suc n) f g e = ap₂ (λ (x : A) (l : List A). x ∷ l) (e 0 (omega arith)) (listOf-same n (λ i. f (suc i)) (λ i. g (suc i)) (λ i h. e (suc i) (omega arith)))
+  listOf-same (suc n) f g e =
+      ap₂ (λ (x : A) (l : List A). x ∷ l) (e 0 (omega arith))
+      (listOf-same n (λ i. f (suc i)) (λ i. g (suc i)) (λ i h. e (suc i) (omega arith)))
 
   -- a list is the list of its places
   pub listOf-getD : (n : ℕ) (l : List A) (d : A) → length l ≡ n → listOf n (λ i. getD l i d) ≡ l
-  listOf-getD n l d e = ext-getD d _ l (length-listOf n _ ∙ sym e) (λ i h. listOf-at n _ i d (let k : i < n = rw (length-listOf n (λ i. getD l i d)) at h in k))
-
-  -- n places, and m more
-  pub listOf-append : (n m : ℕ) (f : ℕ → A) → listOf (n + m) f ≡ listOf n f ++ listOf m (λ i. f (n + i))
-  unfolding listOf
-  listOf-append zero m f = let e : 0 + m ≡ m = omega arith in rw e (listOf-same m f _ (λ i h. ap f (omega arith)))
-  listOf-append (suc n) m f =
-      let e : suc n + m ≡ suc (n + m) = omega arith in
-      rw e (ap (λ (l : List A). f 0 ∷ l) (
-      listOf-append n m (λ i. f (suc i)) ∙ ap (λ (l : List A). listOf n (λ i. f (suc i)) ++ l) (listOf-same m _ _ (λ i h. ap f (omega arith)))
-      ))
+  listOf-getD n l d e =
+      ext-getD d _ l (length-listOf n _ ∙ sym e) (λ i h.
+      let k : i < n = rw (length-listOf n (λ i. getD l i d)) at h in
+      listOf-at n _ i d k)
 
 -- the same places, the same sum
 pub sumOf-same : (n : ℕ) (f g : ℕ → ℕ) → ((i : ℕ) → i < n → f i ≡ g i) → sumOf n f ≡ sumOf n g
 unfolding sumOf
 sumOf-same zero f g e = refl
-sumOf-same (suc n) f g e = ap₂ (λ (x y : ℕ). x + y) (e 0 (omega arith)) (sumOf-same n (λ i. f (suc i)) (λ i. g (suc i)) (λ i h. e (suc i) (omega arith)))
+sumOf-same (suc n) f g e = omega (arith, e 0 (omega arith), sumOf-same n (λ i. f (suc i)) (λ i. g (suc i)) (λ i h. e (suc i) (omega arith)))
 
 -- the same places, the same number
 pub number-same : (n : ℕ) (f g : ℕ → ℕ) → ((i : ℕ) → i < n → f i ≡ g i) → number n f ≡ number n g
 unfolding number
 number-same zero f g e = refl
-number-same (suc n) f g e = ap₂ (λ (x y : ℕ). x + 2 * y) (e 0 (omega arith)) (number-same n (λ i. f (suc i)) (λ i. g (suc i)) (λ i h. e (suc i) (omega arith)))
+number-same (suc n) f g e =
+    omega (arith, e 0 (omega arith), number-same n (λ i. f (suc i)) (λ i. g (suc i)) (λ i h. e (suc i) (omega arith)))
 
 -- a sum by its last place: what a loop adds at its last turn
 pub sumOf-more : (n : ℕ) (f : ℕ → ℕ) → sumOf (suc n) f ≡ sumOf n f + f n
 unfolding sumOf
 sumOf-more zero f = omega arith
-sumOf-more (suc n) f = let e : sumOf (suc n) (λ i. f (suc i)) ≡ sumOf n (λ i. f (suc i)) + f (suc n) = sumOf-more n (λ i. f (suc i)) in omega (arith, e)
+sumOf-more (suc n) f = omega (arith, sumOf-more n (λ i. f (suc i)))
 
 -- a sum of n numbers that are at most k each
 pub sumOf-le : (n k : ℕ) (f : ℕ → ℕ) → ((i : ℕ) → i < n → f i ≤ k) → sumOf n f ≤ n * k
@@ -81,7 +89,7 @@ sumOf-add zero f g = refl
 sumOf-add (suc n) f g = omega (arith, sumOf-add n (λ i. f (suc i)) (λ i. g (suc i)))
 
 -- a sum of n places, and of m more
-pub sumOf-append : (n m : ℕ) (f : ℕ → ℕ) → sumOf (n + m) f ≡ sumOf n f + sumOf m (λ i. f (n + i))
+sumOf-append : (n m : ℕ) (f : ℕ → ℕ) → sumOf (n + m) f ≡ sumOf n f + sumOf m (λ i. f (n + i))
 unfolding sumOf
 sumOf-append zero m f = let e : 0 + m ≡ m = omega arith in rw e (omega (arith, sumOf-same m f (λ i. f (0 + i)) (λ i h. ap f (omega arith))))
 sumOf-append (suc n) m f =
@@ -96,16 +104,19 @@ sumOf-parts w zero f = let e : w * 0 ≡ 0 = omega arith in rw e
 sumOf-parts w (suc S) f =
     let e : w * suc S ≡ w + w * S = omega arith in
     let a : sumOf w f ≡ sumOf w (λ c. f (w * 0 + c)) = sumOf-same w _ _ (λ c h. ap f (omega arith)) in
-    let b : sumOf S (λ j. sumOf w (λ c. f (w + (w * j + c)))) ≡ sumOf S (λ j. sumOf w (λ c. f (w * suc j + c))) = sumOf-same S _ _ (λ j h. sumOf-same w _ _ (λ c k. ap f (omega arith))) in
+    let b : sumOf S (λ j. sumOf w (λ c. f (w + (w * j + c)))) ≡ sumOf S (λ j. sumOf w (λ c. f (w * suc j + c))) =
+    sumOf-same S _ _ (λ j h. sumOf-same w _ _ (λ c k. ap f (omega arith))) in
     rw e (omega (arith, sumOf-append w (w * S) f, sumOf-parts w S (λ i. f (w + i)), a, b))
 
--- NUMBERS. A number grows by its last bit
+-- NUMBERS. A number, times the next power
+double-power : (x n : ℕ) → x * 2 ^ suc n ≡ 2 * (x * 2 ^ n)
+double-power x n = ap (λ (y : ℕ). x * y) (pow-suc 2 n) ∙ sym (mul-assoc x (2 ^ n) 2) ∙ mul-comm (x * 2 ^ n) 2
+
+-- a number grows by its last bit
 pub number-more : (n : ℕ) (f : ℕ → ℕ) → number (suc n) f ≡ number n f + f n * 2 ^ n
 unfolding number
 number-more zero f = omega arith
-number-more (suc n) f =
-    let p : f (suc n) * 2 ^ suc n ≡ 2 * (f (suc n) * 2 ^ n) = ap (λ (x : ℕ). f (suc n) * x) (pow-suc 2 n) ∙ sym (mul-assoc (f (suc n)) (2 ^ n) 2) ∙ mul-comm (f (suc n) * 2 ^ n) 2 in
-    omega (arith, p, number-more n (λ i. f (suc i)))
+number-more (suc n) f = omega (arith, double-power (f (suc n)) n, number-more n (λ i. f (suc i)))
 
 -- n bits make a number below 2 ^ n
 pub number-less : (n : ℕ) (f : ℕ → ℕ) → ((i : ℕ) → f i < 2) → number n f < 2 ^ n
@@ -122,7 +133,8 @@ pub one-shl : (i w : ℕ) → i < w → (1 * 2 ^ i) % 2 ^ w ≡ 2 ^ i
 one-shl i w l = let e : 1 * 2 ^ i ≡ 2 ^ i = omega arith in bit-shl 1 i w (omega arith) l ∙ e
 
 -- i bits added up and the next make i + 1 bits added up
-pub number-next : (i w d b : ℕ) (f : ℕ → ℕ) → ((k : ℕ) → f k < 2) → i < w → d ≡ number i f → b ≡ f i → d + (b * 2 ^ i) % 2 ^ w ≡ number (i + 1) f
+pub number-next : (i w d b : ℕ) (f : ℕ → ℕ) → ((k : ℕ) → f k < 2) → i < w → d ≡ number i f → b ≡ f i
+    → d + (b * 2 ^ i) % 2 ^ w ≡ number (i + 1) f
 number-next i w d b f h l p q =
     let e : (b * 2 ^ i) % 2 ^ w ≡ f i * 2 ^ i = bit-shl b i w (rw q (h i)) l ∙ ap (λ (y : ℕ). y * 2 ^ i) q in
     let s : suc i ≡ i + 1 = omega arith in
@@ -139,14 +151,22 @@ number-join zero n f = let e : 0 + n ≡ n = omega arith in rw e (omega (arith, 
 number-join (suc m) n f =
     let e : suc m + n ≡ suc (m + n) = omega arith in
     let s : number n (λ i. f (suc m + i)) ≡ number n (λ i. f (suc (m + i))) = number-same n _ _ (λ i h. ap f (omega arith)) in
-    let p : number n (λ i. f (suc (m + i))) * 2 ^ suc m ≡ 2 * (number n (λ i. f (suc (m + i))) * 2 ^ m) = ap (λ (x : ℕ). number n (λ i. f (suc (m + i))) * x) (pow-suc 2 m) ∙ sym (mul-assoc (number n (λ i. f (suc (m + i)))) (2 ^ m) 2) ∙ mul-comm (number n (λ i. f (suc (m + i))) * 2 ^ m) 2 in
-    rw (e, s) (omega (arith, p, number-join m n (λ i. f (suc i))))
+    rw (e, s) (omega (arith, double-power (number n (λ i. f (suc (m + i)))) m, number-join m n (λ i. f (suc i))))
 
 -- halving drops bit 0
 pub half-power : (x j : ℕ) → x / 2 ^ suc j ≡ x / 2 / 2 ^ j
 half-power x j = let e : 2 ^ suc j ≡ 2 * 2 ^ j = omega arith in ap (λ (d : ℕ). x / d) e ∙ sym (div-div-eq-div-mul x 2 (2 ^ j))
 
 -- STORES. A loop that stores f k at each place k has stored one more
-pub store-more : (r : List ℕ) (n x : ℕ) (f : ℕ → ℕ) → n < length r → x ≡ f n → ((k : ℕ) → k < n → getD r k 0 ≡ f k) → (k : ℕ) → k < n + 1 → getD (set r n x) k 0 ≡ f k
+pub store-more : (r : List ℕ) (n x : ℕ) (f : ℕ → ℕ) → n < length r → x ≡ f n → ((k : ℕ) → k < n → getD r k 0 ≡ f k)
+    → (k : ℕ) → k < n + 1 → getD (set r n x) k 0 ≡ f k
 store-more r n x f h e p =
-    below-more (λ (k : ℕ). getD (set r n x) k 0 ≡ f k) n (λ k l. getD-set-other r n k x 0 (λ z. omega arith) ∙ p k l) (getD-set-same r n x 0 h ∙ e)
+    below-more (λ (k : ℕ). getD (set r n x) k 0 ≡ f k) n
+    (λ k l. getD-set-other r n k x 0 (λ z. omega arith) ∙ p k l) (getD-set-same r n x 0 h ∙ e)
+
+-- NUMBERS. Two are the same, or not
+pub same? : (a b : ℕ) → (a ≡ b) ⊎ (a ≡ b → ⊥)
+same? zero zero = inl refl
+same? zero (suc b) = inr (λ e. omega arith)
+same? (suc a) zero = inr (λ e. omega arith)
+same? (suc a) (suc b) = ⊎-elim (λ e. inl (ap suc e)) (λ n. inr (λ e. n (omega arith))) (same? a b)

@@ -1,22 +1,33 @@
--- Raising to given levels is exact: the levels after it are the given ones, and a cell that isn't raised keeps its bits. To raise one cell is to set
--- its lowest zero.
-use mathlib.Core.Path.{_≡_, refl, sym, _∙_, ap, ap₂, subst⁻¹}
+-- Raising to given levels is exact, wherever the raises of a cell start, and to raise one cell is to set its first zero from there on.
+--   zeroFrom-first       the first zero of three bits from bit s on: s itself, or the next (-second), or the one after (-third)
+--   raisedTo-length      a page raised is as long as before, and of bytes (-octets)
+--   raisedTo-bit         bit i of cell c, and no other list of bytes has these bits (-only)
+--   raisedTo-level       the levels after it are the given ones
+--   raisedTo-keeps       a cell that isn't raised keeps its bits
+--   raisedTo-same        it depends on the levels to reach, and on the starts (-start), of the page's own cells alone
+--   raisedTo-none        to raise each cell to its own level changes nothing
+--   canRise-yes          which cells can rise, and which cannot (-outside, -full)
+--   raisedTo-more        raised to levels, and one cell that they leave (-still) then raised by one, which a full cell ignores (-full)
+--   withBit-raises       to set the first zero of a cell, which is there (zeroFrom-unset), is to raise the cell
+use mathlib.Core.Path.{_≡_, refl, sym, _∙_, ap, ap₂}
 use mathlib.Core.Logic.{⊎-elim}
-use mathlib.Core.Bool.{Bool, true, false, cond, _&&_, and-false}
+use mathlib.Core.Bool.{Bool, true, false, _&&_, and-false}
 use mathlib.Core.List.{List, [], _∷_}
 use Prim.Native.Nat.{ℕ, zero, suc, _<_, _≤_, _+_, _*_, _-_, _/_, _%_}
 use native.Mathlib.Omega.{arith}
-use lib.Dec.{eqb, ltb}
-use lib.ListN.{length, getD}
-use borrow.Author.Tests.{lt-ltb, le-ltb, ltb-true, eq-eqb, ne-eqb}
-use Rattle.cells.specs.Bytes.{bitOf, Octets}
+use lib.Dec.{ltb}
+use lib.ListN.{length, getD, set}
+use lib.Seq.{getD-set-same, getD-set-other}
+use borrow.Author.Tests.{lt-ltb, le-ltb, eq-eqb, ne-eqb}
+use Rattle.cells.specs.Bytes.{bitOf, Octets, Unset, withBit}
 use Rattle.cells.specs.Levels.{level}
-use Rattle.cells.specs.Raising.{raise, raisedTimes, triple, raisedTo, oneHigher, raisedCell, canRise, withBit, Unset, lowestZero}
+use Rattle.cells.specs.Raising.{zeroFrom, raise, raisedTimes, triple, raisedTo, oneHigher, raisedCell, canRise}
+use Rattle.cells.proofs.Places.{same?}
 use Rattle.cells.proofs.Bytes.{bit-bound, length-bytesOf, bytesOf-bit, bytesOf-same, bytes-bits, octets-bytesOf}
+use Rattle.cells.proofs.Bytes.{length-withBit, bit-same, bit-other, octets-withBit}
 use Rattle.cells.proofs.Levels.{level-bound}
-use Rattle.cells.proofs.Setting.{same?, length-withBit, bit-same, bit-other, octets-withBit}
 
--- three bits
+-- THREE BITS. Each is 0 or 1
 data Three : List ℕ → Type 0 where
   three : {x y z : ℕ} → x < 2 → y < 2 → z < 2 → Three (x ∷ y ∷ z ∷ [])
 
@@ -26,7 +37,7 @@ unfolding triple
 triple-three page c = three (bit-bound page (3 * c)) (bit-bound page (3 * c + 1)) (bit-bound page (3 * c + 2))
 
 -- bit i of the three
-triple-bit : (page : List ℕ) (c i : ℕ) → i < 3 → getD (triple page c) i 0 ≡ bitOf page (3 * c + i)
+pub triple-bit : (page : List ℕ) (c i : ℕ) → i < 3 → getD (triple page c) i 0 ≡ bitOf page (3 * c + i)
 unfolding triple
 triple-bit page c zero h = ap (bitOf page) (omega arith)
 triple-bit page c (suc zero) h = refl
@@ -40,113 +51,180 @@ three-bit (three p q r) (suc zero) = q
 three-bit (three p q r) (suc (suc zero)) = r
 three-bit (three p q r) (suc (suc (suc i))) = omega arith
 
+-- three bits by their places
+list3 : {x x′ y y′ z z′ : ℕ} → x ≡ x′ → y ≡ y′ → z ≡ z′ → (x ∷ y ∷ z ∷ []) ≡ (x′ ∷ y′ ∷ z′ ∷ [])
+list3 p q r = cc
+
 -- the number of ones
 ones : List ℕ → ℕ
 ones l = getD l 0 0 + getD l 1 0 + getD l 2 0
 
--- a raise leaves three bits
-raise-three : {l : List ℕ} → Three l → Three (raise l)
-unfolding raise
-raise-three (three {x = zero} p q r) = let h : 1 < 2 = omega arith in three h q r
-raise-three (three {x = suc x} {y = zero} p q r) = let h : 1 < 2 = omega arith in three p h r
-raise-three (three {x = suc x} {y = suc y} {z = zero} p q r) = let h : 1 < 2 = omega arith in three p q h
-raise-three (three {x = suc x} {y = suc y} {z = suc z} p q r) = three p q r
+-- ONE BIT SET. Three bits are left
+set-three : {l : List ℕ} → Three l → (i : ℕ) → Three (set l i 1)
+set-three (three p q r) zero = let h : 1 < 2 = omega arith in three h q r
+set-three (three p q r) (suc zero) = let h : 1 < 2 = omega arith in three p h r
+set-three (three p q r) (suc (suc zero)) = let h : 1 < 2 = omega arith in three p q h
+set-three (three p q r) (suc (suc (suc i))) = three p q r
 
--- a raise adds a one where there is a zero
-raise-ones : {l : List ℕ} → Three l → ones l < 3 → ones (raise l) ≡ suc (ones l)
-unfolding raise ones
-raise-ones (three {x = zero} p q r) h = omega arith
-raise-ones (three {x = suc x} {y = zero} p q r) h = omega arith
-raise-ones (three {x = suc x} {y = suc y} {z = zero} p q r) h = omega arith
-raise-ones (three {x = suc x} {y = suc y} {z = suc z} p q r) h = omega arith
+-- with a one more, where the bit was 0
+set-ones : {l : List ℕ} → Three l → (i : ℕ) → i < 3 → getD l i 0 ≡ 0 → ones (set l i 1) ≡ suc (ones l)
+unfolding ones
+set-ones (three p q r) zero h e = omega arith
+set-ones (three p q r) (suc zero) h e = omega arith
+set-ones (three p q r) (suc (suc zero)) h e = omega arith
+set-ones (three p q r) (suc (suc (suc i))) h e = absurd (let z : ⊥ = omega arith in z)
 
--- several raises leave three bits
-raised-three : (n : ℕ) {l : List ℕ} → Three l → Three (raisedTimes n l)
-unfolding raisedTimes
-raised-three zero t = t
-raised-three (suc n) t = raise-three (raised-three n t)
+-- three ones are left as they are
+set-full : {l : List ℕ} → Three l → ones l ≡ 3 → (i : ℕ) → set l i 1 ≡ l
+unfolding ones
+set-full (three p q r) e zero = list3 (omega arith) refl refl
+set-full (three p q r) e (suc zero) = list3 refl (omega arith) refl
+set-full (three p q r) e (suc (suc zero)) = list3 refl refl (omega arith)
+set-full (three p q r) e (suc (suc (suc i))) = refl
 
--- each of several raises adds a one
-raised-ones : (n : ℕ) {l : List ℕ} → Three l → ones l + n ≤ 3 → ones (raisedTimes n l) ≡ ones l + n
-unfolding raisedTimes
-raised-ones zero t h = omega arith
-raised-ones (suc n) {l} t h =
-    let e : ones (raisedTimes n l) ≡ ones l + n = raised-ones n t (omega arith) in
-    let k : ones (raisedTimes n l) < 3 = omega arith in
-    raise-ones (raised-three n t) k ∙ omega arith
+-- THE FIRST ZERO from bit s on is that bit
+module _ (s : ℕ) (bits : List ℕ) where
+  pub zeroFrom-first : getD bits (s % 3) 0 ≡ 0 → zeroFrom s bits ≡ s % 3
+  unfolding zeroFrom
+  zeroFrom-first e = rw (eq-eqb _ _ e)
 
--- three ones are raised no more
-raise-full : {l : List ℕ} → Three l → ones l ≡ 3 → raise l ≡ l
-unfolding raise ones
-raise-full (three {x = zero} p q r) h = absurd (let z : ⊥ = omega arith in z)
-raise-full (three {x = suc x} {y = zero} p q r) h = absurd (let z : ⊥ = omega arith in z)
-raise-full (three {x = suc x} {y = suc y} {z = zero} p q r) h = absurd (let z : ⊥ = omega arith in z)
-raise-full (three {x = suc x} {y = suc y} {z = suc z} p q r) h = refl
+  -- or the next
+  pub zeroFrom-second : (getD bits (s % 3) 0 ≡ 0 → ⊥) → getD bits ((s + 1) % 3) 0 ≡ 0 → zeroFrom s bits ≡ (s + 1) % 3
+  unfolding zeroFrom
+  zeroFrom-second n e = rw (ne-eqb _ _ n, eq-eqb _ _ e)
+
+  -- or the one after
+  pub zeroFrom-third : (getD bits (s % 3) 0 ≡ 0 → ⊥) → (getD bits ((s + 1) % 3) 0 ≡ 0 → ⊥) → zeroFrom s bits ≡ (s + 2) % 3
+  unfolding zeroFrom
+  zeroFrom-third n m = rw (ne-eqb _ _ n, ne-eqb _ _ m)
+
+-- going round from any bit on meets all three
+ones-round : (s : ℕ) (l : List ℕ) → getD l (s % 3) 0 + getD l ((s + 1) % 3) 0 + getD l ((s + 2) % 3) 0 ≡ ones l
+unfolding ones
+ones-round zero l = refl
+ones-round (suc s) l =
+    let a : suc s % 3 ≡ (s + 1) % 3 = omega arith in
+    let b : (suc s + 1) % 3 ≡ (s + 2) % 3 = omega arith in
+    let c : (suc s + 2) % 3 ≡ s % 3 = omega arith in
+    rw (a, b, c) (omega (arith, ones-round s l))
+
+-- so a zero is found where there is one
+zeroFrom-zero : (s : ℕ) (l : List ℕ) → ones l < 3 → (zeroFrom s l < 3) × (getD l (zeroFrom s l) 0 ≡ 0)
+zeroFrom-zero s l h =
+    ⊎-elim
+    (λ e. rw (zeroFrom-first s l e) (omega arith, e))
+    (λ n.
+    ⊎-elim
+    (λ e. rw (zeroFrom-second s l n e) (omega arith, e))
+    (λ m. rw (zeroFrom-third s l n m) (omega arith, omega (arith, ones-round s l)))
+    (same? (getD l ((s + 1) % 3) 0) 0))
+    (same? (getD l (s % 3) 0) 0)
+
+-- RAISES. Three bits are left
+module _ (s : ℕ) where
+  raised-three : (n : ℕ) {l : List ℕ} → Three l → Three (raisedTimes s n l)
+  unfolding raisedTimes raise
+  raised-three zero t = t
+  raised-three (suc n) {l} t = set-three (raised-three n t) (zeroFrom s (raisedTimes s n l))
+
+  -- each raise adds a one
+  raised-ones : (n : ℕ) {l : List ℕ} → Three l → ones l + n ≤ 3 → ones (raisedTimes s n l) ≡ ones l + n
+  unfolding raisedTimes raise
+  raised-ones zero t h = omega arith
+  raised-ones (suc n) {l} t h =
+      let m = raisedTimes s n l in
+      let e : ones m ≡ ones l + n = raised-ones n t (omega arith) in
+      let f = zeroFrom-zero s m (omega arith) in
+      set-ones (raised-three n t) (zeroFrom s m) (f .0) (f .1) ∙ omega arith
+
+  -- three ones are raised no more
+  raise-full : {l : List ℕ} → Three l → ones l ≡ 3 → raise s l ≡ l
+  unfolding raise
+  raise-full {l} t e = set-full t e (zeroFrom s l)
+
+-- each bit of a page raised is 0 or 1
+raised-small : (start : ℕ → ℕ) (page : List ℕ) (to : ℕ → ℕ) (k : ℕ)
+    → getD (raisedTimes (start (k / 3)) (to (k / 3) - level page (k / 3)) (triple page (k / 3))) (k % 3) 0 < 2
+raised-small start page to k =
+    let c = k / 3 in
+    three-bit (raised-three (start c) (to c - level page c) (triple-three page c)) (k % 3)
 
 -- THE PAGE. As long as before
-pub raisedTo-length : (page : List ℕ) (to : ℕ → ℕ) → length (raisedTo page to) ≡ length page
-unfolding raisedTo
-raisedTo-length page to = length-bytesOf (length page) _
+module _ (start : ℕ → ℕ) (page : List ℕ) (to : ℕ → ℕ) where
+  pub raisedTo-length : length (raisedTo start page to) ≡ length page
+  unfolding raisedTo
+  raisedTo-length = length-bytesOf (length page) _
 
-module _ (page : List ℕ) (to : ℕ → ℕ) where
+  -- and of bytes
+  raisedTo-octets : Octets (raisedTo start page to)
+  unfolding raisedTo
+  raisedTo-octets = octets-bytesOf (length page) _ (raised-small start page to)
+
   -- bit i of cell c
-  pub raisedTo-bit : (c i : ℕ) → i < 3 → 3 * c + i < 8 * length page → bitOf (raisedTo page to) (3 * c + i) ≡ getD (raisedTimes (to c - level page c) (triple page c)) i 0
+  raisedTo-bit : (c i : ℕ) → i < 3 → 3 * c + i < 8 * length page
+      → bitOf (raisedTo start page to) (3 * c + i) ≡ getD (raisedTimes (start c) (to c - level page c) (triple page c)) i 0
   unfolding raisedTo
   raisedTo-bit c i h k =
       let x : (3 * c + i) / 3 ≡ c = omega arith in
       let y : (3 * c + i) % 3 ≡ i = omega arith in
-      bytesOf-bit (length page) _ (λ j. three-bit (raised-three (to (j / 3) - level page (j / 3)) (triple-three page (j / 3))) (j % 3)) (3 * c + i) k
-      ∙ ap₂ (λ (d j : ℕ). getD (raisedTimes (to d - level page d) (triple page d)) j 0) x y
+      bytesOf-bit (length page) _ (raised-small start page to) (3 * c + i) k
+      ∙ ap₂ (λ (d j : ℕ). getD (raisedTimes (start d) (to d - level page d) (triple page d)) j 0) x y
 
   -- its levels are the given ones
-  pub raisedTo-level : (c : ℕ) → 3 * c + 2 < 8 * length page → level page c ≤ to c → to c ≤ 3 → level (raisedTo page to) c ≡ to c
+  pub raisedTo-level : (c : ℕ) → 3 * c + 2 < 8 * length page → level page c ≤ to c → to c ≤ 3 → level (raisedTo start page to) c ≡ to c
   unfolding level triple ones
   raisedTo-level c h l m =
       let z : 3 * c + 0 ≡ 3 * c = omega arith in
-      let e : ones (raisedTimes (to c - level page c) (triple page c)) ≡ ones (triple page c) + (to c - level page c) = raised-ones _ (triple-three page c) (omega arith) in
-      let b = ap (bitOf (raisedTo page to)) (sym z) ∙ raisedTo-bit c 0 (omega arith) (omega arith) in
+      let e = raised-ones (start c) (to c - level page c) (triple-three page c) (omega arith) in
+      let b = ap (bitOf (raisedTo start page to)) (sym z) ∙ raisedTo-bit c 0 (omega arith) (omega arith) in
       omega (arith, b, raisedTo-bit c 1 (omega arith) (omega arith), raisedTo-bit c 2 (omega arith) h)
 
   -- a cell that isn't raised keeps its bits
-  pub raisedTo-keeps : (c i : ℕ) → i < 3 → 3 * c + i < 8 * length page → to c ≤ level page c → bitOf (raisedTo page to) (3 * c + i) ≡ bitOf page (3 * c + i)
+  raisedTo-keeps : (c i : ℕ) → i < 3 → 3 * c + i < 8 * length page → to c ≤ level page c
+      → bitOf (raisedTo start page to) (3 * c + i) ≡ bitOf page (3 * c + i)
   unfolding raisedTimes
   raisedTo-keeps c i h k l =
       let e : to c - level page c ≡ 0 = omega arith in
-      raisedTo-bit c i h k ∙ ap (λ (n : ℕ). getD (raisedTimes n (triple page c)) i 0) e ∙ triple-bit page c i h
+      raisedTo-bit c i h k ∙ ap (λ (n : ℕ). getD (raisedTimes (start c) n (triple page c)) i 0) e ∙ triple-bit page c i h
 
   -- the page raised is the one list of bytes with these bits
-  pub raisedTo-only : (after : List ℕ) → length after ≡ length page → Octets after
-      → ((c i : ℕ) → i < 3 → 3 * c + i < 8 * length page → bitOf after (3 * c + i) ≡ getD (raisedTimes (to c - level page c) (triple page c)) i 0) → after ≡ raisedTo page to
+  raisedTo-only : (after : List ℕ) → length after ≡ length page → Octets after
+      → ((c i : ℕ) → i < 3 → 3 * c + i < 8 * length page
+      → bitOf after (3 * c + i) ≡ getD (raisedTimes (start c) (to c - level page c) (triple page c)) i 0)
+      → after ≡ raisedTo start page to
   unfolding raisedTo
   raisedTo-only after e b f =
       sym (bytes-bits (length page) after e (λ q h. b .below q (rw e h)))
-      ∙ bytesOf-same (length page) _ _ (λ k h. let z : 3 * (k / 3) + k % 3 ≡ k = omega arith in ap (bitOf after) (sym z) ∙ f (k / 3) (k % 3) (omega arith) (omega arith))
+      ∙ bytesOf-same (length page) _ _ (λ k h.
+      let z : 3 * (k / 3) + k % 3 ≡ k = omega arith in
+      ap (bitOf after) (sym z) ∙ f (k / 3) (k % 3) (omega arith) (omega arith))
 
--- it depends on the levels to reach of its own cells alone
-pub raisedTo-same : (page : List ℕ) (to to′ : ℕ → ℕ) → ((c : ℕ) → 3 * c < 8 * length page → to c ≡ to′ c) → raisedTo page to ≡ raisedTo page to′
+-- it depends on the starts of its own cells alone
+pub raisedTo-start : (start start′ : ℕ → ℕ) (page : List ℕ) (to : ℕ → ℕ) → ((c : ℕ) → 3 * c < 8 * length page → start c ≡ start′ c)
+    → raisedTo start page to ≡ raisedTo start′ page to
 unfolding raisedTo
-raisedTo-same page to to′ e =
-    bytesOf-same (length page) _ _ (λ k h. ap (λ (n : ℕ). getD (raisedTimes (n - level page (k / 3)) (triple page (k / 3))) (k % 3) 0) (e (k / 3) (omega arith)))
+raisedTo-start start start′ page to e =
+    bytesOf-same (length page) _ _ (λ k h.
+    ap (λ (s : ℕ). getD (raisedTimes s (to (k / 3) - level page (k / 3)) (triple page (k / 3))) (k % 3) 0) (e (k / 3) (omega arith)))
 
--- to raise each cell to its own level changes nothing
-pub raisedTo-none : (page : List ℕ) → Octets page → raisedTo page (level page) ≡ page
-unfolding raisedTimes
-raisedTo-none page o =
-    sym (raisedTo-only page (level page) page refl o (λ c i h k.
-    let d : 0 ≡ level page c - level page c = omega arith in
-    sym (triple-bit page c i h) ∙ ap (λ (n : ℕ). getD (raisedTimes n (triple page c)) i 0) d))
+module _ (start : ℕ → ℕ) (page : List ℕ) where
+  -- and on the levels to reach of its own cells alone
+  pub raisedTo-same : (to to′ : ℕ → ℕ) → ((c : ℕ) → 3 * c < 8 * length page → to c ≡ to′ c)
+      → raisedTo start page to ≡ raisedTo start page to′
+  unfolding raisedTo
+  raisedTo-same to to′ e =
+      bytesOf-same (length page) _ _ (λ k h.
+      ap (λ (n : ℕ). getD (raisedTimes (start (k / 3)) (n - level page (k / 3)) (triple page (k / 3))) (k % 3) 0) (e (k / 3) (omega arith)))
 
--- the numbers of a page raised are bytes
-pub raisedTo-octets : (page : List ℕ) (to : ℕ → ℕ) → Octets (raisedTo page to)
-unfolding raisedTo
-raisedTo-octets page to =
-    octets-bytesOf (length page) _ (λ j. three-bit (raised-three (to (j / 3) - level page (j / 3)) (triple-three page (j / 3))) (j % 3))
+  -- to raise each cell to its own level changes nothing
+  pub raisedTo-none : Octets page → raisedTo start page (level page) ≡ page
+  unfolding raisedTimes
+  raisedTo-none o =
+      sym (raisedTo-only start page (level page) page refl o (λ c i h k.
+      let d : 0 ≡ level page c - level page c = omega arith in
+      sym (triple-bit page c i h) ∙ ap (λ (n : ℕ). getD (raisedTimes (start c) n (triple page c)) i 0) d))
 
--- ONE CELL. Two tests that both hold
-both : (a b : Bool) → (a && b) ≡ true → (a ≡ true) × (b ≡ true)
-both true b e = (refl, e)
-both false b e = (e, cc)
-
+-- ONE CELL
 module _ (page : List ℕ) (c : ℕ) where
   -- a cell that lies in the page whole and is below level 3 can rise
   pub canRise-yes : 3 * c + 2 < 8 * length page → level page c < 3 → canRise page c ≡ true
@@ -165,188 +243,98 @@ module _ (page : List ℕ) (c : ℕ) where
       let h : 3 ≤ level page c = omega arith in
       ap (λ (b : Bool). ltb (3 * c + 2) (8 * length page) && b) (le-ltb _ _ h) ∙ and-false (ltb (3 * c + 2) (8 * length page))
 
-  -- a cell that can rise lies in the page whole
-  canRise-inside : canRise page c ≡ true → 3 * c + 2 < 8 * length page
-  unfolding canRise
-  canRise-inside e = ltb-true _ _ (both (ltb (3 * c + 2) (8 * length page)) _ e .0)
-
-  -- and is below level 3
-  canRise-below : canRise page c ≡ true → level page c < 3
-  unfolding canRise
-  canRise-below e = ltb-true _ _ (both (ltb (3 * c + 2) (8 * length page)) _ e .1)
-
-  -- the raised cell's level to reach is one more
-  oneHigher-same : oneHigher page c c ≡ suc (level page c)
+  -- the raised cell climbs one level
+  oneHigher-same : oneHigher page c c - level page c ≡ 1
   unfolding oneHigher
-  oneHigher-same = ap (λ (b : Bool). cond b (suc (level page c)) (level page c)) (eq-eqb c c refl)
+  oneHigher-same = rw (eq-eqb c c refl) (omega arith)
 
-  -- every other cell's is its own
-  oneHigher-other : (e : ℕ) → (e ≡ c → ⊥) → oneHigher page c e ≡ level page e
+  -- every other cell stays
+  oneHigher-other : (e : ℕ) → (e ≡ c → ⊥) → oneHigher page c e - level page e ≡ 0
   unfolding oneHigher
-  oneHigher-other e n = ap (λ (b : Bool). cond b (suc (level page e)) (level page e)) (ne-eqb e c n)
+  oneHigher-other e n = rw (ne-eqb e c n) (omega arith)
 
-  -- the raised cell's level is one more
-  pub raisedCell-level : canRise page c ≡ true → level (raisedCell page c) c ≡ suc (level page c)
-  unfolding raisedCell
-  raisedCell-level r =
-      let l : level page c < 3 = canRise-below r in
-      raisedTo-level page (oneHigher page c) c (canRise-inside r) (omega (arith, oneHigher-same)) (omega (arith, oneHigher-same)) ∙ oneHigher-same
-
-  -- every other cell's bits are the same
-  pub raisedCell-other : (e i : ℕ) → (e ≡ c → ⊥) → i < 3 → 3 * e + i < 8 * length page → bitOf (raisedCell page c) (3 * e + i) ≡ bitOf page (3 * e + i)
-  unfolding raisedCell
-  raisedCell-other e i n h k = raisedTo-keeps page (oneHigher page c) e i h k (omega (arith, oneHigher-other e n))
-
--- three bits by their places
-list3 : {x x′ y y′ z z′ : ℕ} → x ≡ x′ → y ≡ y′ → z ≡ z′ → (x ∷ y ∷ z ∷ []) ≡ (x′ ∷ y′ ∷ z′ ∷ [])
-list3 p q r = cc
+-- the page with one cell raised is the one list of bytes with that cell's bits raised and every other cell's as before
+raisedCell-only : (start : ℕ → ℕ) (page : List ℕ) (c : ℕ) (after : List ℕ) → length after ≡ length page → Octets after
+    → ((i : ℕ) → i < 3 → 3 * c + i < 8 * length page → bitOf after (3 * c + i) ≡ getD (raise (start c) (triple page c)) i 0)
+    → ((e i : ℕ) → (e ≡ c → ⊥) → i < 3 → 3 * e + i < 8 * length page → bitOf after (3 * e + i) ≡ bitOf page (3 * e + i))
+    → after ≡ raisedCell start page c
+unfolding raisedCell raisedTimes
+raisedCell-only start page c after l o own others =
+    raisedTo-only start page (oneHigher page c) after l o (λ e i h k.
+    ⊎-elim
+    (λ q. rw q (rw (oneHigher-same page c) (own i h (omega arith))))
+    (λ q. rw (oneHigher-other page c e q) (others e i q h k ∙ sym (triple-bit page e i h)))
+    (same? e c))
 
 -- ONE CELL MORE, which `to` leaves at its level
-module _ (page : List ℕ) (to : ℕ → ℕ) (c : ℕ) (inside : 3 * c + 2 < 8 * length page) (still : to c ≡ level page c) where
+module _ (start : ℕ → ℕ) (page : List ℕ) (to : ℕ → ℕ) (c : ℕ) (inside : 3 * c + 2 < 8 * length page) (still : to c ≡ level page c) where
   -- its level so far is its own
-  pub raisedTo-still : level (raisedTo page to) c ≡ level page c
-  raisedTo-still = raisedTo-level page to c inside (omega arith) (omega (arith, level-bound page c)) ∙ still
+  pub raisedTo-still : level (raisedTo start page to) c ≡ level page c
+  raisedTo-still = raisedTo-level start page to c inside (omega arith) (omega (arith, level-bound page c)) ∙ still
 
   -- and so are its three bits
-  triple-still : triple (raisedTo page to) c ≡ triple page c
+  triple-still : triple (raisedTo start page to) c ≡ triple page c
   unfolding triple
   triple-still =
       let z : 3 * c ≡ 3 * c + 0 = omega arith in
-      let b = ap (bitOf (raisedTo page to)) z ∙ raisedTo-keeps page to c 0 (omega arith) (omega arith) (omega arith) ∙ ap (bitOf page) (sym z) in
-      list3 b (raisedTo-keeps page to c 1 (omega arith) (omega arith) (omega arith)) (raisedTo-keeps page to c 2 (omega arith) inside (omega arith))
+      let keeps = raisedTo-keeps start page to c in
+      list3 (rw z (keeps 0 (omega arith) (omega arith) (omega arith)))
+      (keeps 1 (omega arith) (omega arith) (omega arith)) (keeps 2 (omega arith) inside (omega arith))
 
   -- levels to reach that differ at that cell alone
   module _ (to′ : ℕ → ℕ) (others : (e : ℕ) → (e ≡ c → ⊥) → to′ e ≡ to e) where
     -- to raise it by one is to raise the page to to′, which is one higher there
-    pub raisedTo-more : to′ c ≡ suc (level page c) → raisedCell (raisedTo page to) c ≡ raisedTo page to′
-    unfolding raisedCell raisedTimes
+    pub raisedTo-more : to′ c ≡ suc (level page c) → raisedCell start (raisedTo start page to) c ≡ raisedTo start page to′
+    unfolding raisedTimes
     raisedTo-more m =
-        let q = raisedTo page to in
-        let l : length q ≡ length page = raisedTo-length page to in
-        raisedTo-only page to′ (raisedCell q c) (raisedTo-length q (oneHigher q c) ∙ l) (raisedTo-octets q (oneHigher q c)) (λ e i h k.
-        let k′ : 3 * e + i < 8 * length q = omega arith in
-        ⊎-elim
-        (λ f.
-        let d : oneHigher q c c - level q c ≡ 1 = omega (arith, oneHigher-same q c) in
-        let d′ : to′ c - level page c ≡ 1 = omega arith in
-        rw f (raisedTo-bit q (oneHigher q c) c i h (omega arith)
-        ∙ ap₂ (λ (n : ℕ) (b : List ℕ). getD (raisedTimes n b) i 0) d triple-still
-        ∙ sym (ap (λ (n : ℕ). getD (raisedTimes n (triple page c)) i 0) d′)))
-        (λ f. raisedCell-other q c e i f h k′ ∙ raisedTo-bit page to e i h k ∙ ap (λ (n : ℕ). getD (raisedTimes (n - level page e) (triple page e)) i 0) (sym (others e f)))
-        (same? e c))
+        let q = raisedTo start page to in
+        let l : length q ≡ length page = raisedTo-length start page to in
+        let d : to′ c - level page c ≡ 1 = omega arith in
+        sym (raisedCell-only start q c (raisedTo start page to′) (raisedTo-length start page to′ ∙ sym l) (raisedTo-octets start page to′)
+        (λ i h k. raisedTo-bit start page to′ c i h (omega arith) ∙ rw (d, triple-still))
+        (λ e i n h k.
+        raisedTo-bit start page to′ e i h (omega arith) ∙ rw (others e n) (sym (raisedTo-bit start page to e i h (omega arith)))))
 
     -- a full cell stays as it is, also where to′ is one higher there
-    pub raisedTo-full : level page c ≡ 3 → to′ c ≡ suc (level page c) → raisedTo page to ≡ raisedTo page to′
+    pub raisedTo-full : level page c ≡ 3 → to′ c ≡ suc (level page c) → raisedTo start page to ≡ raisedTo start page to′
     unfolding level triple ones raisedTimes
     raisedTo-full f m =
-        raisedTo-only page to′ (raisedTo page to) (raisedTo-length page to) (raisedTo-octets page to) (λ e i h k.
-        raisedTo-bit page to e i h k ∙
+        raisedTo-only start page to′ (raisedTo start page to) (raisedTo-length start page to) (raisedTo-octets start page to) (λ e i h k.
+        raisedTo-bit start page to e i h k ∙
         ⊎-elim
         (λ g.
         let d : to c - level page c ≡ 0 = omega arith in
         let d′ : to′ c - level page c ≡ 1 = omega arith in
-        rw g (ap (λ (n : ℕ). getD (raisedTimes n (triple page c)) i 0) d
-        ∙ ap (λ (b : List ℕ). getD b i 0) (sym (raise-full (triple-three page c) f))
-        ∙ sym (ap (λ (n : ℕ). getD (raisedTimes n (triple page c)) i 0) d′)))
-        (λ g. ap (λ (n : ℕ). getD (raisedTimes (n - level page e) (triple page e)) i 0) (sym (others e g)))
+        rw g (rw (d, d′) (ap (λ (b : List ℕ). getD b i 0) (sym (raise-full (start c) (triple-three page c) f)))))
+        (λ g. rw (others e g))
         (same? e c))
 
--- THE LOWEST ZERO is the first bit
-module _ (page : List ℕ) (k : ℕ) where
-  pub lowest-first : bitOf page k ≡ 0 → lowestZero page k ≡ k
-  unfolding lowestZero
-  lowest-first e = ap (λ (b : Bool). cond b k (cond (eqb (bitOf page (k + 1)) 0) (k + 1) (k + 2))) (eq-eqb _ _ e)
+-- SETTING A BIT. The first zero of a cell below level 3, from any bit on
+module _ (s : ℕ) (page : List ℕ) (c : ℕ) (inside : 3 * c + 2 < 8 * length page) (low : level page c < 3) where
+  found : (zeroFrom s (triple page c) < 3) × (getD (triple page c) (zeroFrom s (triple page c)) 0 ≡ 0)
+  unfolding level triple ones
+  found = zeroFrom-zero s (triple page c) low
 
-  -- or the second
-  pub lowest-second : (bitOf page k ≡ 0 → ⊥) → bitOf page (k + 1) ≡ 0 → lowestZero page k ≡ k + 1
-  unfolding lowestZero
-  lowest-second n e = ap₂ (λ (a b : Bool). cond a k (cond b (k + 1) (k + 2))) (ne-eqb _ _ n) (eq-eqb _ _ e)
+  -- lies in the page, and is 0
+  pub zeroFrom-unset : Unset page (3 * c + zeroFrom s (triple page c))
+  zeroFrom-unset = record {
+    inside = omega (arith, found .0);
+    zero-there = sym (triple-bit page c _ (found .0)) ∙ found .1;
+  }
 
-  -- or the third
-  pub lowest-third : (bitOf page k ≡ 0 → ⊥) → (bitOf page (k + 1) ≡ 0 → ⊥) → lowestZero page k ≡ k + 2
-  unfolding lowestZero
-  lowest-third n m = ap₂ (λ (a b : Bool). cond a k (cond b (k + 1) (k + 2))) (ne-eqb _ _ n) (ne-eqb _ _ m)
-
--- SETTING IT RAISES THE CELL. What is known of bit z of the page where it is the lowest zero of cell c
-record Low (page : List ℕ) (c z : ℕ) : Type 0 where
-  unset : Unset page z
-  first : 3 * c ≤ z
-  last : z < 3 * c + 3
-  bits : triple (withBit page z) c ≡ raise (triple page c)
-
-module _ (page : List ℕ) (c : ℕ) (h : 3 * c + 2 < 8 * length page) where
-  -- the first bit
-  low-first : bitOf page (3 * c) ≡ 0 → Low page c (3 * c)
-  unfolding triple raise
-  low-first e =
-      let u : Unset page (3 * c) = record { inside = omega arith; zero-there = e } in
-      let b = bit-other page (3 * c) u in
-      record {
-        unset = u;
-        first = omega arith;
-        last = omega arith;
-        bits = list3 (bit-same page _ u) (b (3 * c + 1) (λ f. omega arith)) (b (3 * c + 2) (λ f. omega arith)) ∙ sym (ap raise (list3 e refl refl));
-      }
-
-  -- the second
-  low-second : bitOf page (3 * c) ≡ 1 → bitOf page (3 * c + 1) ≡ 0 → Low page c (3 * c + 1)
-  unfolding triple raise
-  low-second p e =
-      let u : Unset page (3 * c + 1) = record { inside = omega arith; zero-there = e } in
-      let b = bit-other page (3 * c + 1) u in
-      record {
-        unset = u;
-        first = omega arith;
-        last = omega arith;
-        bits = list3 (b (3 * c) (λ f. omega arith) ∙ p) (bit-same page _ u) (b (3 * c + 2) (λ f. omega arith)) ∙ sym (ap raise (list3 p e refl));
-      }
-
-  -- the third
-  low-third : bitOf page (3 * c) ≡ 1 → bitOf page (3 * c + 1) ≡ 1 → bitOf page (3 * c + 2) ≡ 0 → Low page c (3 * c + 2)
-  unfolding triple raise
-  low-third p q e =
-      let u : Unset page (3 * c + 2) = record { inside = omega arith; zero-there = e } in
-      let b = bit-other page (3 * c + 2) u in
-      record {
-        unset = u;
-        first = omega arith;
-        last = omega arith;
-        bits = list3 (b (3 * c) (λ f. omega arith) ∙ p) (b (3 * c + 1) (λ f. omega arith) ∙ q) (bit-same page _ u) ∙ sym (ap raise (list3 p q e));
-      }
-
-  -- the one that is the lowest zero
-  low : level page c < 3 → Low page c (lowestZero page (3 * c))
-  unfolding level
-  low l =
-      ⊎-elim
-      (λ e. subst⁻¹ (Low page c) (lowest-first page (3 * c) e) (low-first e))
-      (λ n.
-      let p : bitOf page (3 * c) ≡ 1 = omega (arith, bit-bound page (3 * c)) in
-      ⊎-elim
-      (λ e. subst⁻¹ (Low page c) (lowest-second page (3 * c) n e) (low-second p e))
-      (λ m.
-      let q : bitOf page (3 * c + 1) ≡ 1 = omega (arith, bit-bound page (3 * c + 1)) in
-      subst⁻¹ (Low page c) (lowest-third page (3 * c) n m) (low-third p q (omega arith)))
-      (same? (bitOf page (3 * c + 1)) 0))
-      (same? (bitOf page (3 * c)) 0)
-
-module _ (page : List ℕ) (c : ℕ) (r : canRise page c ≡ true) where
-  -- the lowest zero of a cell that can rise lies in the page, and is 0
-  pub lowest-unset : Unset page (lowestZero page (3 * c))
-  lowest-unset = low page c (canRise-inside page c r) (canRise-below page c r) .unset
-
-  -- to set the lowest zero is to raise the cell
-  pub withBit-raises : Octets page → withBit page (lowestZero page (3 * c)) ≡ raisedCell page c
-  unfolding raisedCell raisedTimes
-  withBit-raises o =
-      let z = lowestZero page (3 * c) in
-      let k : Low page c z = low page c (canRise-inside page c r) (canRise-below page c r) in
-      raisedTo-only page (oneHigher page c) (withBit page z) (length-withBit page z) (octets-withBit page z (k .unset) o) (λ e i h m.
-      ⊎-elim
-      (λ q.
-      let d : oneHigher page c c - level page c ≡ 1 = omega (arith, oneHigher-same page c) in
-      rw q (sym (triple-bit (withBit page z) c i h) ∙ ap (λ (l : List ℕ). getD l i 0) (k .bits) ∙ sym (ap (λ (n : ℕ). getD (raisedTimes n (triple page c)) i 0) d)))
-      (λ q.
-      let d : oneHigher page c e - level page e ≡ 0 = omega (arith, oneHigher-other page c e q) in
-      bit-other page z (k .unset) (3 * e + i) (λ f. q (omega arith)) ∙ sym (triple-bit page e i h) ∙ sym (ap (λ (n : ℕ). getD (raisedTimes n (triple page e)) i 0) d))
-      (same? e c))
+-- to set it is to raise the cell
+pub withBit-raises : (start : ℕ → ℕ) (page : List ℕ) (c : ℕ) → 3 * c + 2 < 8 * length page → level page c < 3 → Octets page
+    → withBit page (3 * c + zeroFrom (start c) (triple page c)) ≡ raisedCell start page c
+unfolding triple raise
+withBit-raises start page c inside low o =
+    let t = triple page c in
+    let z = zeroFrom (start c) t in
+    let u : Unset page (3 * c + z) = zeroFrom-unset (start c) page c inside low in
+    let small : z < 3 = found (start c) page c inside low .0 in
+    raisedCell-only start page c (withBit page (3 * c + z)) (length-withBit page (3 * c + z)) (octets-withBit page (3 * c + z) u o)
+    (λ i h k.
+    ⊎-elim
+    (λ e. rw e (bit-same page (3 * c + z) u ∙ sym (getD-set-same t z 1 0 small)))
+    (λ n. bit-other page (3 * c + z) u (3 * c + i) (λ e. n (omega arith)) ∙ sym (triple-bit page c i h) ∙ sym (getD-set-other t z i 1 0 n))
+    (same? i z))
+    (λ e i n h k. bit-other page (3 * c + z) u (3 * e + i) (λ f. n (omega arith)))

@@ -6,8 +6,8 @@ use Prim.Native.Nat.{ℕ, _+_, _*_}
 use Rattle.cells.specs.Places.{sumOf}
 use Rattle.cells.specs.Bytes.{bitOf}
 
--- 'Cell c of a strip is its bits 3·c, 3·c+1 and 3·c+2.' 'A cell's level is the number of ones among its three bits.' A strip has 48·L bits, so
--- cell c of strip k is cell 16·L·k + c of the page, and one definition serves both.
+-- 'Cell c of a strip is its bits 3·c, 3·c+1 and 3·c+2.' 'A cell's level is the number of ones among its three bits.' A strip has 48·L
+-- bits, so cell c of strip k is cell 16·L·k + c of the page, and one definition serves both.
 unfoldable pub level : List ℕ → ℕ → ℕ
 level bytes c = bitOf bytes (3 * c) + bitOf bytes (3 * c + 1) + bitOf bytes (3 * c + 2)
 

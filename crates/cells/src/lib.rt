@@ -4,11 +4,11 @@
 // what lies beyond the end of a slice reads as 0 and is never raised.
 ghost use mathlib.Core.Path.{_≡_};
 ghost use mathlib.Core.Bool.{cond};
-ghost use Prim.Native.Nat.{_+_, _*_, _^_, _<_, _≤_};
-ghost use lib.ListN.{length, getD};
-ghost use Rattle.cells.specs.Bytes.{bitOf};
+ghost use Prim.Native.Nat.{_+_, _*_, _<_, _≤_};
+ghost use lib.ListN.{getD};
+ghost use Rattle.cells.specs.Bytes.{bitOf, Unset, withBit};
 ghost use Rattle.cells.specs.Levels.{level, raisesOf};
-ghost use Rattle.cells.specs.Raising.{raisedCell, canRise, withBit, lowestZero, Unset};
+ghost use Rattle.cells.specs.Raising.{startOf, zeroFrom, triple, raisedCell, canRise};
 ghost use Rattle.cells.specs.Climbs.{house, weightOf, climb};
 
 // The cost of the step from level 0 to 1, from 1 to 2 and from 2 to 3.
@@ -61,25 +61,28 @@ fn set_bit(bytes: &mut [u8], k: usize)
     bytes[i] = bytes[i] + (1u8 << (k % 8));
 }
 
-// The lowest-numbered of a cell's three bits that is 0: its number.
-fn lowest_zero(bytes: &[u8], k: usize) -> usize
-    requires { ⌜ k < 2 ^ 34 ⌝ }
-    ensures { λ r. ⌜ r ≡ lowestZero (now (bytes .entry)) k ⌝ }
+// The first of a cell's three bits that is 0, from the bit `start` on and going round the three, by its number in the slice.
+fn zero_from(bytes: &[u8], cell: u32, start: u32) -> usize
+    requires { ⌜ start < 3 ⌝ }
+    ensures { λ r. ⌜ r ≡ 3 * cell + zeroFrom start (triple (now (bytes .entry)) cell) ⌝ }
 {
-    if bit(bytes, k) == 0 {
-        return k;
+    let k = 3 * (cell as usize);
+    let first = start as usize;
+    if bit(bytes, k + first) == 0 {
+        return k + first;
     }
-    if bit(bytes, k + 1) == 0 {
-        return k + 1;
+    let second = (first + 1) % 3;
+    if bit(bytes, k + second) == 0 {
+        return k + second;
     }
-    k + 2
+    k + (first + 2) % 3
 }
 
-// Raises a cell by one: its lowest-numbered zero bit becomes one. A cell at level 3, or one that does not lie in the slice whole, is not
-// raised, and nothing changes. The answer is whether it was raised.
+// Raises a cell by one: its lowest-numbered zero bit becomes one, the first zero from bit 0 (`startOf`) on. A cell at level 3, or one that
+// does not lie in the slice whole, is not raised, and nothing changes. The answer is whether it was raised.
 pub fn raise(bytes: &mut [u8], cell: u32) -> bool
     ensures { λ r. ⌜ r ≡ canRise (now (bytes .entry)) cell ⌝ }
-    ensures { λ r. ⌜ now (bytes .exit) ≡ cond r (raisedCell (now (bytes .entry)) cell) (now (bytes .entry)) ⌝ }
+    ensures { λ r. ⌜ now (bytes .exit) ≡ cond r (raisedCell startOf (now (bytes .entry)) cell) (now (bytes .entry)) ⌝ }
 {
     let k = 3 * (cell as usize);
     if bytes.len() <= (k + 2) / 8 {
@@ -88,7 +91,7 @@ pub fn raise(bytes: &mut [u8], cell: u32) -> bool
     if level(bytes, cell) == 3 {
         return false;
     }
-    let z = lowest_zero(bytes, k);
+    let z = zero_from(bytes, cell, 0);
     set_bit(bytes, z);
     true
 }

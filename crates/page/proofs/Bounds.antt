@@ -11,8 +11,8 @@ use Rattle.cells.specs.Levels.{level}
 use Rattle.cells.specs.Climbs.{climb, costOf, house, weightOf}
 use Rattle.cells.proofs.Places.{sumOf-le}
 use Rattle.cells.proofs.Climbs.{climb-stay, climb-step}
-use Rattle.trellis.specs.Best.{Solution}
-use Rattle.trellis.proofs.Parity.{house-dear}
+use Rattle.search.specs.Best.{Solution}
+use Rattle.search.proofs.Parity.{house-dear}
 use Rattle.page.specs.Refusals.{ground, numbered}
 use Rattle.page.specs.Computed.{pageWrite}
 use Rattle.page.specs.Answers.{callPage, pageOf, answerOf}

@@ -16,15 +16,15 @@ use Rattle.cells.specs.Raising.{raisedTo}
 use Rattle.cells.proofs.Bytes.{bytesOf-bit}
 use Rattle.cells.proofs.Raising.{raisedTo-length, raisedTo-same}
 use Rattle.codes.specs.Generators.{Generators}
-use Rattle.trellis.specs.Best.{Solution}
-use Rattle.trellis.specs.Strip.{Dear, stepsOf}
-use Rattle.trellis.specs.Demand.{levelAt}
+use Rattle.search.specs.Best.{Solution}
+use Rattle.search.specs.Strip.{Dear, stepsOf}
+use Rattle.search.specs.Levels.{levelAt}
 use Rattle.trellis.specs.Backward.{closed, costsOver, decisionAt}
 use Rattle.trellis.specs.Forward.{followed, wantedOf, carriedTo}
 use Rattle.trellis.specs.Outcomes.{judged, toldOutcome}
 use Rattle.trellis.specs.Wide.{solutionOutcome}
 use Rattle.trellis.specs.declared.Outcome.the-variants as O
-use Rattle.trellis.proofs.Best.{the-best}
+use Rattle.search.proofs.Best.{the-best}
 use Rattle.trellis.proofs.Prices.{Suits}
 use Rattle.trellis.proofs.Program.{outcome-is}
 use Rattle.trellis.proofs.Planned.{carried-is, carriedTo-same}

@@ -16,19 +16,19 @@ use Rattle.codes.specs.Sequences.{odd}
 use Rattle.codes.specs.Registers.{dot, push, register, quotient}
 use Rattle.codes.specs.Encoders.{encoderOf}
 use Rattle.codes.proofs.Encoders.{encoder-in-memory}
-use Rattle.trellis.specs.Best.{Solution}
-use Rattle.trellis.specs.Strip.{stepsOf, cellsOf}
-use Rattle.trellis.specs.Trellis.{before, lexltb, beats, better, joined, all, first-none}
-use Rattle.trellis.specs.Search.{labels, sums, wanted, branch, next, stages}
-use Rattle.trellis.specs.Parity.{parity, keep-or-raise, parity-choice}
-use Rattle.trellis.specs.Demand.{levelAt}
-use Rattle.trellis.specs.Table.{grow, look, step, table, write-table}
+use Rattle.search.specs.Best.{Solution}
+use Rattle.search.specs.Strip.{stepsOf, cellsOf}
+use Rattle.search.specs.Trellis.{before, lexltb, beats, better, joined, all, first-none}
+use Rattle.search.specs.Search.{labels, sums, wanted, branch, next, stages}
+use Rattle.search.specs.Parity.{parity, keep-or-raise, parity-choice}
+use Rattle.search.specs.Levels.{levelAt}
+use Rattle.search.specs.Table.{grow, look, step, table, write-table}
 use Rattle.trellis.specs.Wide.{wide, dataOf, unmarked, rewriteOf}
-use Rattle.trellis.proofs.Parity.{parity-chooses, house-dear}
-use Rattle.trellis.proofs.Raising.{full-length}
-use Rattle.trellis.proofs.Places.{length-cells}
-use Rattle.trellis.proofs.Table.{write-by-table}
-use Rattle.trellis.proofs.Room.{room-same}
+use Rattle.search.proofs.Parity.{parity-chooses, house-dear}
+use Rattle.search.proofs.Strip.{full-length}
+use Rattle.search.proofs.Levels.{length-cells}
+use Rattle.search.proofs.Table.{write-by-table}
+use Rattle.search.proofs.Room.{room-same}
 use Rattle.page.specs.Shape.{strip, part, oneTo64}
 use Rattle.page.specs.Reading.{stripLevels, readPage}
 use Rattle.page.specs.Refusals.{codeGround, bytesGround, stripsGround, limitsGround, sizesGround, pageGround, dataGround, shapeGround, ground, numbered}

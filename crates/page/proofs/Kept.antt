@@ -12,10 +12,10 @@ use Rattle.cells.specs.Climbs.{house}
 use Rattle.codes.specs.Generators.{short, long, digit}
 use Rattle.codes.specs.Encoders.{Proper}
 use Rattle.codes.proofs.Encoders.{short-proper, long-proper}
-use Rattle.trellis.specs.Best.{Solution}
-use Rattle.trellis.specs.Strip.{Dear, stepsOf}
+use Rattle.search.specs.Best.{Solution}
+use Rattle.search.specs.Strip.{Dear, stepsOf}
 use Rattle.trellis.proofs.Prices.{Suits}
-use Rattle.trellis.proofs.Parity.{house-dear}
+use Rattle.search.proofs.Parity.{house-dear}
 use Rattle.page.specs.Refusals.{ground, numbered}
 use Rattle.page.specs.Computed.{pageWrite, spentStrip}
 use Rattle.page.specs.Answers.{callAnswer, callPage, answerOf, pageOf}

@@ -16,14 +16,14 @@ use Rattle.cells.proofs.Bytes.{bit-bound}
 use Rattle.codes.specs.Generators.{Generators, digit}
 use Rattle.codes.specs.Reading.{dataBit, firstBit, secondBit}
 use Rattle.codes.specs.Encoders.{encoderOf}
-use Rattle.trellis.specs.Best.{Problem, Width, All}
-use Rattle.trellis.specs.Strip.{Cell, stepsOf, Rise, Rewrite}
-use Rattle.trellis.specs.Parity.{parity}
-use Rattle.trellis.specs.Demand.{cellAt, levelAt, CouldBe, pays}
+use Rattle.search.specs.Best.{Problem, Width, All}
+use Rattle.search.specs.Strip.{Cell, stepsOf, Rise, Rewrite}
+use Rattle.search.specs.Parity.{parity}
+use Rattle.search.specs.Levels.{cellAt, levelAt, CouldBe, pays}
 use Rattle.trellis.specs.Wide.{wide, dataOf, unmarked}
-use Rattle.trellis.proofs.Raising.{raised-length}
-use Rattle.trellis.proofs.Places.{length-cells, cells-at, raised-pays}
-use Rattle.trellis.proofs.Demand.{could-rewrite, rewrite-could}
+use Rattle.search.proofs.Strip.{raised-length}
+use Rattle.search.proofs.Levels.{length-cells, cells-at, raised-pays}
+use Rattle.search.proofs.Reading.{could-rewrite, rewrite-could}
 use Rattle.page.specs.Shape.{strip, part}
 use Rattle.page.proofs.Parts.{strip-level, part-data, within, place-inside, part-number, part-place}
 use Rattle.page.proofs.Readings.{cells-same}

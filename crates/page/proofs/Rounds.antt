@@ -19,8 +19,8 @@ use Rattle.codes.specs.Codes.{generatorsOf}
 use Rattle.codes.specs.declared.Code.{Code}
 use Rattle.codes.proofs.Encoders.{proper, second-leads}
 use Rattle.codes.proofs.Parities.{memory-bounds}
-use Rattle.trellis.specs.Best.{Solution}
-use Rattle.trellis.specs.Strip.{Dear, stepsOf}
+use Rattle.search.specs.Best.{Solution}
+use Rattle.search.specs.Strip.{Dear, stepsOf}
 use Rattle.trellis.specs.Backward.{wordsOf, costsOver, decisionAt, Shaped}
 use Rattle.trellis.specs.Forward.{followed, carriedTo}
 use Rattle.trellis.specs.Outcomes.{toldOutcome}

@@ -8,8 +8,8 @@ use native.Mathlib.Omega.{arith}
 use native.Mathlib.Nat.{mod-eq-of-lt}
 use Rattle.cells.specs.Places.{listOf}
 use Rattle.codes.specs.Generators.{Generators}
-use Rattle.trellis.specs.Best.{Solution}
-use Rattle.trellis.specs.Trellis.{joined, all, first-none}
+use Rattle.search.specs.Best.{Solution}
+use Rattle.search.specs.Trellis.{joined, all, first-none}
 use Rattle.trellis.specs.Wide.{solutionOutcome}
 use Rattle.trellis.specs.declared.Outcome.{Outcome}
 use Rattle.trellis.specs.declared.Outcome.the-variants as O

@@ -13,9 +13,9 @@ use Rattle.cells.specs.Levels.{level}
 use Rattle.cells.specs.Raising.{raisedTimes, triple, raisedTo}
 use Rattle.cells.proofs.Places.{length-listOf, listOf-at, number-same}
 use Rattle.cells.proofs.Bytes.{length-bytesOf, bytesOf-same, part-bit}
-use Rattle.trellis.specs.Best.{Solution}
-use Rattle.trellis.specs.Trellis.{joined, all}
-use Rattle.trellis.proofs.Best.{some-none}
+use Rattle.search.specs.Best.{Solution}
+use Rattle.search.specs.Trellis.{joined, all}
+use Rattle.search.proofs.Best.{some-none}
 use Rattle.page.specs.Shape.{strip}
 use Rattle.page.proofs.Parts.{strip-level, strip-length, within, part-number, part-place}
 

@@ -8,8 +8,8 @@ use mathlib.Core.Option.{Option, none, some}
 use Prim.Native.Nat.{ℕ}
 use lib.ListN.{length}
 use Rattle.cells.specs.Raising.{raisedTo}
-use Rattle.trellis.specs.Best.{Solution}
-use Rattle.trellis.specs.Demand.{levelAt}
+use Rattle.search.specs.Best.{Solution}
+use Rattle.search.specs.Levels.{levelAt}
 use Rattle.page.specs.Refusals.{ground, refusalNumber, numbered}
 use Rattle.page.specs.Computed.{pageWrite, spentStrip}
 use Rattle.page.specs.declared.Refusal.{Refusal}

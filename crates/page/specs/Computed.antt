@@ -7,8 +7,8 @@ use mathlib.Core.Option.{Option}
 use Prim.Native.Nat.{ℕ}
 use Rattle.cells.specs.Places.{listOf}
 use Rattle.codes.specs.Generators.{Generators}
-use Rattle.trellis.specs.Best.{Solution}
-use Rattle.trellis.specs.Trellis.{all, first-none}
+use Rattle.search.specs.Best.{Solution}
+use Rattle.search.specs.Trellis.{all, first-none}
 use Rattle.trellis.specs.Wide.{rewriteOf}
 use Rattle.page.specs.Shape.{strip, part}
 

@@ -9,7 +9,7 @@ use lib.ListN.{length}
 use Rattle.cells.specs.Bytes.{bitOf, bytesOf}
 use Rattle.cells.specs.Raising.{raisedTo}
 use Rattle.codes.specs.Generators.{Generators}
-use Rattle.trellis.specs.Best.{Solution}
+use Rattle.search.specs.Best.{Solution}
 use Rattle.trellis.specs.Backward.{decisionAt}
 use Rattle.trellis.specs.Forward.{followed, carriedTo}
 use Rattle.page.specs.Shape.{strip, part}

@@ -17,7 +17,7 @@ ghost use Rattle.cells.specs.Bytes.{bitOf, bytesOf};
 ghost use Rattle.cells.specs.Raising.{raisedTo};
 ghost use Rattle.cells.specs.Climbs.{house};
 ghost use Rattle.codes.specs.Codes.{generatorsOf};
-ghost use Rattle.trellis.specs.Strip.{Dear, stepsOf};
+ghost use Rattle.search.specs.Strip.{Dear, stepsOf};
 ghost use Rattle.trellis.specs.Backward.{decisionAt};
 ghost use Rattle.trellis.specs.Forward.{followed, carriedTo};
 ghost use Rattle.page.specs.Shape.{Sized, strip, part};

@@ -11,12 +11,12 @@ use Rattle.codes.specs.Generators.{digit}
 use Rattle.codes.specs.Sequences.{odd}
 use Rattle.codes.specs.Registers.{dot, push, register, quotient}
 use Rattle.codes.specs.Encoders.{encoderOf}
-use Rattle.trellis.specs.Strip.{cellsOf}
-use Rattle.trellis.specs.Trellis.{before, lexltb, beats, better, joined, all, first-none}
-use Rattle.trellis.specs.Search.{labels, sums, wanted, branch, next, stages}
-use Rattle.trellis.specs.Parity.{keep-or-raise, parity-choice}
-use Rattle.trellis.specs.Demand.{levelAt}
-use Rattle.trellis.specs.Table.{grow, look, step, table, write-table}
+use Rattle.search.specs.Strip.{cellsOf}
+use Rattle.search.specs.Trellis.{before, lexltb, beats, better, joined, all, first-none}
+use Rattle.search.specs.Search.{labels, sums, wanted, branch, next, stages}
+use Rattle.search.specs.Parity.{keep-or-raise, parity-choice}
+use Rattle.search.specs.Levels.{levelAt}
+use Rattle.search.specs.Table.{grow, look, step, table, write-table}
 use Rattle.trellis.specs.Wide.{unmarked}
 use Rattle.trellis.specs.Wide as Wide
 use Rattle.page.specs.Shape.{strip, part, oneTo64}

@@ -11,7 +11,7 @@ use native.Mathlib.Nat.{mul-assoc}
 use lib.ListN.{length, length-append}
 use borrow.Author.Tests.{eq-eqb}
 use Rattle.cells.specs.Climbs.{house}
-use Rattle.trellis.specs.Best.{Solution}
+use Rattle.search.specs.Best.{Solution}
 use Rattle.page.specs.declared.Refusal.{Refusal}
 use Rattle.page.specs.Shape.{oneTo64}
 use Rattle.page.specs.Refusals.{first-of, codeGround, bytesGround, stripsGround, pageGround, dataGround, shapeGround, ground, numbered}

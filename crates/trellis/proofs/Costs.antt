@@ -8,7 +8,7 @@ use native.Mathlib.Nat.{min-eq-left, min-eq-right, min-le-left, le-min, le-of-lt
 use lib.Dec.{ltb}
 use borrow.Author.Tests.{ltb-true, ltb-false}
 use Rattle.trellis.specs.Costs.{add, Tells, open-at, shut}
-use Rattle.trellis.specs.Plan.{lesser}
+use Rattle.search.specs.Plan.{lesser}
 
 -- the lesser of two, by the test that the second is below the first
 min-cond : (a b : ℕ) → min a b ≡ cond (ltb b a) b a

@@ -14,17 +14,17 @@ use Rattle.codes.specs.Sequences.{_+₂_, odd}
 use Rattle.codes.specs.Numbers.{one-if}
 use Rattle.codes.proofs.Numbers.{one-if-le, odd-one-if}
 use Rattle.codes.proofs.Sums.{odd-add}
-use Rattle.trellis.specs.Best.{Solution}
-use Rattle.trellis.specs.Trellis.{before, joined}
-use Rattle.trellis.specs.Strip.{Cell, stepsOf}
-use Rattle.trellis.specs.Plan.{first-level, plus, lesser, turn, costs, digit-at, play}
-use Rattle.trellis.specs.Numbered.{nextN}
+use Rattle.search.specs.Best.{Solution}
+use Rattle.search.specs.Trellis.{before, joined}
+use Rattle.search.specs.Strip.{Cell, stepsOf}
+use Rattle.search.specs.Plan.{first-level, plus, lesser, turn, costs, digit-at, play}
+use Rattle.search.specs.Numbered.{nextN}
 use Rattle.trellis.specs.Costs.{Tells, open-at, shut}
 use Rattle.trellis.specs.Stage.{below, digitOf}
 use Rattle.trellis.specs.Backward.{closed, stepList, wordsOf, labelAt, digitsBefore}
 use Rattle.trellis.specs.Wide.{wide}
-use Rattle.trellis.proofs.Plan.{none-some}
-use Rattle.trellis.proofs.Apart.{held, keep-held}
+use Rattle.search.proofs.Plan.{none-some}
+use Rattle.search.proofs.Apart.{held, keep-held}
 use Rattle.trellis.proofs.Stages.{takes-first, takes-second, takes-tie, digits-bit}
 use Rattle.trellis.proofs.Windows.{mod-odd, firstOf, secondOf, parity-flip}
 use Rattle.trellis.proofs.Prices.{Suits, branchFor, cellFor, stageFor, labelFor, wayFor, byZero, byOne, tie-is, branch-cells, zero-told, one-told}

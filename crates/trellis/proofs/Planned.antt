@@ -16,21 +16,21 @@ use Rattle.codes.specs.Sequences.{_+₂_, odd}
 use Rattle.codes.specs.Numbers.{one-if}
 use Rattle.codes.specs.Encoders.{encoderOf, InMemory}
 use Rattle.codes.proofs.Numbers.{sum-bits}
-use Rattle.trellis.specs.Best.{Solution}
-use Rattle.trellis.specs.Strip.{Dear, stepsOf}
-use Rattle.trellis.specs.Demand.{levelAt}
-use Rattle.trellis.specs.Parity.{parity, parity-choice}
-use Rattle.trellis.specs.Plan.{costs, digit-at, plan, play}
-use Rattle.trellis.specs.Numbered.{nextN}
+use Rattle.search.specs.Best.{Solution}
+use Rattle.search.specs.Strip.{Dear, stepsOf}
+use Rattle.search.specs.Levels.{levelAt}
+use Rattle.search.specs.Parity.{parity, parity-choice}
+use Rattle.search.specs.Plan.{costs, digit-at, plan, play}
+use Rattle.search.specs.Numbered.{nextN}
 use Rattle.trellis.specs.Backward.{costsOver, decisionAt}
 use Rattle.trellis.specs.Forward.{stateAt, followedState, followed, wantedFirst, wantedSecond, wantedOf, carriedTo}
 use Rattle.trellis.specs.Wide.{wide, dataOf, unmarked, stagesOf, rewriteOf}
-use Rattle.trellis.proofs.Plan.{none-some}
-use Rattle.trellis.proofs.Numbered.{write-numbers}
-use Rattle.trellis.proofs.Parity.{parity-chooses, parity-leads}
-use Rattle.trellis.proofs.Places.{length-cells}
-use Rattle.trellis.proofs.Raising.{full-length}
-use Rattle.trellis.proofs.Apart.{held}
+use Rattle.search.proofs.Plan.{none-some}
+use Rattle.search.proofs.Numbered.{write-numbers}
+use Rattle.search.proofs.Parity.{parity-chooses, parity-leads}
+use Rattle.search.proofs.Levels.{length-cells}
+use Rattle.search.proofs.Strip.{full-length}
+use Rattle.search.proofs.Apart.{held}
 use Rattle.trellis.proofs.Windows.{firstOf, secondOf, parity-number}
 use Rattle.trellis.proofs.Prices.{Suits, branchFor, cellFor, stageFor, labelFor, label-told}
 use Rattle.trellis.proofs.Digits.{joined-both, play-shut, raised-held, branch-held, digit-told}

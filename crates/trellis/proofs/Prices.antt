@@ -24,13 +24,13 @@ use Rattle.codes.specs.Encoders.{encoderOf, Proper}
 use Rattle.codes.proofs.Numbers.{taps-value, sum-bits}
 use Rattle.codes.proofs.Registers.{conv-quotient, conv-cancel}
 use Rattle.codes.proofs.Encoders.{first-digits}
-use Rattle.trellis.specs.Best.{Solution}
-use Rattle.trellis.specs.Trellis.{joined, free}
-use Rattle.trellis.specs.Strip.{Cell, stepsOf}
-use Rattle.trellis.specs.Search.{Stage}
-use Rattle.trellis.specs.Parity.{keep-or-raise, parity-choice}
-use Rattle.trellis.specs.Plan.{cost-of, plus, lesser}
-use Rattle.trellis.specs.Numbered.{sumsN, wantedN, branchN, nextN}
+use Rattle.search.specs.Best.{Solution}
+use Rattle.search.specs.Trellis.{joined, free}
+use Rattle.search.specs.Strip.{Cell, stepsOf}
+use Rattle.search.specs.Search.{Stage}
+use Rattle.search.specs.Parity.{keep-or-raise, parity-choice}
+use Rattle.search.specs.Plan.{cost-of, plus, lesser}
+use Rattle.search.specs.Numbered.{sumsN, wantedN, branchN, nextN}
 use Rattle.trellis.specs.Costs.{add, Tells, open-at, shut}
 use Rattle.trellis.specs.Stage.{pick, branchCost, by0, by1, lesserOf}
 use Rattle.trellis.specs.Backward.{closed, stepList, priceFor, wordsOf, labelAt, firstPrice, secondPrice, costsBefore}

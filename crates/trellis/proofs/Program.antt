@@ -12,18 +12,18 @@ use Rattle.cells.proofs.Places.{listOf-same}
 use Rattle.codes.specs.Generators.{Generators}
 use Rattle.codes.specs.Encoders.{encoderOf}
 use Rattle.codes.proofs.Numbers.{value-zeros}
-use Rattle.trellis.specs.Best.{Solution}
-use Rattle.trellis.specs.Strip.{cellsOf, stepsOf}
-use Rattle.trellis.specs.Search.{Stage, labels, stages, write, branch, next}
-use Rattle.trellis.specs.Parity.{parity-choice}
-use Rattle.trellis.specs.Plan.{cost-of, costs}
-use Rattle.trellis.specs.Numbered.{branchN, nextN}
+use Rattle.search.specs.Best.{Solution}
+use Rattle.search.specs.Strip.{cellsOf, stepsOf}
+use Rattle.search.specs.Search.{Stage, labels, stages, write, branch, next}
+use Rattle.search.specs.Parity.{parity-choice}
+use Rattle.search.specs.Plan.{cost-of, costs}
+use Rattle.search.specs.Numbered.{branchN, nextN}
 use Rattle.trellis.specs.Costs.{Tells, open-at, shut}
 use Rattle.trellis.specs.Backward.{closed, costsOver}
 use Rattle.trellis.specs.Wide.{wide, dataOf, unmarked, stagesOf, rewriteOf, solutionOutcome}
 use Rattle.trellis.specs.Outcomes.{toldOutcome}
-use Rattle.trellis.proofs.Plan.{costs-best}
-use Rattle.trellis.proofs.Numbered.{costs-value}
+use Rattle.search.proofs.Plan.{costs-best}
+use Rattle.search.proofs.Numbered.{costs-value}
 use Rattle.trellis.proofs.Prices.{Suits, branchFor, cellFor, stageFor, stage-told}
 
 -- THE STAGES of a strip: k of them from stage t on

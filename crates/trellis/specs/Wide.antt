@@ -12,10 +12,10 @@ use Rattle.cells.specs.Levels.{level}
 use Rattle.codes.specs.Generators.{Generators}
 use Rattle.codes.specs.Sequences.{Bits, odd}
 use Rattle.codes.specs.Encoders.{Encoder, encoderOf}
-use Rattle.trellis.specs.Best.{Solution}
-use Rattle.trellis.specs.Strip.{Cell, cellsOf, stepsOf}
-use Rattle.trellis.specs.Search.{Stage, stages, write}
-use Rattle.trellis.specs.Parity.{parity-choice}
+use Rattle.search.specs.Best.{Solution}
+use Rattle.search.specs.Strip.{Cell, cellsOf, stepsOf}
+use Rattle.search.specs.Search.{Stage, stages, write}
+use Rattle.search.specs.Parity.{parity-choice}
 use Rattle.trellis.specs.declared.Outcome.{Outcome}
 use Rattle.trellis.specs.declared.Outcome.the-variants.{Done, Spent}
 

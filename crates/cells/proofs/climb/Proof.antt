@@ -1,4 +1,5 @@
--- The loop's invariant: the sum is the cost of the climb to the level reached, at most 255 for each level. The measure is the levels that are left.
+-- The loop's invariant: the sum is the cost of the climb to the level reached, at most 255 for each level. The measure is the levels
+-- that are left.
 use mathlib.Core.Path.{_≡_, sym, _∙_, ap}
 use Prim.Native.Nat.{_≤_, _*_, _-_}
 use native.Mathlib.Omega.{arith}
@@ -11,7 +12,8 @@ use Rattle.cells.proofs.climb.Statement.{statement}
 use Rattle.cells.proofs.climb.Tie as tie
 
 abbrev Inv-loop : tie.InvT-loop
-Inv-loop weights from to sum₀ l₀ sum l = (sum ≡ specs.climb (weightOf weights) from l) × (from ≤ l) × (l - from ≤ to - from) × (sum ≤ 255 * l)
+Inv-loop weights from to sum₀ l₀ sum l =
+    (sum ≡ specs.climb (weightOf weights) from l) × (from ≤ l) × (l - from ≤ to - from) × (sum ≤ 255 * l)
 
 abbrev μ-loop : tie.MeasureT-loop
 μ-loop weights from to sum₀ l₀ sum l = to - l
@@ -35,8 +37,9 @@ loop-again : tie.Need-loop-again Inv-loop μ-loop
 loop-again c =
     let a = c .before .before .before .args in
     let l = c .before .before .loop .l in
-    let w = weightOf (a .weights) in (
-      omega (arith, c .weight .ensures .0, ap (specs.climb w (a .from)) (add-one l) ∙ climb-more w (a .from) l (c .before .before .loop .inv .1)),
+    let w = weightOf (a .weights) in
+    let more = ap (specs.climb w (a .from)) (add-one l) ∙ climb-more w (a .from) l (c .before .before .loop .inv .1) in (
+      omega (arith, c .weight .ensures .0),
       omega arith,
       omega arith,
       omega arith,

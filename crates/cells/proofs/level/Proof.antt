@@ -47,7 +47,8 @@ returns c =
     let t = (c .before .byte .result + c .byte2 .result * 256) / 2 ^ (k % 8) in
     let p = c .before .byte .ensures in
     let q = c .byte2 .ensures in
-    (rw (and-mask t 3, p .0, q .0) (three-bits s k (rw (p .0) at (p .1)) (rw (q .0) at (q .1))), rw (and-mask t 3) (ones-le 3 (t % 8) (mod-lt t (zero-lt-suc 7))))
+    let e = three-bits s k (rw (p .0) at (p .1)) (rw (q .0) at (q .1)) in
+    (rw (and-mask t 3, p .0, q .0) e, rw (and-mask t 3) (ones-le 3 (t % 8) (mod-lt t (zero-lt-suc 7))))
 
 pub level-spec : {M : Type 1} → statement M
 level-spec = tie.close (tie.spec mul-k byte-requires add-byte byte-requires-2 mul-x add-x cast-result shr-result cast-result-2 returns)

@@ -2,7 +2,7 @@
 use native.Mathlib.Omega.{arith}
 use borrow.Author.Needs.{needs}
 use Rattle.cells.specs.Bytes.{Octets}
-use Rattle.trellis.proofs.Parity.{house-dear}
+use Rattle.search.proofs.Parity.{house-dear}
 use Rattle.page.proofs.Rounds.{Judged, sized-by, in-order-answer, in-order-page, refused-answer, refused-page, kept-by}
 use Rattle.page.proofs.writing.write.Statement.{statement}
 use Rattle.page.proofs.writing.write.Tie as tie

@@ -1,0 +1,112 @@
+-- The write of a strip in a layout: the search solves it, and its words read as the data just where the paper's sums give the data.
+--   words-code                     the bits of a stage's word are the code bits that its levels show
+--   could-rewrite, rewrite-could   what could be, in the paper's words, is what the search looks for
+--   strip-solves, strip-width      the write of a strip is the best of what could be, and as wide as the strip has cells
+--   oneBit-parity, oneBit-sound    one bit a cell: a cell's bit is its level's parity
+use mathlib.Core.Path.{_≡_, refl, sym, _∙_, ap, fun-ext}
+use mathlib.Core.Bool.{Bool, false}
+use mathlib.Core.List.{List, [], _∷_, map}
+use mathlib.Core.Logic.{_↔_}
+use Prim.Native.Nat.{ℕ, suc, _<_, _≤_, _+_, _*_, _%_}
+use native.Mathlib.Omega.{arith}
+use native.Mathlib.Nat.{mul-comm}
+use lib.ListN.{length, getD, take, drop, length-drop, length-map, List·getD-map}
+use lib.Seq.{getD-take, getD-drop, length-take-le}
+use Rattle.cells.specs.Places.{listOf}
+use Rattle.cells.specs.Levels.{level}
+use Rattle.cells.proofs.Places.{listOf-same, listOf-getD}
+use Rattle.cells.proofs.Parts.{within}
+use Rattle.codes.specs.Generators.{Generators, digit}
+use Rattle.codes.specs.Layouts.{Layout, oneBit, stagesIn, cellsIn}
+use Rattle.codes.specs.Reading.{codeBit, dataBit}
+use Rattle.codes.specs.Sequences.{Agree, odd}
+use Rattle.codes.specs.Encoders.{encoderOf}
+use Rattle.codes.specs.Coset.{bit, Reads}
+use Rattle.codes.proofs.Sums.{odd-mod-two}
+use Rattle.codes.proofs.Encoders.{encoder-in-memory, reads-sums}
+use Rattle.search.specs.Best.{Solves, Width}
+use Rattle.search.specs.Strip.{Steps, Cell, stepsOf, Meaning, words, Rewrite}
+use Rattle.search.specs.Levels.{levelAt, CouldBe, pays}
+use Rattle.search.specs.Choices.{choiceOf}
+use Rattle.search.specs.Parity.{parity}
+use Rattle.search.specs.Layouts.{meaningOf, dataBits, stripCells, rewriteOf, Sound}
+use Rattle.search.proofs.Strip.{raised-length, full-length}
+use Rattle.search.proofs.Levels.{length-cells, raised-rises, rises-raised, words-at}
+use Rattle.search.proofs.Choices.{choice-chooses}
+use Rattle.search.proofs.Search.{write-solves}
+
+-- CODE BITS. The cells of stage t of n
+stage-levels : (k n : ℕ) (y : List ℕ) → length y ≡ k * n → (t : ℕ) → t < n → take k (drop (t * k) y) ≡ listOf k (λ i. levelAt y (k * t + i))
+unfolding levelAt
+stage-levels k n y e t h =
+    let c : t * k ≡ k * t = mul-comm t k in
+    rw c
+    (sym (listOf-getD k (take k (drop (k * t) y)) 0 (length-take-le k (drop (k * t) y) (omega (arith, length-drop (k * t) y, within k t n h))))
+    ∙ listOf-same k _ _ (λ i l. getD-take k (drop (k * t) y) i 0 l ∙ getD-drop (k * t) y i 0))
+
+-- bit j of the word of stage t
+pub words-code : (lay : Layout) (n : ℕ) (y : List ℕ) → length y ≡ lay .cells * n → (j t : ℕ) → t < n
+    → bit j (words (meaningOf lay) n y) t ≡ odd (codeBit lay (levelAt y) j t)
+unfolding bit meaningOf codeBit odd
+words-code lay n y e j t h =
+    ap (λ (w : List Bool). getD w j false) (words-at (meaningOf lay) n y t h ∙ ap (λ (l : List ℕ). map odd (lay .shows l)) (stage-levels (lay .cells) n y e t h))
+    ∙ List·getD-map odd (lay .shows (listOf (lay .cells) (λ i. levelAt y (lay .cells * t + i)))) j 0
+
+-- WHAT COULD BE is what the search looks for
+module _ (S : Steps) (lay : Layout) (G : Generators) (Z : Sound lay G) (n : ℕ) (d : ℕ → ℕ) (bits : (b : ℕ) → d b < 2) (old : List Cell)
+    (size : length old ≡ lay .cells * n) where
+  levels-read : (y : List ℕ) → length y ≡ length old
+      → Reads (encoderOf G) (λ j t. odd (d (lay .bits * t + j))) n (words (meaningOf lay) n y) ↔ ((b : ℕ) → b < lay .bits * n → dataBit lay G (levelAt y) b ≡ d b)
+  levels-read y e =
+      reads-sums lay G (Z .leads) (Z .generators) n (words (meaningOf lay) n y) (levelAt y) d bits
+      (λ j h. record { at = λ t l. words-code lay n y (e ∙ size) j t l })
+
+  -- what could be is a write, at what it pays
+  pub could-rewrite : (y : List ℕ) → CouldBe S lay G n d old y
+      → Rewrite S (meaningOf lay) (encoderOf G) (λ j t. odd (d (lay .bits * t + j))) n old (pays S old y) y
+  could-rewrite y p = record { raised = rises-raised S old y (p .size) (p .rises); reads = levels-read y (p .size) .1 (p .reads) }
+
+  -- and a write could be
+  pub rewrite-could : (c : ℕ) (y : List ℕ) → Rewrite S (meaningOf lay) (encoderOf G) (λ j t. odd (d (lay .bits * t + j))) n old c y → CouldBe S lay G n d old y
+  rewrite-could c y w = record {
+    size = raised-length (w .raised);
+    rises = raised-rises S (w .raised);
+    reads = levels-read y (raised-length (w .raised)) .0 (w .reads);
+  }
+
+-- THE STRIP
+module _ (lay : Layout) (L : ℕ) (strip : List ℕ) (marks : ℕ → Bool) where
+  -- its cells
+  pub length-strip : length (stripCells lay L strip marks) ≡ cellsIn lay L
+  unfolding stripCells
+  length-strip = length-cells (cellsIn lay L) (level strip) marks
+
+  module _ (G : Generators) (Z : Sound lay G) (W content : List ℕ) where
+    -- the search solves it
+    pub strip-solves : Solves (Rewrite (stepsOf W) (meaningOf lay) (encoderOf G) (dataBits lay content) (stagesIn lay L) (stripCells lay L strip marks))
+        (rewriteOf lay G W L strip marks content)
+    unfolding rewriteOf meaningOf cellsIn encoderOf
+    strip-solves =
+        write-solves (encoderOf G) (encoder-in-memory G) (dataBits lay content) (stepsOf W) (meaningOf lay) (choiceOf (stepsOf W) (meaningOf lay))
+        (choice-chooses (stepsOf W) (meaningOf lay) _ sized) (stagesIn lay L) (stripCells lay L strip marks)
+        (full-length (lay .cells) (stagesIn lay L) (stripCells lay L strip marks) (length-strip ∙ mul-comm (lay .cells) (stagesIn lay L)))
+      where
+        sized : (y : List ℕ) → length y ≡ lay .cells → length (map odd (lay .shows y)) ≡ suc (length (encoderOf G .others))
+        sized y e = length-map (lay .shows y) odd ∙ Z .shown y e ∙ ap suc (sym (length-map (G .others) _ ∙ Z .generators))
+
+    -- and every write of it has a level for each cell
+    pub strip-width : Width (cellsIn lay L) (Rewrite (stepsOf W) (meaningOf lay) (encoderOf G) (dataBits lay content) (stagesIn lay L) (stripCells lay L strip marks))
+    strip-width = record { width = λ c y w. raised-length (w .raised) ∙ length-strip }
+
+-- ONE BIT A CELL. The bits that levels show are their parities
+map-odd : (y : List ℕ) → map odd (map (λ l. l % 2) y) ≡ map odd y
+map-odd [] = refl
+map-odd (l ∷ y) = rw (odd-mod-two l, map-odd y)
+
+pub oneBit-parity : meaningOf oneBit ≡ parity 2
+unfolding meaningOf
+oneBit-parity = λ i. record { cells = 2; means = λ y. map-odd y i }
+
+-- a code of two generators whose G1 begins with 1 goes with it
+pub oneBit-sound : (G : Generators) → digit (G .memory) (G .g1) 0 ≡ 1 → length (G .others) ≡ 1 → Sound oneBit G
+oneBit-sound G e f = record { leads = e; generators = f; shown = λ y h. length-map y (λ l. l % 2) ∙ h }

@@ -1,0 +1,97 @@
+-- THE TWO FACTS about one bit a cell: the prices of a stage are the least costs of its words, and the bit that the first cell shows decides ties.
+--   Pair              a stage of two cells and one label
+--   oneBit-wants      the word that a window wants at such a stage
+--   oneBit-held       the levels of an open branch
+--   oneBit-quotes     the two facts
+use mathlib.Core.Path.{_≡_, refl, sym, _∙_, ap, ap₂}
+use mathlib.Core.Bool.{Bool, true, false, not, cond, Bool·beq}
+use mathlib.Core.List.{List, [], _∷_, _++_}
+use mathlib.Core.Option.{Option, none, some, Option·some-injective}
+use Prim.Native.Nat.{ℕ, _+_, _*_, _-_, _/_}
+use native.Mathlib.Omega.{arith}
+use lib.ListN.{getD}
+use Rattle.codes.specs.Generators.{Generators, g2, digit}
+use Rattle.codes.specs.Taps.{wordOf}
+use Rattle.codes.specs.Sequences.{_+₂_, odd}
+use Rattle.codes.specs.Numbers.{one-if}
+use Rattle.codes.specs.Encoders.{encoderOf}
+use Rattle.codes.proofs.Numbers.{taps-value}
+use Rattle.codes.proofs.Encoders.{first-digits}
+use Rattle.search.specs.Best.{Solution}
+use Rattle.search.specs.Trellis.{joined, free}
+use Rattle.search.specs.Strip.{Steps, Cell}
+use Rattle.search.specs.Levels.{cellAt}
+use Rattle.search.specs.Search.{Stage, withMemory}
+use Rattle.search.specs.Parity.{keep-or-raise, parity-choice}
+use Rattle.search.specs.Plan.{cost-of, add, Decides}
+use Rattle.search.specs.Numbered.{sumsN, wantedN, branchN}
+use Rattle.search.specs.Plain.{wordBy, priceBy, tieBy, Quotes}
+use Rattle.search.specs.OneBit.{bitPrice, oneBitPrices}
+use Rattle.search.proofs.Plan.{cost-joined}
+use Rattle.search.proofs.Best.{joined-both}
+use Rattle.search.proofs.Parity.{held, keep-held, held-lower}
+use Rattle.search.proofs.Windows.{firstOf, secondOf, parity-flip, word-odd, word-half, word-flip}
+
+-- a stage of two cells and one label
+pub data Pair : Stage → Type 0 where
+  pair : {x y : Cell} {a : Bool} → Pair (record { adds = a ∷ []; cells = x ∷ y ∷ [] })
+
+-- two generators that both begin with 1
+pub record Both (G : Generators) : Type 0 where
+  pub g1-leads : digit (G .memory) (G .g1) 0 ≡ 1
+  pub g2-leads : digit (G .memory) (g2 G) 0 ≡ 1
+  pub two : G .others ≡ g2 G ∷ []
+
+-- nothing more to pay
+free-after : (r : Option Solution) → add (cost-of r) (cost-of (some free)) ≡ cost-of r
+unfolding add cost-of
+free-after none = refl
+free-after (some b) = ap some (omega arith)
+
+module _ (m : ℕ) (G : Generators) (K : Both G) where
+  -- the word that a window wants at a stage with the label x
+  pub oneBit-wants : (w : ℕ) (x : Bool) → wantedN (withMemory m (encoderOf G)) w (x ∷ []) ≡ firstOf G w ∷ (secondOf G w +₂ x) ∷ []
+  unfolding wantedN sumsN encoderOf
+  oneBit-wants w x = rw (K .two, first-digits G (K .g1-leads), ← taps-value (G .memory) (G .g1), ← taps-value (G .memory) (g2 G))
+
+  -- the word of a state and a digit
+  word-by : (s : ℕ) (u : Bool) → wordBy (λ s. wordOf G (2 * s)) s u ≡ wordOf G (2 * s + one-if u)
+  unfolding wordBy one-if
+  word-by s true = word-flip G s (K .g1-leads) (K .g2-leads)
+  word-by s false = ap (wordOf G) (omega arith)
+
+  module _ (S : Steps) where
+    -- a branch by the choices of its two cells
+    pub branch-cells : (x y : Cell) (a : Bool) (s : ℕ) (u : Bool)
+        → branchN (withMemory m (encoderOf G)) (parity-choice S) (record { adds = a ∷ []; cells = x ∷ y ∷ [] }) s u
+        ≡ joined (keep-or-raise S x (firstOf G (2 * s + one-if u))) (joined (keep-or-raise S y (secondOf G (2 * s + one-if u) +₂ a)) (some free))
+    unfolding branchN parity-choice
+    branch-cells x y a s u = rw (oneBit-wants (2 * s + one-if u) a)
+
+    -- an open branch holds the levels of its two bits
+    pub oneBit-held : (x y : Cell) (a : Bool) (s : ℕ) (u : Bool) (r : Solution)
+        → branchN (withMemory m (encoderOf G)) (parity-choice S) (record { adds = a ∷ []; cells = x ∷ y ∷ [] }) s u ≡ some r
+        → r .levels ≡ held x (firstOf G (2 * s + one-if u)) ∷ held y (secondOf G (2 * s + one-if u) +₂ a) ∷ []
+    oneBit-held x y a s u r e =
+        let p = joined-both _ _ r (sym (branch-cells x y a s u) ∙ e) in
+        let q = joined-both _ _ (p .second) (p .right) in
+        rw (p .append, q .append, keep-held S _ _ (p .first) (p .left), keep-held S _ _ (q .first) (q .left), ← Option·some-injective _ _ (q .right))
+
+    -- THE PRICES are the costs of the branches
+    priced : (g : Stage) → Pair g → (s : ℕ) (u : Bool)
+        → priceBy (λ s. wordOf G (2 * s)) (oneBitPrices S g) s u ≡ cost-of (branchN (withMemory m (encoderOf G)) (parity-choice S) g s u)
+    unfolding priceBy oneBitPrices bitPrice cellAt
+    priced g (pair {x = x} {y = y} {a = a}) s u =
+        rw (word-by s u, word-odd G (2 * s + one-if u), word-half G (2 * s + one-if u), branch-cells x y a s u)
+        (sym (cost-joined _ _ ∙ ap (add _) (cost-joined _ _ ∙ free-after (keep-or-raise S y _))))
+
+    -- THE TIES are decided by the bit that the first cell shows
+    tied : (g : Stage) → Pair g → (s : ℕ) (r q : Solution) → branchN (withMemory m (encoderOf G)) (parity-choice S) g s false ≡ some r
+        → branchN (withMemory m (encoderOf G)) (parity-choice S) g s true ≡ some q → Decides (tieBy (λ s. wordOf G (2 * s)) (oneBitPrices S g) s) (r .levels) (q .levels)
+    unfolding tieBy oneBitPrices cellAt one-if
+    tied g (pair {x = x} {y = y} {a = a}) s r q e f =
+        rw (word-by s true, word-odd G (2 * s + 1), oneBit-held x y a s false r e, oneBit-held x y a s true q f, parity-flip (G .memory) (G .g1) s (K .g1-leads))
+        (held-lower x (firstOf G (2 * s + 0)))
+
+    pub oneBit-quotes : Quotes (withMemory m (encoderOf G)) (parity-choice S) (λ s. wordOf G (2 * s)) (oneBitPrices S) Pair
+    oneBit-quotes = record { priced = priced; tied = tied }
