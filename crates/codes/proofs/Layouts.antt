@@ -4,9 +4,9 @@
 --   oneBit-first, oneBit-second  one bit a cell: the code bits are those of the two cells
 --   oneBit-data                  and data bit t is the paper's sum of stage t
 --   oneBit-stages, oneBit-cells, oneBit-bytes   8·L stages, 16·L cells and 6·L bytes
-use mathlib.Core.Path.{_≡_, _∙_, ap, ap₂}
+use mathlib.Core.Path.{_≡_, ap}
 use mathlib.Core.List.{List}
-use Prim.Native.Nat.{ℕ, suc, _<_, _≤_, _+_, _*_, _/_, _%_}
+use Prim.Native.Nat.{ℕ, _<_, _+_, _*_, _/_, _%_}
 use native.Mathlib.Omega.{arith}
 use lib.ListN.{getD}
 use Rattle.cells.specs.Places.{listOf}
@@ -16,19 +16,20 @@ use Rattle.codes.specs.Generators.{Generators, g2}
 use Rattle.codes.specs.Layouts.{Layout, oneBit, stagesIn, cellsIn, bytesIn}
 use Rattle.codes.specs.Reading.{sumBit, codeBit, dataBit}
 use Rattle.codes.specs.Taps.{firstBit, secondBit}
-use Rattle.codes.proofs.Sums.{sumBit-bound, sumBit-same}
+use Rattle.codes.proofs.Reading.{sumBit-bound, sumBit-same}
 
 module _ (lay : Layout) (v w : ℕ → ℕ) (s : ℕ) (same : (c : ℕ) → c < lay .cells * s → v c ≡ w c) where
   -- a code bit by the levels of a strip's cells depends on the cells of its stage
   pub codeBit-same : (j t : ℕ) → t < s → codeBit lay v j t ≡ codeBit lay w j t
   unfolding codeBit
   codeBit-same j t h =
-      ap (λ (l : List ℕ). getD (lay .shows l) j 0) (listOf-same (lay .cells) _ _ (λ i k. same (lay .cells * t + i) (place-inside (lay .cells) t i k s h)))
+      ap (λ (l : List ℕ). getD (lay .shows l) j 0)
+      (listOf-same (lay .cells) _ _ (λ i k. same (lay .cells * t + i) (place-inside (lay .cells) t i k s h)))
 
   -- and a data bit on those of its stage and the stages before it
   pub dataBit-same : (G : Generators) (n : ℕ) → n / lay .bits < s → dataBit lay G v n ≡ dataBit lay G w n
   unfolding dataBit
-  dataBit-same G n h = sumBit-same _ _ _ _ _ _ _ (n / lay .bits) (λ t k. codeBit-same 0 t (omega arith)) (λ t k. codeBit-same _ t (omega arith))
+  dataBit-same G n h = sumBit-same _ _ _ _ _ _ _ _ (λ t k. codeBit-same 0 t (omega arith)) (λ t k. codeBit-same _ t (omega arith))
 
 -- a data bit is 0 or 1
 pub dataBit-bound : (lay : Layout) (G : Generators) (v : ℕ → ℕ) (n : ℕ) → dataBit lay G v n < 2
@@ -46,7 +47,8 @@ unfolding codeBit secondBit listOf
 oneBit-second v t = ap (λ (c : ℕ). v c % 2) (omega arith)
 
 -- 'Data bit t is the sum, mod 2, over i from 0 to m of G2's digit i times a(t−i) plus G1's digit i times b(t−i).'
-pub oneBit-data : (G : Generators) (v : ℕ → ℕ) (t : ℕ) → dataBit oneBit G v t ≡ sumBit (G .memory) (G .g1) (g2 G) (firstBit v) (secondBit v) t
+pub oneBit-data : (G : Generators) (v : ℕ → ℕ) (t : ℕ)
+    → dataBit oneBit G v t ≡ sumBit (G .memory) (G .g1) (g2 G) (firstBit v) (secondBit v) t
 unfolding dataBit
 oneBit-data G v t =
     let r : t % 1 ≡ 0 = omega arith in

@@ -2,9 +2,10 @@
 pub mod Sequences
 pub mod Registers
 pub mod Coset
-pub mod Sums
+pub mod Generators
+pub mod Reading
 pub mod Layouts
 pub mod Encoders
 pub mod Numbers
-pub mod Parities
-pub mod Digits
+pub mod Taps
+pub mod Codes

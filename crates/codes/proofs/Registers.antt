@@ -1,4 +1,12 @@
--- A register of the last bits: conv is what a register sums, the quotient is what a fed back register gives, and the register steps back.
+-- Laws of registers of the last bits: a convolution is what a register sums, the quotient is what a fed back register gives, and the
+-- register steps back.
+--   hist m t u                         the bits before stage t, the newest first
+--   conv-dot                           a convolution at a stage is the sum of the generator with the bits so far
+--   dot-state, push-state              a register of m bits is all that generators of memory m need
+--   conv-quotient, quotient-below      the generator times the quotient is the data, and nothing else is
+--   conv-cancel                        a generator whose digit 0 is 1 loses nothing
+--   register-length, register-newest   the register has m bits, and its newest is the quotient's
+--   stepBack-register                  the register steps back, where the generator's last digit is 1
 use mathlib.Core.Path.{_≡_, refl, sym, _∙_, ap, ap₂, fun-ext}
 use mathlib.Core.Bool.{Bool, true, false, _&&_}
 use mathlib.Core.List.{List, [], _∷_, _++_}
@@ -8,8 +16,8 @@ use native.Mathlib.Nat.{not-suc-le-zero}
 use lib.ListN.{length, getD, take, replicate, length-replicate}
 use lib.Seq.{take-take, take-all, length-take-le}
 use Rattle.codes.specs.Sequences.{_+₂_, Bits, zeros, _⊕_, scale, shift, conv, Agree}
-use Rattle.codes.specs.Registers.{dot, push, register, quotient, forth, back}
-use Rattle.codes.proofs.Sequences.{+₂-assoc, +₂-comm, +₂-self, +₂-false, agree-down, conv-inj}
+use Rattle.codes.specs.Registers.{dot, push, register, quotient, stepForth, stepBack}
+use Rattle.codes.proofs.Sequences.{+₂-assoc, +₂-comm, +₂-again, agree-down, conv-inj}
 
 -- the bits before stage t, the newest first, with m zeros before stage 0
 unfoldable pub hist : ℕ → ℕ → Bits → List Bool
@@ -43,7 +51,7 @@ conv-dot m (g ∷ gs) u zero = ap (λ (b : Bool). (g && u 0) +₂ b) (sym (dot-n
 conv-dot m (g ∷ gs) u (suc t) = ap (λ (b : Bool). (g && u (suc t)) +₂ b) (conv-dot m gs u t)
 
 -- a register of m bits keeps what generators of m + 1 digits reach
-pub dot-take : (m : ℕ) (gs h : List Bool) → length gs ≤ m → dot gs (take m h) ≡ dot gs h
+dot-take : (m : ℕ) (gs h : List Bool) → length gs ≤ m → dot gs (take m h) ≡ dot gs h
 unfolding dot
 dot-take m [] h l = refl
 dot-take zero (g ∷ gs) h l = absurd (not-suc-le-zero l)
@@ -62,37 +70,29 @@ unfolding push
 push-state zero b h = refl
 push-state (suc m) b h = ap (λ (l : List Bool). b ∷ l) (take-take m (suc m) h (omega arith))
 
-+₂-again : (x y : Bool) → x +₂ y +₂ y ≡ x
-+₂-again x y = +₂-assoc x y y ∙ ap (λ (z : Bool). x +₂ z) (+₂-self y) ∙ +₂-false x
-
 -- THE QUOTIENT: times the generator it is the data, and nothing else is
 module _ (m : ℕ) (gs : List Bool) where
   -- the register holds the quotient's last bits
-  pub register-hist : (d : Bits) (t : ℕ) → register m gs d t ≡ take m (hist m t (quotient m gs d))
+  register-hist : (d : Bits) (t : ℕ) → register m gs d t ≡ take m (hist m t (quotient m gs d))
   unfolding register hist quotient
   register-hist d zero = sym (hist-zero m (quotient m gs d))
-  register-hist d (suc t) = ap (push m (quotient m gs d t)) (register-hist d t) ∙ push-state m (quotient m gs d t) (hist m t (quotient m gs d))
+  register-hist d (suc t) = ap (push m (quotient m gs d t)) (register-hist d t) ∙ push-state m _ (hist m t (quotient m gs d))
 
   module _ (l : length gs ≤ m) where
     sum-quotient : (d : Bits) (t : ℕ) → dot (true ∷ gs) (hist m (suc t) (quotient m gs d)) ≡ d t
     unfolding dot hist quotient
     sum-quotient d t =
-        ap (λ (x : Bool). d t +₂ dot gs (register m gs d t) +₂ x) (sym (dot-take m gs (hist m t (quotient m gs d)) l) ∙ ap (dot gs) (sym (register-hist d t)))
+        ap (λ (x : Bool). d t +₂ dot gs (register m gs d t) +₂ x)
+        (sym (dot-take m gs (hist m t (quotient m gs d)) l) ∙ ap (dot gs) (sym (register-hist d t)))
         ∙ +₂-again (d t) (dot gs (register m gs d t))
 
     -- the generator times the quotient is the data
     pub conv-quotient : (d : Bits) → conv (true ∷ gs) (quotient m gs d) ≡ d
     conv-quotient d = fun-ext λ t. conv-dot m (true ∷ gs) (quotient m gs d) t ∙ sum-quotient d t
 
-    -- the quotient of a product is the factor, below stage n and for all stages
+    -- the quotient of a product is the factor, below stage n
     pub quotient-below : (n : ℕ) (x d : Bits) → Agree n (conv (true ∷ gs) x) d → Agree n x (quotient m gs d)
     quotient-below n x d e = conv-inj n gs x (quotient m gs d) (rw (conv-quotient d) e)
-
-    -- for all stages
-    pub quotient-conv : (x : Bits) → quotient m gs (conv (true ∷ gs) x) ≡ x
-    quotient-conv x =
-        let d : Bits = conv (true ∷ gs) x in
-        fun-ext λ t. sym (quotient-below (suc t) x d (record { at = λ s h. refl }) .at t (omega arith))
 
 -- cancellation for all stages
 pub conv-cancel : (gs : List Bool) (x y : Bits) → conv (true ∷ gs) x ≡ conv (true ∷ gs) y → x ≡ y
@@ -119,23 +119,16 @@ dot-final (g ∷ gs) x (y ∷ ys) e f =
     ap (λ (b : Bool). (g && x) +₂ b) (dot-final gs y ys k f) ∙ sym (+₂-assoc (g && x) _ _)
 
 recover : (b d f : Bool) → b +₂ (d +₂ f) +₂ b +₂ d ≡ f
-recover false false false = refl
-recover false false true = refl
-recover false true false = refl
-recover false true true = refl
-recover true false false = refl
-recover true false true = refl
-recover true true false = refl
-recover true true true = refl
+recover b d f = rw (+₂-comm b (d +₂ f), +₂-again (d +₂ f) b, +₂-comm d f, +₂-again f d)
 
 -- a step and a step back
-pub back-forth : (gs : List Bool) (b : Bool) (s : List Bool) → length s ≡ length gs → getD (true ∷ gs) (length gs) false ≡ true
-    → back gs b (forth (length gs) gs b s) ≡ s
-unfolding back forth push
-back-forth [] b [] e f = refl
-back-forth [] b (x ∷ xs) e f = let z : suc (length xs) ≡ 0 = e in absurd (omega arith)
-back-forth (g ∷ gs) b [] e f = let z : _≡_ {A = ℕ} 0 (suc (length gs)) = e in absurd (omega arith)
-back-forth (g ∷ gs) b (x ∷ xs) e f =
+stepBack-stepForth : (gs : List Bool) (b : Bool) (s : List Bool) → length s ≡ length gs → getD (true ∷ gs) (length gs) false ≡ true
+    → stepBack gs b (stepForth (length gs) gs b s) ≡ s
+unfolding stepBack stepForth push
+stepBack-stepForth [] b [] e f = refl
+stepBack-stepForth [] b (x ∷ xs) e f = let z : suc (length xs) ≡ 0 = e in absurd (omega arith)
+stepBack-stepForth (g ∷ gs) b [] e f = let z : _≡_ {A = ℕ} 0 (suc (length gs)) = e in absurd (omega arith)
+stepBack-stepForth (g ∷ gs) b (x ∷ xs) e f =
     let k : length gs ≡ length xs = omega arith in
     let D : Bool = dot (g ∷ gs) (take (length xs) (x ∷ xs)) in
     rw k
@@ -155,10 +148,11 @@ register-newest zero gs d t h = absurd (not-suc-le-zero h)
 register-newest (suc m) gs d t h = refl
 
 -- the register of stage t from that after it and the data bit
-pub register-back : (m : ℕ) (gs : List Bool) → length gs ≡ m → getD (true ∷ gs) m false ≡ true → (d : Bits) (t : ℕ)
-    → back gs (d t) (register m gs d (suc t)) ≡ register m gs d t
-unfolding register forth
-register-back m gs e f d t =
+pub stepBack-register : (m : ℕ) (gs : List Bool) → length gs ≡ m → getD (true ∷ gs) m false ≡ true → (d : Bits) (t : ℕ)
+    → stepBack gs (d t) (register m gs d (suc t)) ≡ register m gs d t
+unfolding register stepForth
+stepBack-register m gs e f d t =
     let s : List Bool = register m gs d t in
     let k : length s ≡ length gs = register-length m gs d t ∙ sym e in
-    ap (λ (n : ℕ). back gs (d t) (push n (d t +₂ dot gs s) s)) (sym e) ∙ back-forth gs (d t) s k (ap (λ (n : ℕ). getD (true ∷ gs) n false) e ∙ f)
+    ap (λ (n : ℕ). stepBack gs (d t) (push n (d t +₂ dot gs s) s)) (sym e)
+    ∙ stepBack-stepForth gs (d t) s k (ap (λ (n : ℕ). getD (true ∷ gs) n false) e ∙ f)

@@ -1,13 +1,22 @@
--- The laws of convolution: it is additive, commutes with the shift and with itself, is causal, and loses nothing where digit 0 is 1.
+-- Laws of sequences of bits: the convolution is additive, commutes with the shift and with itself, depends on no later stage, and loses
+-- nothing where digit 0 is 1.
+--   +₂-assoc, +₂-comm, ..      the sum of bits
+--   odd-add, odd-mul           the oddness of a sum and of a product
+--   odd-mod-two                oddness by the remainder mod 2
+--   odd-only                   a number below 2 by its oddness
+--   ⊕-assoc, ⊕-comm, ..        the sum of sequences
+--   conv-⊕, conv-comm          the convolution of a sum, and of a convolution
+--   agree-⊕, agree-conv, ..    what agrees below a stage still does after a sum, and after a convolution
+--   conv-inj                   where digit 0 is 1, convolutions that agree are of sequences that agree
 use mathlib.Core.Path.{_≡_, refl, sym, _∙_, ap, ap₂, fun-ext}
-use mathlib.Core.Bool.{Bool, true, false, _&&_}
+use mathlib.Core.Bool.{Bool, true, false, _&&_, not, Bool·not-not}
 use mathlib.Core.List.{List, [], _∷_}
-use Prim.Native.Nat.{ℕ, zero, suc, _<_}
+use Prim.Native.Nat.{ℕ, zero, suc, _<_, _+_, _*_, _%_}
 use native.Mathlib.Omega.{arith}
 use native.Mathlib.Nat.{not-suc-le-zero}
-use Rattle.codes.specs.Sequences.{_+₂_, Bits, zeros, _⊕_, scale, shift, conv, Agree}
+use Rattle.codes.specs.Sequences.{_+₂_, Bits, zeros, _⊕_, scale, shift, conv, Agree, odd}
 
--- the laws of the sum of bits
+-- BITS. The laws of their sum
 pub +₂-assoc : (a b c : Bool) → a +₂ b +₂ c ≡ a +₂ (b +₂ c)
 +₂-assoc false false false = refl
 +₂-assoc false false true = refl
@@ -24,11 +33,11 @@ pub +₂-comm : (a b : Bool) → a +₂ b ≡ b +₂ a
 +₂-comm true false = refl
 +₂-comm true true = refl
 
-pub +₂-self : (a : Bool) → a +₂ a ≡ false
++₂-self : (a : Bool) → a +₂ a ≡ false
 +₂-self false = refl
 +₂-self true = refl
 
-pub +₂-false : (a : Bool) → a +₂ false ≡ a
++₂-false : (a : Bool) → a +₂ false ≡ a
 +₂-false false = refl
 +₂-false true = refl
 
@@ -40,27 +49,73 @@ pub +₂-false : (a : Bool) → a +₂ false ≡ a
 &&-false true = refl
 &&-false false = refl
 
--- the laws of the sum of sequences
-pub ⊕-assoc : (x y z : Bits) → x ⊕ y ⊕ z ≡ x ⊕ (y ⊕ z)
+-- what is added twice goes
+pub +₂-again : (a b : Bool) → a +₂ b +₂ b ≡ a
++₂-again a b = rw (+₂-assoc a b b, +₂-self b, +₂-false a)
+
+-- ODD. A sum is odd if just one of the two is
+pub odd-add : (x y : ℕ) → odd (x + y) ≡ odd x +₂ odd y
+unfolding odd
+odd-add zero y = let e : 0 + y ≡ y = omega arith in rw (e, +₂-comm false (odd y), +₂-false (odd y))
+odd-add (suc x) y = let e : suc x + y ≡ suc (x + y) = omega arith in rw (e, odd-add x y) (go (odd x) (odd y))
+  where
+    go : (c d : Bool) → not (c +₂ d) ≡ not c +₂ d
+    go false false = refl
+    go false true = refl
+    go true false = refl
+    go true true = refl
+
+-- a product is odd if both are
+pub odd-mul : (x y : ℕ) → odd (x * y) ≡ (odd x && odd y)
+unfolding odd
+odd-mul zero y = let e : 0 * y ≡ 0 = omega arith in rw e
+odd-mul (suc x) y = let e : suc x * y ≡ y + x * y = omega arith in rw (e, odd-add y (x * y), odd-mul x y) (go (odd x) (odd y))
+  where
+    go : (c d : Bool) → d +₂ (c && d) ≡ (not c && d)
+    go false false = refl
+    go false true = refl
+    go true false = refl
+    go true true = refl
+
+-- a number is odd just if its remainder mod 2 is
+pub odd-mod-two : (x : ℕ) → odd (x % 2) ≡ odd x
+unfolding odd
+odd-mod-two zero = refl
+odd-mod-two (suc zero) = refl
+odd-mod-two (suc (suc x)) = let e : suc (suc x) % 2 ≡ x % 2 = omega arith in rw e (odd-mod-two x ∙ sym (Bool·not-not (odd x)))
+
+-- numbers below 2 of the same oddness are the same
+pub odd-only : (x y : ℕ) → x < 2 → y < 2 → odd x ≡ odd y → x ≡ y
+unfolding odd
+odd-only zero zero h k e = refl
+odd-only zero (suc zero) h k e = absurd (let z : _≡_ {A = ℕ} 0 1 = cc in omega arith)
+odd-only (suc zero) zero h k e = absurd (let z : _≡_ {A = ℕ} 0 1 = cc in omega arith)
+odd-only (suc zero) (suc zero) h k e = refl
+odd-only (suc (suc x)) y h k e = absurd (let z : ⊥ = omega arith in z)
+odd-only zero (suc (suc y)) h k e = absurd (let z : ⊥ = omega arith in z)
+odd-only (suc zero) (suc (suc y)) h k e = absurd (let z : ⊥ = omega arith in z)
+
+-- SEQUENCES. The laws of their sum
+⊕-assoc : (x y z : Bits) → x ⊕ y ⊕ z ≡ x ⊕ (y ⊕ z)
 unfolding _⊕_
 ⊕-assoc x y z = fun-ext λ t. +₂-assoc (x t) (y t) (z t)
 
-pub ⊕-comm : (x y : Bits) → x ⊕ y ≡ y ⊕ x
+⊕-comm : (x y : Bits) → x ⊕ y ≡ y ⊕ x
 unfolding _⊕_
 ⊕-comm x y = fun-ext λ t. +₂-comm (x t) (y t)
 
-pub ⊕-left : (x y z : Bits) → x ⊕ (y ⊕ z) ≡ y ⊕ (x ⊕ z)
+⊕-left : (x y z : Bits) → x ⊕ (y ⊕ z) ≡ y ⊕ (x ⊕ z)
 ⊕-left x y z = sym (⊕-assoc x y z) ∙ ap (λ (w : Bits). w ⊕ z) (⊕-comm x y) ∙ ⊕-assoc y x z
 
-pub ⊕-self : (x : Bits) → x ⊕ x ≡ zeros
+⊕-self : (x : Bits) → x ⊕ x ≡ zeros
 unfolding _⊕_ zeros
 ⊕-self x = fun-ext λ t. +₂-self (x t)
 
-pub ⊕-zeros : (x : Bits) → x ⊕ zeros ≡ x
+⊕-zeros : (x : Bits) → x ⊕ zeros ≡ x
 unfolding _⊕_ zeros
 ⊕-zeros x = fun-ext λ t. +₂-false (x t)
 
-pub zeros-⊕ : (x : Bits) → zeros ⊕ x ≡ x
+zeros-⊕ : (x : Bits) → zeros ⊕ x ≡ x
 zeros-⊕ x = ⊕-comm zeros x ∙ ⊕-zeros x
 
 -- what is added twice goes
@@ -68,7 +123,7 @@ pub ⊕-twice : (x y : Bits) → x ⊕ (x ⊕ y) ≡ y
 ⊕-twice x y = sym (⊕-assoc x x y) ∙ ap (λ (w : Bits). w ⊕ y) (⊕-self x) ∙ zeros-⊕ y
 
 -- scale, shift and conv go through sums and through each other
-pub scale-⊕ : (g : Bool) (x y : Bits) → scale g (x ⊕ y) ≡ scale g x ⊕ scale g y
+scale-⊕ : (g : Bool) (x y : Bits) → scale g (x ⊕ y) ≡ scale g x ⊕ scale g y
 unfolding _⊕_ scale
 scale-⊕ g x y = fun-ext λ t. &&-+₂ g (x t) (y t)
 
@@ -84,29 +139,25 @@ scale-true : (x : Bits) → scale true x ≡ x
 unfolding scale
 scale-true x = refl
 
+-- sequences are the same if they are at stage 0 and after it
+by-stage : {x y : Bits} → x 0 ≡ y 0 → ((t : ℕ) → x (suc t) ≡ y (suc t)) → x ≡ y
+by-stage {x} {y} a b = fun-ext go
+  where
+    go : (t : ℕ) → x t ≡ y t
+    go zero = a
+    go (suc t) = b t
+
 shift-⊕ : (x y : Bits) → shift (x ⊕ y) ≡ shift x ⊕ shift y
 unfolding _⊕_ shift
-shift-⊕ x y = fun-ext go
-  where
-    go : (t : ℕ) → (shift (x ⊕ y)) t ≡ (shift x ⊕ shift y) t
-    go zero = refl
-    go (suc t) = refl
+shift-⊕ x y = by-stage refl (λ t. refl)
 
 shift-zeros : shift zeros ≡ zeros
 unfolding zeros shift
-shift-zeros = fun-ext go
-  where
-    go : (t : ℕ) → shift zeros t ≡ zeros t
-    go zero = refl
-    go (suc t) = refl
+shift-zeros = by-stage refl (λ t. refl)
 
 shift-scale : (g : Bool) (x : Bits) → shift (scale g x) ≡ scale g (shift x)
 unfolding scale shift
-shift-scale g x = fun-ext go
-  where
-    go : (t : ℕ) → shift (scale g x) t ≡ scale g (shift x) t
-    go zero = sym (&&-false g)
-    go (suc t) = refl
+shift-scale g x = by-stage (sym (&&-false g)) (λ t. refl)
 
 -- the clauses of conv as equations
 conv-nil : (x : Bits) → conv [] x ≡ zeros
@@ -118,7 +169,7 @@ unfolding conv
 conv-cons g gs x = refl
 
 -- conv of zeros is zeros
-pub conv-zeros : (g : List Bool) → conv g zeros ≡ zeros
+conv-zeros : (g : List Bool) → conv g zeros ≡ zeros
 conv-zeros [] = conv-nil zeros
 conv-zeros (g ∷ gs) = simp (conv-cons, conv-zeros gs, scale-zeros, shift-zeros, ⊕-zeros)
 
@@ -128,12 +179,12 @@ conv-⊕ [] x y = simp (conv-nil, ⊕-zeros)
 conv-⊕ (g ∷ gs) x y = simp (conv-cons, conv-⊕ gs x y, scale-⊕, shift-⊕, ⊕-assoc, ⊕-left)
 
 -- conv commutes with shift
-pub conv-shift : (g : List Bool) (x : Bits) → conv g (shift x) ≡ shift (conv g x)
+conv-shift : (g : List Bool) (x : Bits) → conv g (shift x) ≡ shift (conv g x)
 conv-shift [] x = simp (conv-nil, shift-zeros)
 conv-shift (g ∷ gs) x = simp (conv-cons, conv-shift gs x, shift-⊕, shift-scale)
 
 -- conv commutes with scale
-pub conv-scale : (g : List Bool) (b : Bool) (x : Bits) → conv g (scale b x) ≡ scale b (conv g x)
+conv-scale : (g : List Bool) (b : Bool) (x : Bits) → conv g (scale b x) ≡ scale b (conv g x)
 conv-scale [] b x = simp (conv-nil, scale-zeros)
 conv-scale (g ∷ gs) true x = simp scale-true
 conv-scale (g ∷ gs) false x = simp (scale-false, conv-zeros)
@@ -143,27 +194,9 @@ pub conv-comm : (g h : List Bool) (x : Bits) → conv g (conv h x) ≡ conv h (c
 conv-comm [] h x = simp (conv-nil, conv-zeros)
 conv-comm (g ∷ gs) h x = simp (conv-cons, conv-comm gs h x, conv-⊕, conv-scale, conv-shift)
 
--- cancelling
-pub ⊕-cancel : (x y z : Bits) → (x ⊕ y) ⊕ (x ⊕ z) ≡ y ⊕ z
-⊕-cancel x y z = ⊕-assoc x y (x ⊕ z) ∙ ap (λ (w : Bits). x ⊕ w) (⊕-left y x z) ∙ ⊕-twice x (y ⊕ z)
-
-pub ⊕-swap : (x y z w : Bits) → (x ⊕ y) ⊕ (z ⊕ w) ≡ (x ⊕ z) ⊕ (y ⊕ w)
-⊕-swap x y z w = simp (⊕-assoc, ⊕-left y z w)
-
--- what is added twice goes, from behind
-pub ⊕-back : (x y : Bits) → (x ⊕ y) ⊕ y ≡ x
-⊕-back x y = simp (⊕-assoc, ⊕-self, ⊕-zeros)
-
--- two sequences whose sum is zeros are the same
-pub same-of-zeros : (x y : Bits) → x ⊕ y ≡ zeros → x ≡ y
-same-of-zeros x y e = sym (⊕-back x y) ∙ ap (λ (w : Bits). w ⊕ y) e ∙ zeros-⊕ y
-
 -- causality: what stands below stage n depends on what stands below stage n
 pub agree-refl : (n : ℕ) (x : Bits) → Agree n x x
 agree-refl n x = record { at = λ t h. refl }
-
-pub agree-sym : {n : ℕ} {x y : Bits} → Agree n x y → Agree n y x
-agree-sym e = record { at = λ t h. sym (e .at t h) }
 
 pub agree-trans : {n : ℕ} {x y z : Bits} → Agree n x y → Agree n y z → Agree n x z
 agree-trans e f = record { at = λ t h. e .at t h ∙ f .at t h }
@@ -194,17 +227,10 @@ pub agree-conv : {n : ℕ} (g : List Bool) {x y : Bits} → Agree n x y → Agre
 agree-conv {n} [] e = simp conv-nil (agree-refl n zeros)
 agree-conv (g ∷ gs) e = simp conv-cons (agree-⊕ (agree-scale g e) (agree-down (agree-shift (agree-conv gs e))))
 
--- the digits are determined: a generator whose digit 0 is 1 loses nothing
-+₂-cancel : (a b c c′ : Bool) → a +₂ c ≡ b +₂ c′ → c ≡ c′ → a ≡ b
-+₂-cancel a b c c′ e f = sym (back a c) ∙ ap₂ (λ (x y : Bool). x +₂ y) e f ∙ back b c′
-  where
-    back : (x y : Bool) → x +₂ y +₂ y ≡ x
-    back x y = +₂-assoc x y y ∙ ap (λ (z : Bool). x +₂ z) (+₂-self y) ∙ +₂-false x
-
--- cancellation below stage n
+-- a generator whose digit 0 is 1 loses nothing, below stage n
 pub conv-inj : (n : ℕ) (gs : List Bool) (u v : Bits) → Agree n (conv (true ∷ gs) u) (conv (true ∷ gs) v) → Agree n u v
 unfolding conv scale _⊕_
 conv-inj zero gs u v e = record { at = λ t h. absurd (not-suc-le-zero h) }
 conv-inj (suc n) gs u v e =
     let s : Agree (suc n) (shift (conv gs u)) (shift (conv gs v)) = agree-shift (agree-conv gs (conv-inj n gs u v (agree-down e))) in
-    record { at = λ t h. +₂-cancel (u t) (v t) _ _ (e .at t h) (s .at t h) }
+    record { at = λ t h. sym (+₂-again (u t) _) ∙ ap₂ (λ (a b : Bool). a +₂ b) (e .at t h) (s .at t h) ∙ +₂-again (v t) _ }

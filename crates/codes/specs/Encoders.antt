@@ -1,6 +1,7 @@
 -- An encoder of any memory with any number of generators, its digits as bits: what the laws are about.
 --   Encoder        the memory and the digits of G_1, .. G_n
 --   InMemory E     no generator reaches back more than the memory
+--   digitBits m g  the m + 1 digits of a generator, as bits
 --   encoderOf G    the encoder of the paper's numbers
 --   Proper G       G1's first and last digits are 1
 use mathlib.Core.Path.{_≡_}
@@ -23,12 +24,16 @@ pub record InMemory (E : Encoder) : Type 0 where
   pub first-fits : length (E .first) ≤ E .memory
   pub others-fit : Each (λ G. length G ≤ suc (E .memory)) (E .others)
 
+-- the digits of a generator, as bits
+abbrev pub digitBits : ℕ → ℕ → List Bool
+digitBits m g = listOf (suc m) (λ i. odd (digit m g i))
+
 -- the encoder of a code's generators
 unfoldable pub encoderOf : Generators → Encoder
 encoderOf G = record {
   memory = G .memory;
   first = listOf (G .memory) (λ i. odd (digit (G .memory) (G .g1) (suc i)));
-  others = map (λ g. listOf (suc (G .memory)) (λ i. odd (digit (G .memory) g i))) (G .others);
+  others = map (λ g. digitBits (G .memory) g) (G .others);
 }
 
 -- generators by which data can be divided, and a step of the division undone: G1's first digit is 1, and so is its last

@@ -1,4 +1,5 @@
--- What the crate `codes` promises is stated by `Generators`, `Layouts`, `Reading`, `Taps` and `Codes`; the others are the algebra behind the search.
+-- What the crate `codes` promises is stated by `Generators`, `Layouts`, `Reading`, `Taps` and `Codes`; the others are the algebra
+-- behind the search.
 pub mod Generators
 pub mod Layouts
 pub mod Reading

@@ -27,8 +27,8 @@ sumBit m g1 g a b t = sumOf (suc m) (λ i. digit m g i * ago a t i + digit m g1 
 unfoldable pub codeBit : Layout → (ℕ → ℕ) → ℕ → ℕ → ℕ
 codeBit lay v j t = getD (lay .shows (listOf (lay .cells) (λ i. v (lay .cells * t + i)))) j 0
 
--- 'Data bit t is the sum ..': with r data bits a stage, bit n belongs to stage n div r, and is formed from the first code bits with generator n mod r
--- after the first and from that generator's own code bits with G1
+-- 'Data bit t is the sum ..': with r data bits a stage, bit n belongs to stage n div r, and is formed from the first code bits with
+-- generator n mod r after the first and from that generator's own code bits with G1
 unfoldable pub dataBit : Layout → Generators → (ℕ → ℕ) → ℕ → ℕ
 dataBit lay G v n =
     sumBit (G .memory) (G .g1) (getD (G .others) (n % lay .bits) 0) (codeBit lay v 0) (codeBit lay v (suc (n % lay .bits))) (n / lay .bits)

@@ -6,7 +6,7 @@
 --   forthOf, backOf      the register of the last labels, a stage on and a stage back
 --   windowOf n x t       the last n of the bits x 0 .. x (t − 1)
 --   firstBit, secondBit  the bits of a stage's two cells, by the levels
---   tappedBit f s v t    data bit t by such windows of the cells' bits
+--   tappedBit g1 g2 v t  data bit t by the taps g1 and g2 and such windows of the cells' bits
 use Prim.Native.Nat.{ℕ, zero, suc, _+_, _*_, _-_, _/_, _%_, _^_}
 use lib.Bits.{bitAnd}
 use lib.Count.{ones}
@@ -52,4 +52,4 @@ secondBit v t = v (2 * t + 1) % 2
 
 -- data bit t by windows of the last seven cell bits: the most that a generator of memory 6 reaches
 unfoldable pub tappedBit : ℕ → ℕ → (ℕ → ℕ) → ℕ → ℕ
-tappedBit first second v t = (parityOf second (windowOf 7 (firstBit v) (suc t)) + parityOf first (windowOf 7 (secondBit v) (suc t))) % 2
+tappedBit g1 g2 v t = (parityOf g2 (windowOf 7 (firstBit v) (suc t)) + parityOf g1 (windowOf 7 (secondBit v) (suc t))) % 2

@@ -7,13 +7,16 @@ use lib.Pow.{pow-mono}
 use borrow.Author.Needs.{needs}
 use Rattle.codes.specs.Taps.{backOf, labelOf}
 use Rattle.cells.proofs.Places.{one-shl}
-use Rattle.codes.proofs.Parities.{memory-bounds}
+use Rattle.codes.proofs.Codes.{memory-bounds}
 use Rattle.codes.proofs.Code.back.Statement.{statement}
 use Rattle.codes.proofs.Code.back.Tie as tie
 
 -- what the oldest label adds
-oldest : (c : tie.After-memory) → c .before .label .result * ((1 * 2 ^ (c .memory .result - 1)) % 2 ^ 32) ≡ c .before .label .result * 2 ^ (c .memory .result - 1)
-oldest c = ap (λ (y : ℕ). c .before .label .result * y) (one-shl (c .memory .result - 1) 32 (omega arith))
+oldest : (c : tie.After-memory) →
+    let x = c .before .label .result in
+    let k = c .memory .result - 1 in
+    x * ((1 * 2 ^ k) % 2 ^ 32) ≡ x * 2 ^ k
+oldest c = rw (one-shl (c .memory .result - 1) 32 (omega arith))
 
 -- it is at most 32
 small : (c : tie.After-memory) → c .before .label .result * 2 ^ (c .memory .result - 1) ≤ 1 * 2 ^ 5

@@ -10,25 +10,26 @@ use Rattle.cells.specs.Levels.{level}
 use Rattle.codes.specs.Codes.{generatorsOf, WindowsBefore}
 use Rattle.codes.specs.Taps.{windowOf, tappedBit}
 use Rattle.cells.proofs.Places.{store-more}
-use Rattle.codes.proofs.Parities.{memory-bounds, read-bytes}
+use Rattle.codes.proofs.Codes.{memory-bounds}
+use Rattle.codes.proofs.Taps.{read-bytes}
 use Rattle.codes.proofs.Code.read.Statement.{statement}
 use Rattle.codes.proofs.Code.read.Tie as tie
 
 abbrev Inv-loop : tie.InvT-loop
-Inv-loop strip data₀ first second windows₀ q₀ «data» windows q =
+Inv-loop strip data₀ g1 g2 windows₀ q₀ «data» windows q =
     (length «data» ≡ length data₀)
     × (q ≤ length data₀)
     × WindowsBefore strip q windows
-    × ((k : ℕ) → k < q → getD «data» k 0 ≡ number 8 (λ i. tappedBit first second (level strip) (8 * k + i)))
+    × ((k : ℕ) → k < q → getD «data» k 0 ≡ number 8 (λ i. tappedBit g1 g2 (level strip) (8 * k + i)))
 
 abbrev μ-loop : tie.MeasureT-loop
-μ-loop strip data₀ first second windows₀ q₀ «data» windows q = length data₀ - q
+μ-loop strip data₀ g1 g2 windows₀ q₀ «data» windows q = length data₀ - q
 
-first-taps-requires : tie.Need-first-taps-requires Inv-loop μ-loop
-first-taps-requires c κs = search needs
+g1-taps-requires : tie.Need-g1-taps-requires Inv-loop μ-loop
+g1-taps-requires c κs = search needs
 
-second-taps-requires : tie.Need-second-taps-requires Inv-loop μ-loop
-second-taps-requires c κs = search needs
+g2-taps-requires : tie.Need-g2-taps-requires Inv-loop μ-loop
+g2-taps-requires c κs = search needs
 
 loop-holds : tie.Need-loop-holds Inv-loop μ-loop
 unfolding windowOf
@@ -55,8 +56,7 @@ loop-again c =
       simp length-set (omega arith),
       omega arith,
       r .ensures .1,
-      store-more (l .«data») (l .q) (r .result .byte) (λ k. number 8 (λ i. tappedBit (s .before .first-taps .result) (s .second-taps .result) (level (a .strip .now)) (8 * k + i)))
-          (omega arith) (r .ensures .0) (l .inv .3),
+      store-more (l .«data») (l .q) (r .result .byte) _ (omega arith) (r .ensures .0) (l .inv .3),
     )
 
 same-length : tie.Need-same-length Inv-loop μ-loop
@@ -69,7 +69,8 @@ returns c =
     let l = c .before .loop in
     let m = memory-bounds (a .self .name) .1 in
     let e : l .q ≡ length (a .«data» .now) = omega arith in
-    read-bytes (generatorsOf (a .self)) _ _ _ (a .strip .now) (l .«data») m (s .before .first-taps .ensures .0) (s .second-taps .ensures .0) (l .inv .0) (λ k h. l .inv .3 k (omega arith))
+    read-bytes (generatorsOf (a .self)) _ (a .strip .now) (l .«data») m (l .inv .0)
+    (λ k h. rw (s .before .g1-taps .ensures .0, s .g2-taps .ensures .0) at (l .inv .3 k (omega arith)))
 
 pub read-spec : {M : Type 1} → statement M
 read-spec =
@@ -77,8 +78,8 @@ read-spec =
     (tie.spec
     Inv-loop
     μ-loop
-    first-taps-requires
-    second-taps-requires
+    g1-taps-requires
+    g2-taps-requires
     loop-holds
     read-byte-requires
     slice-write-data

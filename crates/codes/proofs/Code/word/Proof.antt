@@ -13,14 +13,14 @@ mul-w c = search needs
 add-w : tie.Need-add-w
 add-w c = search needs
 
-first-taps-requires : tie.Need-first-taps-requires
-first-taps-requires c κs = search needs
+g1-taps-requires : tie.Need-g1-taps-requires
+g1-taps-requires c κs = search needs
 
 parity-requires : tie.Need-parity-requires
 parity-requires c κs = search needs
 
-second-taps-requires : tie.Need-second-taps-requires
-second-taps-requires c κs = search needs
+g2-taps-requires : tie.Need-g2-taps-requires
+g2-taps-requires c κs = search needs
 
 parity-requires-2 : tie.Need-parity-requires-2
 parity-requires-2 c κs = search needs
@@ -36,8 +36,8 @@ unfolding wordOf
 returns c =
     let a = c .before .before .before .before .args in
     let w = 2 * a .s + a .d % 2 in
-    let p = c .before .before .parity .ensures .0 ∙ ap (λ (t : ℕ). parityOf t w) (c .before .before .before .first-taps .ensures .0) in
-    let q = c .parity2 .ensures .0 ∙ ap (λ (t : ℕ). parityOf t w) (c .before .second-taps .ensures .0) in
+    let p = c .before .before .parity .ensures .0 ∙ ap (λ (t : ℕ). parityOf t w) (c .before .before .before .g1-taps .ensures .0) in
+    let q = c .parity2 .ensures .0 ∙ ap (λ (t : ℕ). parityOf t w) (c .before .g2-taps .ensures .0) in
     (ap₂ (λ (x y : ℕ). x + 2 * y) p q, omega arith)
 
 pub word-spec : {M : Type 1} → statement M
@@ -46,9 +46,9 @@ word-spec =
     (tie.spec
     mul-w
     add-w
-    first-taps-requires
+    g1-taps-requires
     parity-requires
-    second-taps-requires
+    g2-taps-requires
     parity-requires-2
     mul-result
     add-result

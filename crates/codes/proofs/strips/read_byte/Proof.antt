@@ -5,22 +5,21 @@ use native.Mathlib.Omega.{arith}
 use borrow.Author.Needs.{needs}
 use Rattle.cells.specs.Places.{number}
 use Rattle.cells.specs.Levels.{level}
-use Rattle.codes.specs.Taps.{firstBit, secondBit}
-use Rattle.codes.specs.Taps.{windowOf, tappedBit}
+use Rattle.codes.specs.Taps.{windowOf, firstBit, secondBit, tappedBit}
 use Rattle.cells.proofs.Places.{number-next, number-fits}
-use Rattle.codes.proofs.Parities.{window-less, tapped-bound, first-next, second-next, data-next}
-use Rattle.codes.proofs.read_byte.Statement.{statement}
-use Rattle.codes.proofs.read_byte.Tie as tie
+use Rattle.codes.proofs.Taps.{window-less, tapped-bound, first-next, second-next, data-next}
+use Rattle.codes.proofs.strips.read_byte.Statement.{statement}
+use Rattle.codes.proofs.strips.read_byte.Tie as tie
 
 abbrev Inv-loop : tie.InvT-loop
-Inv-loop first second strip q a₀ b₀ byte₀ i₀ a b byte i =
+Inv-loop g1 g2 strip q a₀ b₀ byte₀ i₀ a b byte i =
     (i ≤ 8)
     × (a ≡ windowOf 7 (firstBit (level strip)) (8 * q + i))
     × (b ≡ windowOf 7 (secondBit (level strip)) (8 * q + i))
-    × (byte ≡ number i (λ k. tappedBit first second (level strip) (8 * q + k)))
+    × (byte ≡ number i (λ k. tappedBit g1 g2 (level strip) (8 * q + k)))
 
 abbrev μ-loop : tie.MeasureT-loop
-μ-loop first second strip q a₀ b₀ byte₀ i₀ a b byte i = 8 - i
+μ-loop g1 g2 strip q a₀ b₀ byte₀ i₀ a b byte i = 8 - i
 
 -- the first window a stage later
 first-window : (c : tie.After-level2 Inv-loop μ-loop) →
@@ -46,13 +45,16 @@ second-window c =
 byte-next : (c : tie.After-parity2 Inv-loop μ-loop) →
     let a = c .before .before .before .before .before .before .before .args in
     let l = c .before .before .before .before .before .loop in
-    l .byte + ((c .before .parity .result + c .parity2 .result) % 2 * 2 ^ l .i) % 2 ^ 32 ≡ number (l .i + 1) (λ k. tappedBit (a .first) (a .second) (level (a .strip .now)) (8 * a .q + k))
+    l .byte + ((c .before .parity .result + c .parity2 .result) % 2 * 2 ^ l .i) % 2 ^ 32
+    ≡ number (l .i + 1) (λ k. tappedBit (a .g1) (a .g2) (level (a .strip .now)) (8 * a .q + k))
 byte-next c =
     let a = c .before .before .before .before .before .before .before .args in
     let l = c .before .before .before .before .before .loop in
     let v = level (a .strip .now) in
-    number-next (l .i) 32 (l .byte) _ _ (λ k. tapped-bound (a .first) (a .second) v (8 * a .q + k)) (omega arith) (l .inv .3)
-    (data-next v (a .q) (l .i) (a .first) (a .second) _ _ _ _ (first-window (c .before .before)) (second-window (c .before .before)) (c .before .parity .ensures .0) (c .parity2 .ensures .0))
+    let e = first-window (c .before .before) in
+    let f = second-window (c .before .before) in
+    number-next (l .i) 32 (l .byte) _ _ (λ k. tapped-bound (a .g1) (a .g2) v (8 * a .q + k)) (omega arith) (l .inv .3)
+    (data-next v (a .q) (l .i) (a .g1) (a .g2) _ _ _ _ e f (c .before .parity .ensures .0) (c .parity2 .ensures .0))
 
 loop-holds : tie.Need-loop-holds Inv-loop μ-loop
 unfolding number
@@ -131,7 +133,8 @@ add-byte : tie.Need-add-byte Inv-loop μ-loop
 add-byte c =
     let a = c .before .before .before .before .before .before .before .args in
     let i = c .before .before .before .before .before .loop .i in
-    omega (arith, byte-next c, number-fits (i + 1) 32 _ (λ k. tapped-bound (a .first) (a .second) (level (a .strip .now)) (8 * a .q + k)) (omega arith))
+    let v = level (a .strip .now) in
+    omega (arith, byte-next c, number-fits (i + 1) 32 _ (λ k. tapped-bound (a .g1) (a .g2) v (8 * a .q + k)) (omega arith))
 
 add-i : tie.Need-add-i Inv-loop μ-loop
 add-i c = search needs
@@ -145,7 +148,8 @@ loop-again c = (omega arith, first-window (c .before .before), second-window (c 
 cast-t20 : tie.Need-cast-t20 Inv-loop μ-loop
 cast-t20 c =
     let a = c .before .before .before .args in
-    omega (arith, number-fits (c .before .loop .i) 8 _ (λ k. tapped-bound (a .first) (a .second) (level (a .strip .now)) (8 * a .q + k)) (omega arith))
+    let v = level (a .strip .now) in
+    omega (arith, number-fits (c .before .loop .i) 8 _ (λ k. tapped-bound (a .g1) (a .g2) v (8 * a .q + k)) (omega arith))
 
 returns : tie.Need-returns Inv-loop μ-loop
 returns c =
@@ -154,7 +158,7 @@ returns c =
     let v = level (a .strip .now) in
     let e : l .i ≡ 8 = omega arith in
     let s : 8 * a .q + l .i ≡ 8 * (a .q + 1) = omega arith in (
-      l .inv .3 ∙ ap (λ (n : ℕ). number n (λ k. tappedBit (a .first) (a .second) v (8 * a .q + k))) e,
+      l .inv .3 ∙ ap (λ (n : ℕ). number n (λ k. tappedBit (a .g1) (a .g2) v (8 * a .q + k))) e,
       record { first-is = l .inv .1 ∙ ap (windowOf 7 (firstBit v)) s; second-is = l .inv .2 ∙ ap (windowOf 7 (secondBit v)) s },
     )
 

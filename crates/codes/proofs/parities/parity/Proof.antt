@@ -2,8 +2,8 @@
 use mathlib.Core.Path.{refl}
 use native.Mathlib.Omega.{arith}
 use Rattle.codes.specs.Taps.{parityOf}
-use Rattle.codes.proofs.parity.Statement.{statement}
-use Rattle.codes.proofs.parity.Tie as tie
+use Rattle.codes.proofs.parities.parity.Statement.{statement}
+use Rattle.codes.proofs.parities.parity.Tie as tie
 
 returns : tie.Need-returns
 unfolding parityOf

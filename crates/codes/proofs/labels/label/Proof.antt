@@ -2,8 +2,8 @@
 use native.Mathlib.Omega.{arith}
 use borrow.Author.Needs.{needs}
 use Rattle.codes.specs.Taps.{labelOf}
-use Rattle.codes.proofs.label.Statement.{statement}
-use Rattle.codes.proofs.label.Tie as tie
+use Rattle.codes.proofs.labels.label.Statement.{statement}
+use Rattle.codes.proofs.labels.label.Tie as tie
 
 parity-requires : tie.Need-parity-requires
 parity-requires c κs = search needs

@@ -7,9 +7,9 @@ use Rattle.cells.specs.Places.{number}
 use Rattle.codes.specs.Generators.{digit}
 use Rattle.codes.specs.Taps.{tapsOf}
 use Rattle.cells.proofs.Places.{number-next, number-fits}
-use Rattle.codes.proofs.Parities.{digit-bound}
-use Rattle.codes.proofs.taps.Statement.{statement}
-use Rattle.codes.proofs.taps.Tie as tie
+use Rattle.codes.proofs.Generators.{digit-bound}
+use Rattle.codes.proofs.parities.taps.Statement.{statement}
+use Rattle.codes.proofs.parities.taps.Tie as tie
 
 abbrev Inv-loop : tie.InvT-loop
 Inv-loop memory generator sum₀ i₀ sum i = (i ≤ memory + 1) × (sum ≡ number i (digit memory generator))
@@ -27,6 +27,9 @@ next-digit c =
     let a = c .before .before .args in
     let l = c .before .loop in
     number-next (l .i) 32 (l .sum) _ _ (digit-bound (a .memory) (a .generator)) (omega arith) (l .inv .1) refl
+
+loop-again : tie.Need-loop-again Inv-loop μ-loop
+loop-again c = (omega arith, next-digit c)
 
 loop-holds : tie.Need-loop-holds Inv-loop μ-loop
 unfolding number
@@ -49,9 +52,6 @@ add-i c = search needs
 
 loop-less : tie.Need-loop-less Inv-loop μ-loop
 loop-less c = search needs
-
-loop-again : tie.Need-loop-again Inv-loop μ-loop
-loop-again c = (omega arith, next-digit c)
 
 returns : tie.Need-returns Inv-loop μ-loop
 unfolding tapsOf

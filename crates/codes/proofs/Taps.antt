@@ -1,4 +1,11 @@
--- What the taps and the windows of the program mean: parities are the paper's sums.
+-- Laws of the program's taps and windows: their parities are the paper's sums.
+--   ones-pair                            the ones of a number, from its last bit and its half
+--   parity-digits                        a parity is the sum mod 2 of digit i times bit i of the window
+--   window-bit                           bit i of a window is what the sequence was i stages ago
+--   parity-window                        a parity with a window is the sum mod 2 of digit i times what the sequence was i stages ago
+--   tapped-data                          the data bit by taps and windows is the paper's
+--   first-next, second-next, data-next   a turn of reading a byte
+--   read-bytes                           bytes of such data bits are what the strip reads as
 use mathlib.Core.Path.{_≡_, sym, _∙_, ap, ap₂}
 use mathlib.Core.List.{List}
 use Prim.Native.Nat.{ℕ, zero, suc, _<_, _≤_, _+_, _*_, _-_, _/_, _%_, _^_, min}
@@ -13,14 +20,12 @@ use Rattle.cells.specs.Bytes.{bytesOf}
 use Rattle.cells.specs.Levels.{level}
 use Rattle.cells.proofs.Places.{listOf-same, listOf-getD, sumOf-same, sumOf-add, number-same, half-power}
 use Rattle.codes.specs.Generators.{Generators, g2, digit}
-use Rattle.codes.specs.Codes.{named}
-use Rattle.codes.specs.declared.Name.{Name}
-use Rattle.codes.specs.declared.Name.the-variants.{Short, Long}
 use Rattle.codes.specs.Layouts.{oneBit}
 use Rattle.codes.specs.Reading.{ago, sumBit, dataBit, readStrip}
 use Rattle.codes.specs.Taps.{tapsOf, parityOf, windowOf, firstBit, secondBit, tappedBit}
+use Rattle.codes.proofs.Generators.{digit-bound}
 use Rattle.codes.proofs.Layouts.{oneBit-data}
-use Rattle.codes.proofs.Sums.{ago-now, ago-before, ago-suc}
+use Rattle.codes.proofs.Reading.{ago-now, ago-before, ago-suc}
 
 -- TAPS. The lesser of two bits is their product
 min-product : (a b : ℕ) → a < 2 → b < 2 → min a b ≡ a * b
@@ -33,7 +38,8 @@ pub ones-pair : (x r : ℕ) → r < 2 → ones (x * 2 + r) ≡ r + ones x
 ones-pair x r h = ones-step (x * 2 + r) ∙ ap₂ (λ (a b : ℕ). a + ones b) (omega arith) (omega arith)
 
 -- taps meet as many ones of a window as the sum of tap i times bit i says
-pub taps-bits : (n : ℕ) (f : ℕ → ℕ) → ((i : ℕ) → f i < 2) → (w : ℕ) → ones (bitAnd (number n f) w) ≡ sumOf n (λ i. f i * (w / 2 ^ i % 2))
+taps-bits : (n : ℕ) (f : ℕ → ℕ) → ((i : ℕ) → f i < 2) → (w : ℕ)
+    → ones (bitAnd (number n f) w) ≡ sumOf n (λ i. f i * (w / 2 ^ i % 2))
 unfolding number sumOf ones
 taps-bits zero f b w = ap ones (and-zero-l w)
 taps-bits (suc n) f b w =
@@ -44,18 +50,13 @@ taps-bits (suc n) f b w =
     ap ones (and-step (f 0 + 2 * N) w ∙ ap₂ (λ (x y : ℕ). bitAnd x (w / 2) * 2 + min y (w % 2)) (half (f 0) N h) (low (f 0) N h))
     ∙ ones-pair (bitAnd N (w / 2)) (min (f 0) (w % 2)) (omega arith)
     ∙ ap₂ (λ (x y : ℕ). x + y) (m ∙ ap (λ (y : ℕ). f 0 * (y % 2)) (sym e))
-    (taps-bits n (λ i. f (suc i)) (λ i. b (suc i)) (w / 2) ∙ sumOf-same n _ _ (λ i l. ap (λ (y : ℕ). f (suc i) * (y % 2)) (sym (half-power w i))))
+    (taps-bits n (λ i. f (suc i)) (λ i. b (suc i)) (w / 2) ∙ sumOf-same n _ _ (λ i l. rw (half-power w i)))
   where
     half : (a x : ℕ) → a < 2 → (a + 2 * x) / 2 ≡ x
     half a x h = omega arith
 
     low : (a x : ℕ) → a < 2 → (a + 2 * x) % 2 ≡ a
     low a x h = omega arith
-
--- a digit is 0 or 1
-pub digit-bound : (m g i : ℕ) → digit m g i < 2
-unfolding digit
-digit-bound m g i = mod-lt _ (zero-lt-suc 1)
 
 -- a parity is the sum mod 2 of digit i times bit i of the window
 pub parity-digits : (m g w : ℕ) → parityOf (tapsOf m g) w ≡ sumOf (suc m) (λ i. digit m g i * (w / 2 ^ i % 2)) % 2
@@ -69,7 +70,7 @@ low-bit n i y h =
     ap (λ (k : ℕ). y % 2 ^ k / 2 ^ i % 2) e ∙ ap (λ (z : ℕ). z % 2) (field y (n - suc i + 1) i) ∙ mod-mod-pow (y / 2 ^ i) (n - suc i) 1
 
 -- bit i of a window is what the sequence was i stages ago
-pub window-bit : (n : ℕ) (x : ℕ → ℕ) → ((t : ℕ) → x t < 2) → (t i : ℕ) → i < n → windowOf n x (suc t) / 2 ^ i % 2 ≡ ago x t i
+window-bit : (n : ℕ) (x : ℕ → ℕ) → ((t : ℕ) → x t < 2) → (t i : ℕ) → i < n → windowOf n x (suc t) / 2 ^ i % 2 ≡ ago x t i
 unfolding windowOf
 window-bit n x b t zero h =
     let k : x t < 2 = b t in
@@ -78,12 +79,12 @@ window-bit n x b t zero h =
 window-bit n x b zero (suc i) h =
     let k : x 0 < 2 = b 0 in
     let e : (2 * 0 + x 0) / 2 ≡ 0 = omega arith in
-    low-bit n (suc i) (2 * 0 + x 0) h ∙ ap (λ (y : ℕ). y % 2) (half-power (2 * 0 + x 0) i ∙ ap (λ (y : ℕ). y / 2 ^ i) e ∙ zero-div (2 ^ i)) ∙ sym (ago-before x i)
+    rw (low-bit n (suc i) (2 * 0 + x 0) h, half-power (2 * 0 + x 0) i, e, zero-div (2 ^ i), ago-before x i)
 window-bit n x b (suc t) (suc i) h =
     let k : x (suc t) < 2 = b (suc t) in
     let w : ℕ = windowOf n x (suc t) in
     let e : (2 * w + x (suc t)) / 2 ≡ w = omega arith in
-    low-bit n (suc i) (2 * w + x (suc t)) h ∙ ap (λ (y : ℕ). y % 2) (half-power (2 * w + x (suc t)) i ∙ ap (λ (y : ℕ). y / 2 ^ i) e) ∙ window-bit n x b t i (omega arith) ∙ sym (ago-suc x t i)
+    rw (low-bit n (suc i) (2 * w + x (suc t)) h, half-power (2 * w + x (suc t)) i, e, ago-suc x t i) (window-bit n x b t i (omega arith))
 
 -- a window of n bits is below 2 ^ n
 pub window-less : (n : ℕ) (x : ℕ → ℕ) (t : ℕ) → windowOf n x t < 2 ^ n
@@ -92,9 +93,11 @@ window-less n x zero = pow-pos n
 window-less n x (suc t) = mod-lt _ (pow-pos n)
 
 -- a parity with a window is the sum mod 2 of digit i times what the sequence was i stages ago
-pub parity-window : (n : ℕ) (x : ℕ → ℕ) → ((t : ℕ) → x t < 2) → (m g t : ℕ) → m < n → parityOf (tapsOf m g) (windowOf n x (suc t)) ≡ sumOf (suc m) (λ i. digit m g i * ago x t i) % 2
+parity-window : (n : ℕ) (x : ℕ → ℕ) → ((t : ℕ) → x t < 2) → (m g t : ℕ) → m < n
+    → parityOf (tapsOf m g) (windowOf n x (suc t)) ≡ sumOf (suc m) (λ i. digit m g i * ago x t i) % 2
 parity-window n x b m g t h =
-    parity-digits m g (windowOf n x (suc t)) ∙ ap (λ (y : ℕ). y % 2) (sumOf-same (suc m) _ _ (λ i l. ap (λ (y : ℕ). digit m g i * y) (window-bit n x b t i (omega arith))))
+    parity-digits m g (windowOf n x (suc t))
+    ∙ ap (λ (y : ℕ). y % 2) (sumOf-same (suc m) _ _ (λ i l. ap (λ (y : ℕ). digit m g i * y) (window-bit n x b t i (omega arith))))
 
 -- the bit of a first cell is 0 or 1
 first-bound : (v : ℕ → ℕ) (t : ℕ) → firstBit v t < 2
@@ -107,7 +110,8 @@ unfolding secondBit
 second-bound v t = mod-lt _ (zero-lt-suc 1)
 
 -- the data bit by taps and windows is the paper's
-pub tapped-data : (G : Generators) (v : ℕ → ℕ) (t : ℕ) → G .memory ≤ 6 → tappedBit (tapsOf (G .memory) (G .g1)) (tapsOf (G .memory) (g2 G)) v t ≡ dataBit oneBit G v t
+tapped-data : (G : Generators) (v : ℕ → ℕ) (t : ℕ) → G .memory ≤ 6
+    → tappedBit (tapsOf (G .memory) (G .g1)) (tapsOf (G .memory) (g2 G)) v t ≡ dataBit oneBit G v t
 unfolding tappedBit sumBit
 tapped-data G v t h =
     let m : ℕ = G .memory in
@@ -120,44 +124,41 @@ tapped-data G v t h =
     )
 
 -- a data bit is 0 or 1
-pub tapped-bound : (first second : ℕ) (v : ℕ → ℕ) (t : ℕ) → tappedBit first second v t < 2
+pub tapped-bound : (g1 g2 : ℕ) (v : ℕ → ℕ) (t : ℕ) → tappedBit g1 g2 v t < 2
 unfolding tappedBit
-tapped-bound first second v t = mod-lt _ (zero-lt-suc 1)
+tapped-bound g1 g2 v t = mod-lt _ (zero-lt-suc 1)
 
--- READING A BYTE. At bit i of byte q the first cell's bit comes into the first window
+-- READING A BYTE. At bit i of byte q a bit comes into a window
+window-next : (x : ℕ → ℕ) (q i w b : ℕ) → w ≡ windowOf 7 x (8 * q + i) → b ≡ x (8 * q + i)
+    → (2 * w + b) % 128 ≡ windowOf 7 x (8 * q + (i + 1))
+unfolding windowOf
+window-next x q i w b e f = let s : 8 * q + (i + 1) ≡ suc (8 * q + i) = omega arith in rw (s, e, f)
+
 module _ (v : ℕ → ℕ) (q i : ℕ) where
-  pub first-next : (a l : ℕ) → a ≡ windowOf 7 (firstBit v) (8 * q + i) → l ≡ v (16 * q + 2 * i) → (2 * a + l % 2) % 128 ≡ windowOf 7 (firstBit v) (8 * q + (i + 1))
-  unfolding windowOf firstBit
-  first-next a l e f =
-      let c : 16 * q + 2 * i ≡ 2 * (8 * q + i) = omega arith in
-      let s : suc (8 * q + i) ≡ 8 * q + (i + 1) = omega arith in
-      ap₂ (λ (x y : ℕ). (2 * x + y % 2) % 128) e (f ∙ ap v c) ∙ ap (windowOf 7 (firstBit v)) s
+  -- the first cell's bit into the first window
+  pub first-next : (w l : ℕ) → w ≡ windowOf 7 (firstBit v) (8 * q + i) → l ≡ v (16 * q + 2 * i)
+      → (2 * w + l % 2) % 128 ≡ windowOf 7 (firstBit v) (8 * q + (i + 1))
+  unfolding firstBit
+  first-next w l e f = window-next (firstBit v) q i w (l % 2) e (rw f (ap (λ (c : ℕ). v c % 2) (omega arith)))
 
-  -- and the second cell's into the second
-  pub second-next : (b l : ℕ) → b ≡ windowOf 7 (secondBit v) (8 * q + i) → l ≡ v (16 * q + 2 * i + 1) → (2 * b + l % 2) % 128 ≡ windowOf 7 (secondBit v) (8 * q + (i + 1))
-  unfolding windowOf secondBit
-  second-next b l e f =
-      let c : 16 * q + 2 * i + 1 ≡ 2 * (8 * q + i) + 1 = omega arith in
-      let s : suc (8 * q + i) ≡ 8 * q + (i + 1) = omega arith in
-      ap₂ (λ (x y : ℕ). (2 * x + y % 2) % 128) e (f ∙ ap v c) ∙ ap (windowOf 7 (secondBit v)) s
+  -- the second cell's into the second
+  pub second-next : (w l : ℕ) → w ≡ windowOf 7 (secondBit v) (8 * q + i) → l ≡ v (16 * q + 2 * i + 1)
+      → (2 * w + l % 2) % 128 ≡ windowOf 7 (secondBit v) (8 * q + (i + 1))
+  unfolding secondBit
+  second-next w l e f = window-next (secondBit v) q i w (l % 2) e (rw f (ap (λ (c : ℕ). v c % 2) (omega arith)))
 
   -- and their parities make the data bit
-  pub data-next : (first second a b p r : ℕ) → a ≡ windowOf 7 (firstBit v) (8 * q + (i + 1)) → b ≡ windowOf 7 (secondBit v) (8 * q + (i + 1))
-      → p ≡ parityOf second a → r ≡ parityOf first b → (p + r) % 2 ≡ tappedBit first second v (8 * q + i)
+  pub data-next : (g1 g2 a b p r : ℕ) → a ≡ windowOf 7 (firstBit v) (8 * q + (i + 1)) → b ≡ windowOf 7 (secondBit v) (8 * q + (i + 1))
+      → p ≡ parityOf g2 a → r ≡ parityOf g1 b → (p + r) % 2 ≡ tappedBit g1 g2 v (8 * q + i)
   unfolding tappedBit
-  data-next first second a b p r e f g h =
-      let s : 8 * q + (i + 1) ≡ suc (8 * q + i) = omega arith in
-      ap₂ (λ (x y : ℕ). (x + y) % 2) (g ∙ ap (parityOf second) (e ∙ ap (windowOf 7 (firstBit v)) s)) (h ∙ ap (parityOf first) (f ∙ ap (windowOf 7 (secondBit v)) s))
+  data-next g1 g2 a b p r e f g h = let s : suc (8 * q + i) ≡ 8 * q + (i + 1) = omega arith in rw (g, h, e, f, s)
 
 -- READING A STRIP. Bytes of data bits by the taps of a code are what the strip reads as
-pub read-bytes : (G : Generators) (first second n : ℕ) (strip bytes : List ℕ) → G .memory ≤ 6 → first ≡ tapsOf (G .memory) (G .g1) → second ≡ tapsOf (G .memory) (g2 G)
-    → length bytes ≡ n → ((k : ℕ) → k < n → getD bytes k 0 ≡ number 8 (λ i. tappedBit first second (level strip) (8 * k + i))) → bytes ≡ readStrip oneBit G n strip
+pub read-bytes : (G : Generators) (n : ℕ) (strip bytes : List ℕ) → G .memory ≤ 6 → length bytes ≡ n
+    → ((k : ℕ) → k < n → getD bytes k 0
+    ≡ number 8 (λ i. tappedBit (tapsOf (G .memory) (G .g1)) (tapsOf (G .memory) (g2 G)) (level strip) (8 * k + i)))
+    → bytes ≡ readStrip oneBit G n strip
 unfolding readStrip bytesOf
-read-bytes G first second n strip bytes m f s e b =
+read-bytes G n strip bytes m e b =
     sym (listOf-getD n bytes 0 e)
-    ∙ listOf-same n _ _ (λ k h. b k h ∙ number-same 8 _ _ (λ i l. ap₂ (λ (x y : ℕ). tappedBit x y (level strip) (8 * k + i)) f s ∙ tapped-data G (level strip) (8 * k + i) m))
-
--- THE CODES. The memory of a code
-pub memory-bounds : (n : Name) → (2 ≤ named n .memory) × (named n .memory ≤ 6)
-memory-bounds Short = (omega arith, omega arith)
-memory-bounds Long = (omega arith, omega arith)
+    ∙ listOf-same n _ _ (λ k h. b k h ∙ number-same 8 _ _ (λ i l. tapped-data G (level strip) (8 * k + i) m))

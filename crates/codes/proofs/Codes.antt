@@ -1,0 +1,45 @@
+-- Laws of the two codes, by their names.
+--   memory-bounds               a code's memory is from 2 to 6
+--   proper                      data can be divided by G1, and a step of the division undone
+--   second-leads                G2's first digit is 1
+use mathlib.Core.Path.{_≡_, refl}
+use Prim.Native.Nat.{_≤_}
+use native.Mathlib.Omega.{arith}
+use Rattle.codes.specs.Generators.{g2, short, long, digit}
+use Rattle.codes.specs.Codes.{named, generatorsOf}
+use Rattle.codes.specs.Encoders.{Proper}
+use Rattle.codes.specs.declared.Code.{Code}
+use Rattle.codes.specs.declared.Name.{Name}
+use Rattle.codes.specs.declared.Name.the-variants.{Short, Long}
+
+-- the memory is 2 or 6
+pub memory-bounds : (n : Name) → (2 ≤ named n .memory) × (named n .memory ≤ 6)
+memory-bounds Short = (omega arith, omega arith)
+memory-bounds Long = (omega arith, omega arith)
+
+-- by G1 of code 3 data can be divided, and a step of that division undone
+pub short-proper : Proper short
+unfolding digit
+short-proper = record { some-memory = omega arith; leads = refl; ends = refl }
+
+-- and by G1 of code 7
+pub long-proper : Proper long
+unfolding digit
+long-proper = record { some-memory = omega arith; leads = refl; ends = refl }
+
+-- so by that of every code, which is its name
+pub proper : (c : Code) → Proper (generatorsOf c)
+proper c = by-name (c .name)
+  where
+    by-name : (n : Name) → Proper (named n)
+    by-name Short = short-proper
+    by-name Long = long-proper
+
+-- G2 of every code begins with 1 too
+pub second-leads : (c : Code) → digit (generatorsOf c .memory) (g2 (generatorsOf c)) 0 ≡ 1
+unfolding digit
+second-leads c = by-name (c .name)
+  where
+    by-name : (n : Name) → digit (named n .memory) (g2 (named n)) 0 ≡ 1
+    by-name Short = refl
+    by-name Long = refl

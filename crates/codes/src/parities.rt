@@ -1,0 +1,54 @@
+// The generators' digits as taps, the parity of the taps that meet a window of bits, and the word of a branch, which is two parities.
+use crate::Code;
+ghost use mathlib.Core.Path.{_≡_};
+ghost use Prim.Native.Nat.{_+_, _*_, _%_, _^_, _<_, _≤_};
+ghost use Rattle.codes.specs.Generators.{g2};
+ghost use Rattle.codes.specs.Codes.{generatorsOf};
+ghost use Rattle.codes.specs.Taps.{tapsOf, parityOf, wordOf};
+
+// The digits of a generator as taps: digit i, counted from the left, is worth 2 ^ i.
+fn taps(memory: u32, generator: u32) -> u32
+    requires { ⌜ memory ≤ 6 ⌝ }
+    ensures { λ r. ⌜ (r ≡ tapsOf memory generator) × (r < 128) ⌝ }
+{
+    let mut sum: u32 = 0;
+    let mut i: u32 = 0;
+    while i <= memory {
+        sum += ((generator >> (memory - i)) % 2) << i;
+        i += 1;
+    }
+    sum
+}
+
+// The sum mod 2 of the taps that meet a one of the window.
+pub fn parity(taps: u32, window: u32) -> u32
+    ensures { λ r. ⌜ (r ≡ parityOf taps window) × (r < 2) ⌝ }
+{
+    u32::count_ones(taps & window) % 2
+}
+
+impl Code {
+    // The taps of G1, and those of G2.
+    pub fn g1_taps(self) -> u32
+        ensures { λ r. ⌜ (r ≡ tapsOf (generatorsOf self .memory) (generatorsOf self .g1)) × (r < 128) ⌝ }
+    {
+        let row = self.generators();
+        taps(row.memory, row.g1)
+    }
+
+    pub fn g2_taps(self) -> u32
+        ensures { λ r. ⌜ (r ≡ tapsOf (generatorsOf self .memory) (g2 (generatorsOf self))) × (r < 128) ⌝ }
+    {
+        let row = self.generators();
+        taps(row.memory, row.g2)
+    }
+
+    // The two output bits of the branch that leaves the state s with the digit d mod 2: G1's worth 1, and G2's worth 2.
+    pub fn word(self, s: u32, d: u32) -> u32
+        requires { ⌜ s < 2 ^ 31 ⌝ }
+        ensures { λ r. ⌜ (r ≡ wordOf (generatorsOf self) (2 * s + d % 2)) × (r < 4) ⌝ }
+    {
+        let w = 2 * s + d % 2;
+        parity(self.g1_taps(), w) + 2 * parity(self.g2_taps(), w)
+    }
+}
