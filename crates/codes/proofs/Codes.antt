@@ -2,7 +2,9 @@
 --   memory-bounds               a code's memory is from 2 to 6
 --   proper                      data can be divided by G1, and a step of the division undone
 --   second-leads                G2's first digit is 1
+--   two-generators              G2 is the only generator after G1
 use mathlib.Core.Path.{_≡_, refl}
+use mathlib.Core.List.{[], _∷_}
 use Prim.Native.Nat.{_≤_}
 use native.Mathlib.Omega.{arith}
 use Rattle.codes.specs.Generators.{g2, short, long, digit}
@@ -41,5 +43,13 @@ unfolding digit
 second-leads c = by-name (c .name)
   where
     by-name : (n : Name) → digit (named n .memory) (g2 (named n)) 0 ≡ 1
+    by-name Short = refl
+    by-name Long = refl
+
+-- and it is the only one after G1
+pub two-generators : (c : Code) → generatorsOf c .others ≡ g2 (generatorsOf c) ∷ []
+two-generators c = by-name (c .name)
+  where
+    by-name : (n : Name) → named n .others ≡ g2 (named n) ∷ []
     by-name Short = refl
     by-name Long = refl

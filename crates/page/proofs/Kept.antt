@@ -11,7 +11,7 @@ use Rattle.cells.specs.Bytes.{Octets}
 use Rattle.cells.specs.Climbs.{house}
 use Rattle.codes.specs.Generators.{short, long, digit}
 use Rattle.codes.specs.Encoders.{Proper}
-use Rattle.codes.proofs.Encoders.{short-proper, long-proper}
+use Rattle.codes.proofs.Codes.{short-proper, long-proper}
 use Rattle.search.specs.Best.{Solution}
 use Rattle.search.specs.Strip.{Dear, stepsOf}
 use Rattle.trellis.proofs.Prices.{Suits}

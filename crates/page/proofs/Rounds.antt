@@ -17,8 +17,8 @@ use Rattle.cells.proofs.Raising.{raisedTo-length}
 use Rattle.codes.specs.Generators.{Generators}
 use Rattle.codes.specs.Codes.{generatorsOf}
 use Rattle.codes.specs.declared.Code.{Code}
-use Rattle.codes.proofs.Encoders.{proper, second-leads}
-use Rattle.codes.proofs.Parities.{memory-bounds}
+use Rattle.codes.proofs.Codes.{proper, second-leads}
+use Rattle.codes.proofs.Codes.{memory-bounds}
 use Rattle.search.specs.Best.{Solution}
 use Rattle.search.specs.Strip.{Dear, stepsOf}
 use Rattle.trellis.specs.Backward.{wordsOf, costsOver, decisionAt, Shaped}

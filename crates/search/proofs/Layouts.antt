@@ -22,8 +22,8 @@ use Rattle.codes.specs.Layouts.{Layout, oneBit, stagesIn, cellsIn}
 use Rattle.codes.specs.Reading.{codeBit, dataBit}
 use Rattle.codes.specs.Sequences.{Agree, odd}
 use Rattle.codes.specs.Encoders.{InMemory, encoderOf}
-use Rattle.codes.specs.Coset.{bit, Reads}
-use Rattle.codes.proofs.Sums.{odd-mod-two}
+use Rattle.codes.specs.Coset.{column, Reads}
+use Rattle.codes.proofs.Sequences.{odd-mod-two}
 use Rattle.codes.proofs.Encoders.{encoder-in-memory, reads-sums}
 use Rattle.search.specs.Best.{Solves, Width}
 use Rattle.search.specs.Strip.{Steps, Dear, Cell, stepsOf, Meaning, words, Rewrite}
@@ -49,8 +49,8 @@ stage-levels k n y e t h =
 
 -- bit j of the word of stage t
 pub words-code : (lay : Layout) (n : ℕ) (y : List ℕ) → length y ≡ lay .cells * n → (j t : ℕ) → t < n
-    → bit j (words (meaningOf lay) n y) t ≡ odd (codeBit lay (levelAt y) j t)
-unfolding bit meaningOf codeBit odd
+    → column j (words (meaningOf lay) n y) t ≡ odd (codeBit lay (levelAt y) j t)
+unfolding column meaningOf codeBit odd
 words-code lay n y e j t h =
     ap (λ (w : List Bool). getD w j false) (words-at (meaningOf lay) n y t h ∙ ap (λ (l : List ℕ). map odd (lay .shows l)) (stage-levels (lay .cells) n y e t h))
     ∙ List·getD-map odd (lay .shows (listOf (lay .cells) (λ i. levelAt y (lay .cells * t + i)))) j 0

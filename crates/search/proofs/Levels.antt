@@ -11,7 +11,7 @@ use Rattle.cells.specs.Places.{sumOf}
 use Rattle.cells.specs.Climbs.{climb}
 use Rattle.cells.proofs.Places.{length-listOf, listOf-at}
 use Rattle.codes.specs.Sequences.{odd}
-use Rattle.codes.specs.Coset.{bit}
+use Rattle.codes.specs.Coset.{column}
 use Rattle.search.specs.Strip.{Steps, Cell, cellsOf, Rise, Raised, still, rise, groups, Meaning, words}
 use Rattle.search.specs.Levels.{cellAt, levelAt, pays}
 use Rattle.search.specs.Parity.{parity}

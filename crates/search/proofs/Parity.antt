@@ -5,14 +5,17 @@ use mathlib.Core.Bool.{Bool, true, false, cond, not, Bool·beq, true≢false, fa
 use mathlib.Core.List.{List, [], _∷_, _++_, map}
 use mathlib.Core.Option.{none, some, Option·some-injective}
 use mathlib.Core.Logic.{_⊎_, inl, inr}
-use Prim.Native.Nat.{ℕ, zero, suc, _<_, _≤_, _+_}
+use Prim.Native.Nat.{ℕ, zero, suc, _<_, _≤_, _+_, _%_}
 use native.Mathlib.Omega.{arith}
 use lib.Dec.{ltb}
 use lib.ListN.{length, getD, length-map}
 use borrow.Author.Tests.{ltb-true, ltb-false}
 use Rattle.cells.specs.Climbs.{climb, house, weightOf}
 use Rattle.cells.proofs.Climbs.{climb-stay, climb-step, climb-rises}
-use Rattle.codes.specs.Sequences.{odd}
+use Rattle.codes.specs.Sequences.{_+₂_, odd}
+use Rattle.codes.specs.Numbers.{one-if}
+use Rattle.codes.proofs.Numbers.{odd-one-if}
+use Rattle.codes.proofs.Sequences.{odd-add}
 use Rattle.search.specs.Best.{Solution, Settles, closed, sole, Product, Empty, empty}
 use Rattle.search.specs.Strip.{Steps, Dear, Cell, Raised, still, rise, Group, stepsOf}
 use Rattle.search.specs.Choices.{choiceOf}
@@ -21,6 +24,7 @@ use Rattle.search.specs.Parity.{parity, One, keep-or-raise, parity-choic
 use Rattle.search.proofs.Best.{settles-solves, settles-product, settles-empty, settles-iff, solves-unique, some-none}
 use Rattle.search.proofs.Choices.{choice-solves}
 use Rattle.search.proofs.Strip.{raised-length}
+use Rattle.search.proofs.Windows.{mod-odd}
 
 -- bits
 pub beq-true : (a b : Bool) → Bool·beq a b ≡ true → a ≡ b
@@ -179,3 +183,14 @@ held-lower x b {xs} {ys} = go (odd (x .level)) b
     go true false = second-lower up
     go false true = second-lower up
     go false false = first-lower up
+
+-- a level that is raised where it does not show the bit b is the level that the choice holds
+pub raised-held : (x : Cell) (b : Bool) → x .level + (x .level + one-if b) % 2 ≡ held x b
+unfolding held one-if
+raised-held x b = rw (mod-odd (x .level + one-if b), odd-add (x .level) (one-if b), odd-one-if b) (go (odd (x .level)) b)
+  where
+    go : (o b : Bool) → x .level + one-if (o +₂ b) ≡ cond (Bool·beq o b) (x .level) (suc (x .level))
+    go true true = omega arith
+    go true false = omega arith
+    go false true = omega arith
+    go false false = omega arith

@@ -21,7 +21,7 @@ use Rattle.search.specs.Strip.{Steps, Cell, Raised, still, groups, Full,
 use Rattle.search.specs.Search.{labels, sums, wanted, Stage, Choice, branch, admit, next, stages, write, Chooses, withMemory}
 use Rattle.codes.proofs.Sequences.{agree-down, agree-refl, agree-trans}
 use Rattle.codes.proofs.Registers.{hist, hist-agree, hist-zero, conv-dot, dot-state, push-state}
-use Rattle.codes.specs.Coset.{bit, rest, word, Written}
+use Rattle.codes.specs.Coset.{column, rest, codeWord, Written}
 use Rattle.codes.proofs.Coset.{written-reads, reads-written}
 use Rattle.search.proofs.Trellis.{best-solves}
 use Rattle.search.proofs.Best.{solves-iff, solves-unique}
@@ -61,8 +61,8 @@ length-labels m gs (suc r) d t = ap suc (length-labels m gs r (λ j. d (suc j)) 
 
 -- a code, and the data of a strip
 module _ (E : Encoder) (H : InMemory E) (d : ℕ → Bits) where
-  wanted-word : (u : Bits) (t : ℕ) → wanted E (u t ∷ take (E .memory) (hist (E .memory) t u)) (labels (E .memory) (E .first) (length (E .others)) d t) ≡ word E d u t
-  unfolding wanted word hist
+  wanted-word : (u : Bits) (t : ℕ) → wanted E (u t ∷ take (E .memory) (hist (E .memory) t u)) (labels (E .memory) (E .first) (length (E .others)) d t) ≡ codeWord E d u t
+  unfolding wanted codeWord hist
   wanted-word u t =
       ap₂ (λ (b : Bool) (w : List Bool). b ∷ w) (dot-state (E .memory) (true ∷ E .first) (u t) (hist (E .memory) t u) (omega (arith, H .first-fits)) ∙ sym (conv-dot (E .memory) (true ∷ E .first) u t))
       (sums-rest (E .memory) (E .first) u t (H .others-fit) d)
@@ -70,18 +70,18 @@ module _ (E : Encoder) (H : InMemory E) (d : ℕ → Bits) where
   -- the words from stage t on are those of the digits u
   Spells : Bits → ℕ → List (List Bool) → Type 0
   Spells u t [] = Unit {0}
-  Spells u t (w ∷ W) = (w ≡ word E d u t) × Spells u (suc t) W
+  Spells u t (w ∷ W) = (w ≡ codeWord E d u t) × Spells u (suc t) W
 
-  spells-at : (u : Bits) (t : ℕ) (W : List (List Bool)) → Spells u t W → (i : ℕ) → i < length W → getD W i [] ≡ word E d u (i + t)
+  spells-at : (u : Bits) (t : ℕ) (W : List (List Bool)) → Spells u t W → (i : ℕ) → i < length W → getD W i [] ≡ codeWord E d u (i + t)
   unfolding Spells
   spells-at u t [] s i h = absurd (not-suc-le-zero h)
-  spells-at u t (w ∷ W) s zero h = s .0 ∙ ap (word E d u) (omega arith)
-  spells-at u t (w ∷ W) s (suc i) h = spells-at u (suc t) W (s .1) i (omega arith) ∙ ap (word E d u) (omega arith)
+  spells-at u t (w ∷ W) s zero h = s .0 ∙ ap (codeWord E d u) (omega arith)
+  spells-at u t (w ∷ W) s (suc i) h = spells-at u (suc t) W (s .1) i (omega arith) ∙ ap (codeWord E d u) (omega arith)
 
-  spells-from : (u : Bits) (t : ℕ) (W : List (List Bool)) → ((i : ℕ) → i < length W → getD W i [] ≡ word E d u (i + t)) → Spells u t W
+  spells-from : (u : Bits) (t : ℕ) (W : List (List Bool)) → ((i : ℕ) → i < length W → getD W i [] ≡ codeWord E d u (i + t)) → Spells u t W
   unfolding Spells
   spells-from u t [] f = tt
-  spells-from u t (w ∷ W) f = (f 0 (omega arith) ∙ ap (word E d u) (omega arith), spells-from u (suc t) W (λ i h. f (suc i) (omega arith) ∙ ap (word E d u) (omega arith)))
+  spells-from u t (w ∷ W) f = (f 0 (omega arith) ∙ ap (codeWord E d u) (omega arith), spells-from u (suc t) W (λ i h. f (suc i) (omega arith) ∙ ap (codeWord E d u) (omega arith)))
 
   module _ (S : Steps) (M : Meaning) where
     -- what the digits u write is valid
@@ -175,15 +175,15 @@ module _ (E : Encoder) (H : InMemory E) (d : ℕ → Bits) where
               let f : Found zeros n 0 old c y = sound zeros p 0 c y (rw (← (hist-zero (E .memory) zeros)) at w) in
               record {
                 raised = f .raised;
-                reads = written-reads E H d n (words M n y) (f .by) (record { at = λ t h. spells-at (f .by) 0 (words M n y) (f .spells) t (rw (length-words M n y) h) ∙ ap (word E d (f .by)) (omega arith) });
+                reads = written-reads E H d n (words M n y) (f .by) (record { at = λ t h. spells-at (f .by) 0 (words M n y) (f .spells) t (rw (length-words M n y) h) ∙ ap (codeWord E d (f .by)) (omega arith) });
               }
 
           from : (c : ℕ) (y : List ℕ) → Rewrite S M E d n old c y → Valid (admit E S M) (next E) (stages E d (M .cells) 0 n old) (replicate (E .memory) false) c y
           from c y w =
-              let u : Bits = quotient (E .memory) (E .first) (bit 0 (words M n y)) in
+              let u : Bits = quotient (E .memory) (E .first) (column 0 (words M n y)) in
               let s : Written E d u n (words M n y) = reads-written E H d n (words M n y) (words-sized M _ (K .sized) (full-raised (M .cells) p (w .raised))) (w .reads) in
               rw (hist-zero (E .memory) u) at
-              (complete u p 0 (w .raised) (spells-from u 0 (words M n y) (λ i h. s .at i (rw (length-words M n y) at h) ∙ ap (word E d u) (omega arith))))
+              (complete u p 0 (w .raised) (spells-from u 0 (words M n y) (λ i h. s .at i (rw (length-words M n y) at h) ∙ ap (codeWord E d u) (omega arith))))
 
 -- ROOM in the state beyond what the generators reach changes no write
 pub room-same : (E : Encoder) (m : ℕ) → InMemory E → InMemory (withMemory m E)

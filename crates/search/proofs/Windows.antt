@@ -14,9 +14,9 @@ use Rattle.codes.specs.Generators.{Generators, g2, digit}
 use Rattle.codes.specs.Taps.{tapsOf, parityOf, wordOf}
 use Rattle.codes.specs.Sequences.{odd}
 use Rattle.codes.specs.Numbers.{one-if}
-use Rattle.codes.proofs.Sums.{odd-mod-two}
+use Rattle.codes.proofs.Sequences.{odd-mod-two}
 use Rattle.codes.proofs.Numbers.{one-if-le, one-if-odd, odd-one-if}
-use Rattle.codes.proofs.Parities.{parity-digits}
+use Rattle.codes.proofs.Taps.{parity-digits}
 
 -- BITS. A number mod 2 is the number of its bit
 pub mod-odd : (n : ℕ) → n % 2 ≡ one-if (odd n)

@@ -1,52 +1,52 @@
 -- What the program carries out is the write: along the digits that it follows every state is open, so they are the digits of the plan, and each cell
 -- comes to the level that the plan gives it.
+--   carried-is     the digits that are followed, carried out, raise the cells to the levels of the write
+--   followed-plans   so the bytes of these digits are a plan
 use mathlib.Core.Path.{_≡_, refl, sym, _∙_, ap, ap₂}
-use mathlib.Core.Bool.{Bool, false}
+use mathlib.Core.Bool.{Bool}
 use mathlib.Core.List.{List, _∷_, _++_}
 use mathlib.Core.Option.{Option, some}
 use Prim.Native.Nat.{ℕ, zero, suc, _<_, _≤_, _+_, _*_, _-_, _/_, _%_, _^_}
 use native.Mathlib.Omega.{arith}
-use native.Mathlib.Nat.{mod-lt, zero-lt-suc}
 use lib.ListN.{length}
-use Rattle.cells.specs.Places.{listOf, no-more, and-each}
+use Rattle.cells.specs.Bytes.{bitOf, bytesOf}
 use Rattle.cells.specs.Levels.{level}
-use Rattle.cells.proofs.Places.{length-listOf}
-use Rattle.codes.specs.Generators.{Generators, g2, digit}
-use Rattle.codes.specs.Sequences.{_+₂_, odd}
+use Rattle.cells.proofs.Bytes.{bytesOf-bit}
+use Rattle.codes.specs.Generators.{Generators}
+use Rattle.codes.specs.Layouts.{oneBit, stagesIn, cellsIn}
+use Rattle.codes.specs.Taps.{wordOf}
+use Rattle.codes.specs.Sequences.{_+₂_}
 use Rattle.codes.specs.Numbers.{one-if}
-use Rattle.codes.specs.Encoders.{encoderOf, InMemory}
 use Rattle.codes.proofs.Numbers.{sum-bits}
+use Rattle.codes.proofs.Layouts.{oneBit-cells}
 use Rattle.search.specs.Best.{Solution}
 use Rattle.search.specs.Strip.{Dear, stepsOf}
 use Rattle.search.specs.Levels.{levelAt}
-use Rattle.search.specs.Parity.{parity, parity-choice}
-use Rattle.search.specs.Plan.{costs, digit-at, plan, play}
-use Rattle.search.specs.Numbered.{nextN}
+use Rattle.search.specs.Search.{Stage}
+use Rattle.search.specs.Parity.{parity-choice}
+use Rattle.search.specs.Plan.{way, costs, digit-at, plan, play}
+use Rattle.search.specs.Numbered.{branchN, nextN}
+use Rattle.search.specs.OneBit.{oneBitPrices}
+use Rattle.search.specs.Layouts.{dataBits, unmarked, stripCells, stagesOf, rewriteOf}
+use Rattle.search.proofs.Best.{some-none, joined-both}
+use Rattle.search.proofs.Plan.{play-shut}
+use Rattle.search.proofs.Plain.{plain-write}
+use Rattle.search.proofs.Parity.{held, raised-held}
+use Rattle.search.proofs.OneBit.{Pair, oneBit-quotes, oneBit-held}
+use Rattle.search.proofs.Layouts.{oneBit-write}
+use Rattle.search.proofs.Windows.{firstOf, secondOf, parity-number}
 use Rattle.trellis.specs.Backward.{costsOver, decisionAt}
 use Rattle.trellis.specs.Forward.{stateAt, followedState, followed, wantedFirst, wantedSecond, wantedOf, carriedTo}
-use Rattle.trellis.specs.Wide.{wide, dataOf, unmarked, stagesOf, rewriteOf}
-use Rattle.search.proofs.Plan.{none-some}
-use Rattle.search.proofs.Numbered.{write-numbers}
-use Rattle.search.proofs.Parity.{parity-chooses, parity-leads}
-use Rattle.search.proofs.Levels.{length-cells}
-use Rattle.search.proofs.Strip.{full-length}
-use Rattle.search.proofs.Apart.{held}
-use Rattle.search.proofs.Windows.{firstOf, secondOf, parity-number}
-use Rattle.trellis.proofs.Prices.{Suits, branchFor, cellFor, stageFor, labelFor, label-told}
-use Rattle.trellis.proofs.Prices.{joined-both, play-shut, raised-held, branch-held, digit-told}
-use Rattle.trellis.proofs.Program.{stagesFrom, stages-are, costs-from}
+use Rattle.trellis.specs.Plans.{Plans}
+use Rattle.trellis.proofs.Prices.{Suits, cellFor, wideFor, stageFor, labelFor, pricesFor, tiesFor, label-told, digit-told}
+use Rattle.trellis.proofs.Program.{stagesFrom, stages-pairs, stages-are, costs-from, suits-sound}
+use Rattle.trellis.proofs.Carrying.{followed-less, followed-bound}
 
 -- CARRYING OUT. The digits that are followed lead through the states that are followed
 state-followed : (dec : ℕ → ℕ) (t : ℕ) → stateAt (followed dec) t ≡ followedState dec t
 unfolding stateAt followed followedState
 state-followed dec zero = refl
 state-followed dec (suc t) = ap (λ (s : ℕ). (2 * s + dec t / 2 ^ followedState dec t % 2) % 64) (state-followed dec t)
-
--- which are below 64
-followed-less : (dec : ℕ → ℕ) (t : ℕ) → followedState dec t < 64
-unfolding followedState
-followed-less dec zero = omega arith
-followed-less dec (suc t) = mod-lt _ (zero-lt-suc 63)
 
 module _ (G : Generators) (W : List ℕ) (K : Suits G W) (strip content : List ℕ) (u : ℕ → ℕ) (t s : ℕ) (d : Bool) (e : stateAt u t ≡ s) (f : u t ≡ one-if d) where
   -- the first cell of a stage comes to the level that the branch of its state and digit holds
@@ -69,26 +69,22 @@ module _ (G : Generators) (W : List ℕ) (K : Suits G W) (strip content : List �
       (ap₂ (λ (v x : ℕ). (v + x) % 2) (parity-number _ (2 * s + one-if d)) (label-told G W K content t) ∙ sum-bits _ _)
       ∙ raised-held (cellFor strip (2 * t + 1)) (secondOf G (2 * s + one-if d) +₂ labelFor G content t))
 
--- no generator of a code that suits reaches back more than six digits
-wide-in-memory : (G : Generators) (W : List ℕ) → Suits G W → InMemory (wide G)
-unfolding wide encoderOf
-wide-in-memory G W K = record { first-fits = omega (arith, length-listOf (G .memory) (λ i. odd (digit (G .memory) (G .g1) (suc i)))); others-fit = and-each most no-more }
-  where
-    most : length (listOf (suc (G .memory)) (λ i. odd (digit (G .memory) (g2 G) i))) ≤ 7
-    most = omega (arith, length-listOf (suc (G .memory)) (λ i. odd (digit (G .memory) (g2 G) i)))
-
 module _ (G : Generators) (W strip content : List ℕ) where
-  -- the answer of the plan over k stages from stage t and the state s
+  -- the branches of the search, by the states' numbers
+  abbrev branchFor : Stage → ℕ → Bool → Option Solution
+  branchFor = branchN (wideFor G) (parity-choice (stepsOf W))
+
+  -- the solution of the plan over k stages from stage t and the state s
   abbrev onward : ℕ → ℕ → ℕ → Option Solution
   onward s t k =
-      play (branchFor G W) (nextN (wide G)) (stagesFrom G strip content t k) s
-      (plan (branchFor G W) (nextN (wide G)) (stagesFrom G strip content t k) s)
+      play branchFor (nextN (wideFor G)) (stagesFrom G strip content t k) s
+      (plan (pricesFor G W) (tiesFor G W) (nextN (wideFor G)) (stagesFrom G strip content t k) s)
 
   -- its first digit, with k stages after it
   abbrev planned : ℕ → ℕ → ℕ → Bool
   planned s t k =
-      digit-at (branchFor G W) (nextN (wide G)) (stageFor G strip content t) s
-      (costs (branchFor G W) (nextN (wide G)) (stagesFrom G strip content (suc t) k))
+      digit-at (pricesFor G W) (tiesFor G W) (nextN (wideFor G)) (stageFor G strip content t)
+      (costs (pricesFor G W) (nextN (wideFor G)) (stagesFrom G strip content (suc t) k)) s
 
 -- a stage is carried out by the decisions dec as planned: the levels a are those of its two cells, and the plan's from the state after it
 record Onward (G : Generators) (W strip content : List ℕ) (dec : ℕ → ℕ) (t k : ℕ) (a : Solution) : Type 0 where
@@ -109,11 +105,14 @@ module _ (G : Generators) (W : List ℕ) (K : Suits G W) (L : ℕ) (most : L ≤
       let z : 8 * L - suc t ≡ k = omega arith in
       rw z
       (digit-told G W K strip content t (costsOver G W strip content (8 * L) k) _ (k * 510) (costs-from G W K L most strip content k (suc t) (omega arith)) (omega arith)
-      (followedState decided t) (followed-less decided t) (λ f. none-some a (sym (play-shut _ _ (stagesFrom G strip content t (suc k)) (followedState decided t) _ f) ∙ p)))
+      (followedState decided t) (followed-less decided t) (λ f.
+      some-none a (sym p ∙ play-shut (branchFor G W strip content) (nextN (wideFor G)) (pricesFor G W) Pair (oneBit-quotes 6 G (K .both) (stepsOf W) .priced)
+      (stages-pairs G strip content t (suc k)) (followedState decided t) _ f)))
 
   -- so a stage is carried out as planned
-  onward-step : (t k : ℕ) → t + suc k ≡ 8 * L → (a : Solution) → onward G W strip content (followedState decided t) t (suc k) ≡ some a → Onward G W strip content decided t k a
-  unfolding play plan stagesFrom nextN wide followedState followed
+  onward-step : (t k : ℕ) → t + suc k ≡ 8 * L → (a : Solution) → onward G W strip content (followedState decided t) t (suc k) ≡ some a
+      → Onward G W strip content decided t k a
+  unfolding play plan stagesFrom nextN followedState followed
   onward-step t k e a p =
       let s : ℕ = followedState decided t in
       let d : Bool = planned G W strip content s t k in
@@ -125,7 +124,8 @@ module _ (G : Generators) (W : List ℕ) (K : Suits G W) (L : ℕ) (most : L ≤
       record {
         rest = b .second;
         further = ap (λ (z : ℕ). onward G W strip content z (suc t) k) n ∙ b .right;
-        carried = rw (c, g) (b .append ∙ ap (λ (l : List ℕ). l ++ b .second .levels) (branch-held G W K strip content t s d (b .first) (b .left)));
+        carried = rw (c, g) (b .append ∙ ap (λ (l : List ℕ). l ++ b .second .levels)
+            (oneBit-held 6 G (K .both) (stepsOf W) (cellFor strip (2 * t)) (cellFor strip (2 * t + 1)) (labelFor G content t) s d (b .first) (b .left)));
       }
 
   -- and so are all
@@ -140,19 +140,22 @@ module _ (G : Generators) (W : List ℕ) (K : Suits G W) (L : ℕ) (most : L ≤
       let o = onward-step t k e a p in
       rw (z, o .carried) (onward-carried k (suc t) (omega arith) (o .rest) (o .further) c (omega arith))
 
-  -- THE WRITE. The plan from state 0 is the write
-  onward-write : Dear (stepsOf W) → onward G W strip content 0 0 (8 * L) ≡ rewriteOf G W L strip content
-  unfolding rewriteOf stagesOf unmarked wide encoderOf
-  onward-write D =
-      rw (← stages-are G strip content L)
-      (write-numbers (wide G) (parity-choice (stepsOf W)) (wide-in-memory G W K) (dataOf content) (stepsOf W) (parity 2) (parity-chooses (stepsOf W) D 2) (parity-leads 2 (omega arith))
-      (8 * L) (unmarked L strip) (full-length 2 (8 * L) (unmarked L strip) (length-cells (16 * L) (level strip) (λ c. false) ∙ omega arith)))
+  module _ (D : Dear (stepsOf W)) where
+    -- THE WRITE. The plan from state 0 is the write
+    onward-write : onward G W strip content 0 0 (8 * L) ≡ rewriteOf oneBit G W L strip unmarked content
+    unfolding stagesOf
+    onward-write =
+        rw (← (stages-are G strip content (K .both) L))
+        (plain-write (wideFor G) (parity-choice (stepsOf W)) (λ s. wordOf G (2 * s)) (oneBitPrices (stepsOf W)) Pair (oneBit-quotes 6 G (K .both) (stepsOf W))
+        (dataBits oneBit content) 2 (stagesIn oneBit L) (stripCells oneBit L strip unmarked)
+        (rw (stages-are G strip content (K .both) L) (stages-pairs G strip content 0 (8 * L)))
+        ∙ oneBit-write 6 G (suits-sound K) (K .reach) W D L strip unmarked content)
 
-  -- so what is carried out are its levels
-  pub carried-is : Dear (stepsOf W) → (a : Solution) → rewriteOf G W L strip content ≡ some a
-      → (c : ℕ) → c < 16 * L → carriedTo G strip content (followed (decisionAt G W strip content (8 * L))) c ≡ levelAt (a .levels) c
-  unfolding followedState
-  carried-is D a e c h = let z : 2 * 0 + c ≡ c = omega arith in rw z at (onward-carried (8 * L) 0 (omega arith) a (onward-write D ∙ e) c (omega arith))
+    -- so what is carried out are its levels
+    pub carried-is : (a : Solution) → rewriteOf oneBit G W L strip unmarked content ≡ some a
+        → (c : ℕ) → c < 16 * L → carriedTo G strip content (followed (decisionAt G W strip content (8 * L))) c ≡ levelAt (a .levels) c
+    unfolding followedState
+    carried-is a e c h = let z : 2 * 0 + c ≡ c = omega arith in rw z at (onward-carried (8 * L) 0 (omega arith) a (onward-write ∙ e) c (omega arith))
 
 -- THE DIGITS. The state before a stage depends on the digits before it alone
 state-same : (u v : ℕ → ℕ) (n : ℕ) → ((t : ℕ) → t < n → u t ≡ v t) → (t : ℕ) → t ≤ n → stateAt u t ≡ stateAt v t
@@ -161,9 +164,30 @@ state-same u v n e zero h = refl
 state-same u v n e (suc t) h = ap₂ (λ (s d : ℕ). (2 * s + d) % 64) (state-same u v n e t (omega arith)) (e t h)
 
 -- and what is carried out in the cells of n stages, on the digits of these stages alone
-pub carriedTo-same : (G : Generators) (strip content : List ℕ) (u v : ℕ → ℕ) (n : ℕ) → ((t : ℕ) → t < n → u t ≡ v t)
+carriedTo-same : (G : Generators) (strip content : List ℕ) (u v : ℕ → ℕ) (n : ℕ) → ((t : ℕ) → t < n → u t ≡ v t)
     → (c : ℕ) → c < 2 * n → carriedTo G strip content u c ≡ carriedTo G strip content v c
 unfolding carriedTo wantedOf wantedFirst wantedSecond
 carriedTo-same G strip content u v n e c h =
     let k : c / 2 < n = omega arith in
     rw (state-same u v n e (c / 2) (omega arith), e (c / 2) k)
+
+-- THE PLAN: the bytes of the digits that are followed
+pub followed-plans : {G : Generators} {W strip content digits : List ℕ} → Suits G W → Dear (stepsOf W) → length content ≤ 64
+    → digits ≡ bytesOf (length content) (followed (decisionAt G W strip content (8 * length content))) → Plans G W strip content digits
+followed-plans {G} {W} {strip} {content} {digits} K D most e = record {
+  leads = λ a f c h.
+      let l : c < 16 * length content = rw (oneBit-cells (length content)) at h in
+      carriedTo-same G strip content (bitOf digits) (followed dec) (8 * length content) digit c (omega arith)
+      ∙ carried-is G W K (length content) most strip content D a f c l;
+}
+  where
+    dec : ℕ → ℕ
+    dec = decisionAt G W strip content (8 * length content)
+
+    digit : (t : ℕ) → t < 8 * length content → bitOf digits t ≡ followed dec t
+    digit t h = ap (λ (x : List ℕ). bitOf x t) e ∙ bytesOf-bit (length content) (followed dec) (followed-bound dec) t h
+
+-- NO CELL RISES BY MORE THAN ONE
+pub one-at-most : (G : Generators) (strip content : List ℕ) (u : ℕ → ℕ) (c : ℕ) → carriedTo G strip content u c ≤ suc (level strip c)
+unfolding carriedTo
+one-at-most G strip content u c = omega arith

@@ -20,7 +20,7 @@ use Rattle.cells.specs.Levels.{level}
 use Rattle.cells.specs.Climbs.{weightOf}
 use Rattle.cells.proofs.Places.{length-listOf, listOf-at}
 use Rattle.cells.proofs.Levels.{level-bound}
-use Rattle.codes.specs.Generators.{Generators}
+use Rattle.codes.specs.Generators.{Generators, g2}
 use Rattle.codes.specs.Layouts.{oneBit}
 use Rattle.codes.specs.Taps.{wordOf}
 use Rattle.codes.specs.Sequences.{_+₂_, Bits, odd}

@@ -109,7 +109,7 @@ pub fn price_strip(
     requires { ⌜ Shaped (generatorsOf code) weights (now words) (now strip) (now «data») ⌝ }
     ensures { λ r. ⌜ r ≡ solutionOutcome (writeOf (generatorsOf code) weights (now (strip .entry)) (now («data» .entry))) ⌝ }
 {
-    let taps = code.first_taps();
+    let taps = code.g1_taps();
     let steps = steps_of(weights);
     let mut register = last_register(code, taps, data);
     let mut costs = [0u32; 64];
@@ -137,7 +137,7 @@ pub fn decide(
     ensures { λ r. ⌜ r ≡ solutionOutcome (writeOf (generatorsOf code) weights (now (strip .entry)) (now («data» .entry))) ⌝ }
     ensures { λ _. ⌜ Decided (generatorsOf code) weights (now (strip .entry)) (now («data» .entry)) (now (decisions .exit)) ⌝ }
 {
-    let taps = code.first_taps();
+    let taps = code.g1_taps();
     let steps = steps_of(weights);
     let mut register = last_register(code, taps, data);
     let mut costs = [0u32; 64];

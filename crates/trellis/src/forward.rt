@@ -91,8 +91,8 @@ pub fn carry_strip(code: Code, strip: &mut [u8], data: &[u8], digits: &[u8])
     requires { ⌜ CarryAsked (now strip) (now «data») (now digits) ⌝ }
     ensures { λ _. ⌜ now (strip .exit) ≡ raisedTo startOf (now (strip .entry)) (carriedTo (generatorsOf code) (now (strip .entry)) (now («data» .entry)) (bitOf (now (digits .entry)))) ⌝ }
 {
-    let first = code.first_taps();
-    let second = code.second_taps();
+    let first = code.g1_taps();
+    let second = code.g2_taps();
     let mut state: u32 = 0;
     let mut register: u32 = 0;
     let mut t: usize = 0;

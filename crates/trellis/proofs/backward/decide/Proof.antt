@@ -7,9 +7,11 @@ use lib.ListN.{length, getD, length-set}
 use mir.Syntax.{w8}
 use borrow.Author.Needs.{needs, elem-fits}
 use Rattle.codes.specs.Codes.{generatorsOf}
-use Rattle.codes.proofs.Encoders.{proper}
+use Rattle.codes.proofs.Codes.{proper}
 use Rattle.trellis.specs.Outcomes.{toldOutcome}
 use Rattle.trellis.specs.Backward.{stepList, decisionAt}
+use Rattle.trellis.proofs.Prices.{Suits}
+use Rattle.trellis.proofs.Program.{suits, outcome-is}
 use Rattle.trellis.proofs.Passes.{Held, held-last, held-first, held-asks, held-more, held-digits, store-back}
 use Rattle.trellis.proofs.backward.decide.Statement.{statement}
 use Rattle.trellis.proofs.backward.decide.Tie as tie
@@ -23,8 +25,14 @@ Inv-loop code words strip «data» decisions₀ taps steps register₀ costs₀ 
 abbrev μ-loop : tie.MeasureT-loop
 μ-loop code words strip «data» decisions₀ taps steps register₀ costs₀ t₀ decisions register costs t = t
 
-first-taps-requires : tie.Need-first-taps-requires Inv-loop μ-loop
-first-taps-requires c κs = search needs
+-- the code suits the weights
+suited : (c : tie.Start Inv-loop μ-loop) → Suits (generatorsOf (c .args .code)) (c .args .weights)
+suited c =
+    suits (c .args .code) (c .args .weights) (c .good .1 .1 .0 .1 .0 .1)
+    (λ i. let h = elem-fits w8 w8 (c .args .weights) _ i (c .good .1 .1 .0 .1 .1) tt .fits in omega arith)
+
+g1-taps-requires : tie.Need-g1-taps-requires Inv-loop μ-loop
+g1-taps-requires c κs = search needs
 
 steps-of-requires : tie.Need-steps-of-requires Inv-loop μ-loop
 steps-of-requires c κs = search needs
@@ -69,8 +77,7 @@ stage-before-requires c κs =
     let a = s .args in
     let l = c .before .before .before .before .loop in
     let e : l .t ≡ suc (l .t - 1) = omega (arith, c .before .before .before .loop-test .taken) in
-    let w : (i : ℕ) → getD (a .weights) i 0 ≤ 255 = λ i. let h = elem-fits w8 w8 (a .weights) _ i (s .good .1 .1 .0 .1 .1) tt .fits in omega arith in
-    held-asks (generatorsOf (a .code)) (d .steps-of .result) (a .strip .now) (a .«data» .now) _ (l .inv .0) e (a .weights) (d .steps-of .ensures) w (omega (arith, s .pre .0 .most))
+    held-asks (generatorsOf (a .code)) (d .steps-of .result) (a .strip .now) (a .«data» .now) _ (l .inv .0) e (a .weights) (d .steps-of .ensures) (suited s .bytes) (omega (arith, s .pre .0 .most))
 
 mul-decisions : tie.Need-mul-decisions Inv-loop μ-loop
 mul-decisions c = search needs
@@ -90,7 +97,7 @@ loop-again c =
     let e : l .t ≡ suc (l .t - 1) = omega (arith, c .before .before .before .before .loop-test .taken) in
     let digits = held-digits (generatorsOf (a .code)) (d .steps-of .result) (a .strip .now) (a .«data» .now) _ (l .inv .0) e (s .pre .0 .words-are) (c .stage-before .ensures .0) in (
       held-more (generatorsOf (a .code)) (d .steps-of .result) (a .strip .now) (a .«data» .now) _ (l .inv .0) e (s .pre .0 .words-are)
-          (proper (a .code)) (d .before .first-taps .ensures .0) (c .before .before .before .bit .ensures) (c .before .before .back .ensures) (c .stage-before .ensures .1),
+          (proper (a .code)) (d .before .g1-taps .ensures .0) (c .before .before .before .bit .ensures) (c .before .before .back .ensures) (c .stage-before .ensures .1),
       simp length-set (l .inv .1),
       λ W q. store-back (l .decisions) _ (l .t - 1) (c .stage-before .result) _ (omega (arith, l .inv .0 .within, s .pre .0 .most)) (digits W q) (λ k h. l .inv .2 W q k (omega arith)),
     )
@@ -104,11 +111,14 @@ outcome-requires c κs = search needs
 returns : tie.Need-returns Inv-loop μ-loop
 returns c =
     let d = c .before .before .before .before in
-    let a = d .before .before .before .before .args in
+    let s = d .before .before .before .before in
+    let a = s .args in
     let l = c .before .before .loop in
     let e : l .t ≡ 0 = omega arith in
     let over = held-first (generatorsOf (a .code)) (d .steps-of .result) (a .strip .now) (a .«data» .now) _ e (l .inv .0) (a .weights) (d .steps-of .ensures) in
-    (c .outcome .ensures ∙ ap (λ (v : List ℕ). toldOutcome (getD v 0 0)) over, λ k h. l .inv .2 (a .weights) (d .steps-of .ensures) k (omega arith) h)
+    (c .outcome .ensures ∙ ap (λ (v : List ℕ). toldOutcome (getD v 0 0)) over
+    ∙ outcome-is (generatorsOf (a .code)) (a .weights) (suited s) (length (a .«data» .now)) (s .pre .0 .most) (a .strip .now) (a .«data» .now) (s .pre .0 .dear),
+    record { at = λ k h. l .inv .2 (a .weights) (d .steps-of .ensures) k (omega arith) h })
 
 pub decide-spec : {M : Type 1} → statement M
 decide-spec =
@@ -116,7 +126,7 @@ decide-spec =
     (tie.spec
     Inv-loop
     μ-loop
-    first-taps-requires
+    g1-taps-requires
     steps-of-requires
     last-register-requires
     mul-t

@@ -7,8 +7,10 @@ use lib.ListN.{length, getD}
 use mir.Syntax.{w8}
 use borrow.Author.Needs.{needs, elem-fits}
 use Rattle.codes.specs.Codes.{generatorsOf}
-use Rattle.codes.proofs.Encoders.{proper}
+use Rattle.codes.proofs.Codes.{proper}
 use Rattle.trellis.specs.Outcomes.{toldOutcome}
+use Rattle.trellis.proofs.Prices.{Suits}
+use Rattle.trellis.proofs.Program.{suits, outcome-is}
 use Rattle.trellis.proofs.Passes.{Held, held-last, held-first, held-asks, held-more}
 use Rattle.trellis.proofs.backward.price_strip.Statement.{statement}
 use Rattle.trellis.proofs.backward.price_strip.Tie as tie
@@ -19,8 +21,14 @@ Inv-loop code words strip «data» taps steps register₀ costs₀ t₀ register
 abbrev μ-loop : tie.MeasureT-loop
 μ-loop code words strip «data» taps steps register₀ costs₀ t₀ register costs t = t
 
-first-taps-requires : tie.Need-first-taps-requires Inv-loop μ-loop
-first-taps-requires c κs = search needs
+-- the code suits the weights
+suited : (c : tie.Start Inv-loop μ-loop) → Suits (generatorsOf (c .args .code)) (c .args .weights)
+suited c =
+    suits (c .args .code) (c .args .weights) (c .good .1 .1 .0 .1 .0 .1)
+    (λ i. let h = elem-fits w8 w8 (c .args .weights) _ i (c .good .1 .1 .0 .1 .1) tt .fits in omega arith)
+
+g1-taps-requires : tie.Need-g1-taps-requires Inv-loop μ-loop
+g1-taps-requires c κs = search needs
 
 steps-of-requires : tie.Need-steps-of-requires Inv-loop μ-loop
 steps-of-requires c κs = search needs
@@ -61,8 +69,7 @@ stage-before-requires c κs =
     let a = s .args in
     let l = c .before .before .before .before .loop in
     let e : l .t ≡ suc (l .t - 1) = omega (arith, c .before .before .before .loop-test .taken) in
-    let w : (i : ℕ) → getD (a .weights) i 0 ≤ 255 = λ i. let h = elem-fits w8 w8 (a .weights) _ i (s .good .1 .1 .0 .1 .1) tt .fits in omega arith in
-    held-asks (generatorsOf (a .code)) (d .steps-of .result) (a .strip .now) (a .«data» .now) _ (l .inv) e (a .weights) (d .steps-of .ensures) w (omega (arith, s .pre .most))
+    held-asks (generatorsOf (a .code)) (d .steps-of .result) (a .strip .now) (a .«data» .now) _ (l .inv) e (a .weights) (d .steps-of .ensures) (suited s .bytes) (omega (arith, s .pre .most))
 
 loop-less : tie.Need-loop-less Inv-loop μ-loop
 loop-less c = search needs
@@ -75,7 +82,7 @@ loop-again c =
     let l = c .before .before .before .before .before .loop in
     let e : l .t ≡ suc (l .t - 1) = omega (arith, c .before .before .before .before .loop-test .taken) in
     held-more (generatorsOf (a .code)) (d .steps-of .result) (a .strip .now) (a .«data» .now) _ (l .inv) e (s .pre .words-are)
-    (proper (a .code)) (d .before .first-taps .ensures .0) (c .before .before .before .bit .ensures) (c .before .before .back .ensures) (c .stage-before .ensures .1)
+    (proper (a .code)) (d .before .g1-taps .ensures .0) (c .before .before .before .bit .ensures) (c .before .before .back .ensures) (c .stage-before .ensures .1)
 
 array-read-outcome : tie.Need-array-read-outcome Inv-loop μ-loop
 array-read-outcome c = search needs
@@ -86,11 +93,13 @@ outcome-requires c κs = search needs
 returns : tie.Need-returns Inv-loop μ-loop
 returns c =
     let d = c .before .before .before .before in
-    let a = d .before .before .before .before .args in
+    let s = d .before .before .before .before in
+    let a = s .args in
     let l = c .before .before .loop in
     let e : l .t ≡ 0 = omega arith in
     c .outcome .ensures ∙ ap (λ (v : List ℕ). toldOutcome (getD v 0 0))
     (held-first (generatorsOf (a .code)) (d .steps-of .result) (a .strip .now) (a .«data» .now) _ e (l .inv) (a .weights) (d .steps-of .ensures))
+    ∙ outcome-is (generatorsOf (a .code)) (a .weights) (suited s) (length (a .«data» .now)) (s .pre .most) (a .strip .now) (a .«data» .now) (s .pre .dear)
 
 pub price-strip-spec : {M : Type 1} → statement M
 price-strip-spec =
@@ -98,7 +107,7 @@ price-strip-spec =
     (tie.spec
     Inv-loop
     μ-loop
-    first-taps-requires
+    g1-taps-requires
     steps-of-requires
     last-register-requires
     mul-t

@@ -5,9 +5,10 @@ use native.Mathlib.Omega.{arith}
 use lib.ListN.{length}
 use borrow.Author.Needs.{needs}
 use Rattle.cells.specs.Bytes.{bitOf, Octets}
-use Rattle.cells.specs.Raising.{raisedTo}
+use Rattle.cells.specs.Raising.{startOf, raisedTo}
 use Rattle.cells.proofs.Raising.{raisedTo-length}
 use Rattle.codes.specs.Codes.{generatorsOf}
+use Rattle.codes.proofs.Layouts.{oneBit-bytes}
 use Rattle.trellis.specs.Backward.{registerAt}
 use Rattle.trellis.specs.Forward.{stateAt}
 use Rattle.trellis.proofs.Carrying.{carriedBelow, carried-none, carried-stage, carried-all, state-next, register-next, first-wanted, second-wanted}
@@ -20,16 +21,16 @@ Inv-loop code strip₀ «data» digits first second state₀ register₀ t₀ st
     × (state < 64)
     × (state ≡ stateAt (bitOf digits) t)
     × (register ≡ registerAt (generatorsOf code) «data» t)
-    × (strip ≡ raisedTo strip₀ (carriedBelow (generatorsOf code) strip₀ «data» (bitOf digits) (2 * t)))
+    × (strip ≡ raisedTo startOf strip₀ (carriedBelow (generatorsOf code) strip₀ «data» (bitOf digits) (2 * t)))
 
 abbrev μ-loop : tie.MeasureT-loop
 μ-loop code strip₀ «data» digits first second state₀ register₀ t₀ strip state register t = 8 * length «data» - t
 
-first-taps-requires : tie.Need-first-taps-requires Inv-loop μ-loop
-first-taps-requires c κs = search needs
+g1-taps-requires : tie.Need-g1-taps-requires Inv-loop μ-loop
+g1-taps-requires c κs = search needs
 
-second-taps-requires : tie.Need-second-taps-requires Inv-loop μ-loop
-second-taps-requires c κs = search needs
+g2-taps-requires : tie.Need-g2-taps-requires Inv-loop μ-loop
+g2-taps-requires c κs = search needs
 
 loop-holds : tie.Need-loop-holds Inv-loop μ-loop
 unfolding stateAt registerAt
@@ -106,24 +107,24 @@ loop-again c =
     let a = s .before .before .before .before .before .args in
     let G = generatorsOf (a .code) in
     let u = bitOf (a .digits .now) in
-    let first = s .before .first-taps .ensures .0 in
+    let first = s .before .g1-taps .ensures .0 in
     let d = p .before .before .before .before .bit .ensures in
     let r = register-next G (a .«data» .now) (l .t) _ _ _ _ first (l .inv .3) (p .before .before .before .bit2 .ensures) (p .before .before .forth .ensures) in (
       omega arith,
       omega arith,
       state-next u (l .t) _ _ (l .inv .2) d,
       r,
-      carried-stage G (a .strip .now) (a .«data» .now) u (l .t) _ _ _ _ _ (omega arith) (omega arith) (omega arith)
+      carried-stage G (a .strip .now) (a .«data» .now) u (l .t) _ _ _ _ _ (omega (arith, oneBit-bytes (length (a .«data» .now)), s .before .before .before .before .before .pre .size)) (omega arith) (omega arith)
           (first-wanted G u (l .t) _ _ _ _ first (l .inv .2) d (p .before .parity .ensures .0))
-          (second-wanted G (a .«data» .now) u (l .t) _ _ _ _ _ (s .second-taps .ensures .0) (l .inv .2) d (p .parity2 .ensures .0) r)
+          (second-wanted G (a .«data» .now) u (l .t) _ _ _ _ _ (s .g2-taps .ensures .0) (l .inv .2) d (p .parity2 .ensures .0) r)
           (l .inv .4) (c .before .before .before .before .before .before .raise-if .ensures) (c .before .before .raise-if2 .ensures),
     )
 
 same-length : tie.Need-same-length Inv-loop μ-loop
-same-length c = ap length (c .before .loop .inv .4) ∙ raisedTo-length _ _
+same-length c = ap length (c .before .loop .inv .4) ∙ raisedTo-length startOf _ _
 
 returns : tie.Need-returns Inv-loop μ-loop
-returns c = c .before .loop .inv .4 ∙ carried-all _ _ _ _ _ (omega arith)
+returns c = c .before .loop .inv .4 ∙ carried-all _ _ _ _ _ (omega (arith, c .before .before .before .before .before .before .before .pre .size, oneBit-bytes (length (c .before .before .before .before .before .before .before .args .«data» .now))))
 
 pub carry-strip-spec : {M : Type 1} → statement M
 carry-strip-spec =
@@ -131,8 +132,8 @@ carry-strip-spec =
     (tie.spec
     Inv-loop
     μ-loop
-    first-taps-requires
-    second-taps-requires
+    g1-taps-requires
+    g2-taps-requires
     loop-holds
     mul-loop
     mul-window
