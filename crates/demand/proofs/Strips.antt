@@ -1,13 +1,19 @@
 -- Parts of one width, one after the other: what is valid for all of them is what is valid for each at its place, and the first that is closed.
+--   Parts, all-parts, parts-all   what is valid for all is valid for each at its place
+--   ClosedAt, closed-at           the first part for which nothing is valid
+--   PartOf, all-each              a solution of all parts has one of each
 use mathlib.Core.Path.{_≡_, refl, sym, _∙_, ap}
 use mathlib.Core.List.{List, [], _∷_, _++_}
+use mathlib.Core.Option.{Option, none, some, Option·some-injective}
 use Prim.Native.Nat.{ℕ, zero, suc, _<_, _+_, _*_}
 use native.Mathlib.Omega.{arith}
 use native.Mathlib.Nat.{not-suc-le-zero}
 use lib.ListN.{length, take, drop, take-append-drop, length-append, length-drop}
 use lib.Seq.{take-at, drop-at, drop-drop}
 use Rattle.cells.specs.Places.{listOf, sumOf}
-use Rattle.search.specs.Best.{Problem, empty, Width, All, FirstClosed, here, later}
+use Rattle.search.specs.Best.{Problem, Solution, empty, Width, All, FirstClosed, here, later}
+use Rattle.search.specs.Trellis.{joined, all}
+use Rattle.search.proofs.Best.{some-none}
 
 -- c at place 0, and g after it
 cons : ℕ → (ℕ → ℕ) → ℕ → ℕ
@@ -88,3 +94,29 @@ closed-at problem (suc S) f (suc k) (later d y p q) =
     before : (r : ClosedAt problem S (λ i. f (suc i)) k) (j : ℕ) → j < suc k → problem (f j) (cons d (r .open-cost) j) (cons-list y (r .open-levels) j)
     before r zero h = p
     before r (suc j) h = r .open-before j (omega arith)
+
+-- part j of an answer made of parts
+pub record PartOf (w : ℕ → Option Solution) (d : ℕ) (f : ℕ → ℕ) (a : Solution) (j : ℕ) : Type 0 where
+  pub own : Solution
+  pub is : w (f j) ≡ some own
+  pub levels-are : take d (drop (d * j) (a .levels)) ≡ own .levels
+
+-- an answer of all parts has one of each
+pub all-each : (w : ℕ → Option Solution) (d : ℕ) → ((k : ℕ) (b : Solution) → w k ≡ some b → length (b .levels) ≡ d) → (n : ℕ) (f : ℕ → ℕ) (a : Solution) → all w (listOf n f) ≡ some a → (j : ℕ) → j < n → PartOf w d f a j
+unfolding all listOf joined
+all-each w d z zero f a e j h = absurd (not-suc-le-zero h)
+all-each w d z (suc n) f a e j h = go (w (f 0)) refl (all w (listOf n (λ i. f (suc i)))) (all-each w d z n (λ i. f (suc i))) e j h
+  where
+    go : (x : Option Solution) → w (f 0) ≡ x → (q : Option Solution) → ((b : Solution) → q ≡ some b → (j : ℕ) → j < n → PartOf w d (λ i. f (suc i)) b j) → joined x q ≡ some a → (j : ℕ) → j < suc n → PartOf w d f a j
+    go none p q r e j h = absurd (some-none a (sym e))
+    go (some b) p none r e j h = absurd (some-none a (sym e))
+    go (some b) p (some c) r e zero h =
+        let l : b .levels ++ c .levels ≡ a .levels = ap (λ (x : Solution). x .levels) (Option·some-injective _ _ e) in
+        let o : d * 0 ≡ 0 = omega arith in
+        record { own = b; is = p; levels-are = rw (o, ← l) (take-at (b .levels) (c .levels) d (z (f 0) b p)) }
+    go (some b) p (some c) r e (suc j) h =
+        let l : b .levels ++ c .levels ≡ a .levels = ap (λ (x : Solution). x .levels) (Option·some-injective _ _ e) in
+        let o : d * suc j ≡ d + d * j = omega arith in
+        let g : PartOf w d (λ i. f (suc i)) c j = r c refl j (omega arith) in
+        let q : drop (d + d * j) (b .levels ++ c .levels) ≡ drop (d * j) (c .levels) = sym (drop-drop (d * j) d (b .levels ++ c .levels)) ∙ ap (drop (d * j)) (drop-at (b .levels) (c .levels) d (z (f 0) b p)) in
+        record { own = g .own; is = g .is; levels-are = rw (o, ← l, q) (g .levels-are) }

@@ -1,18 +1,12 @@
--- The laws of a page: its parts, the strips within it, its reading, the grounds of a refusal, the census, its strips one after the other, demand 3,
--- the calls' promises, the ledger, the table of known cases, the bounds and the rounds of the loops.
-pub mod Parts
-pub mod Fitting
-pub mod Readings
-pub mod Judging
-pub mod Tallies
+-- The laws of a page: the strips within it, the grounds of a refusal, the running total, the calls' promises, plans, the loops over the strips, the census, the
+-- ledger, the bounds and the table of known cases.
 pub mod Strips
-pub mod Levels
-pub mod Demand
-pub mod Summing
-pub mod Turning
-pub mod Kept
-pub mod Ledgers
-pub mod Carried
-pub mod Cases
+pub mod Refusals
+pub mod Counts
+pub mod Totals
+pub mod Promise
+pub mod Plans
+pub mod Loops
+pub mod Ledger
 pub mod Bounds
-pub mod Rounds
+pub mod Known

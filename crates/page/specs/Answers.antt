@@ -1,5 +1,6 @@
 -- The answers of the calls on every input, with the paper's number and values for each case.
 --   completionOf         done, or the refusal
+--   answerIn, pageIn     the answer of a job and the page after it, by the ground of a refusal
 --   answerOf, pageOf     a write's answer, and the page after it
 --   numberOf, valueOf    an answer's number and value in the paper
 --   kept                 what a refusal leaves as it was
@@ -7,11 +8,15 @@ use mathlib.Core.List.{List}
 use mathlib.Core.Option.{Option, none, some}
 use Prim.Native.Nat.{ℕ}
 use lib.ListN.{length}
-use Rattle.cells.specs.Raising.{raisedTo}
+use Rattle.cells.specs.Raising.{startIn, raisedTo}
+use Rattle.codes.specs.Generators.{Generators}
+use Rattle.codes.specs.Layouts.{oneBit}
 use Rattle.search.specs.Best.{Solution}
 use Rattle.search.specs.Levels.{levelAt}
 use Rattle.page.specs.Refusals.{ground, refusalNumber, numbered}
-use Rattle.page.specs.Computed.{pageWrite, spentStrip}
+use Rattle.search.specs.Layouts.{unmarked}
+use Rattle.demand.specs.Jobs.{Job, width}
+use Rattle.demand.specs.Computed.{pageWrite, spentStrip}
 use Rattle.page.specs.declared.Refusal.{Refusal}
 use Rattle.page.specs.declared.Answer.{Answer}
 use Rattle.page.specs.declared.Answer.the-variants as A
@@ -35,20 +40,47 @@ callAnswer none (some a) k = A.Done (a .cost)
 callAnswer none none k = A.Spent k
 
 -- the page after it
-abbrev pub callPage : Option Refusal → Option Solution → List ℕ → List ℕ
-callPage (some r) w before = before
-callPage none (some a) before = raisedTo before (levelAt (a .levels))
-callPage none none before = before
+abbrev pub callPage : Option Refusal → Option Solution → (Solution → List ℕ) → List ℕ → List ℕ
+callPage (some r) w raised before = before
+callPage none (some a) raised before = raised a
+callPage none none raised before = before
 
--- a call of write or price with these three weights
+-- the job of a page, one bit a cell and no cell marked
+abbrev pub plainJob : Generators → List ℕ → ℕ → ℕ → List ℕ → List ℕ → Job
+plainJob G W L S page content = record {
+  layout = oneBit;
+  code = G;
+  weights = W;
+  marks = unmarked;
+  bytes = L;
+  strips = S;
+  page = page;
+  content = content;
+}
+
+-- a job, refused by a ground or carried out
+module _ (g : Option Refusal) (J : Job) where
+  -- what it answers
+  unfoldable pub answerIn : Answer
+  answerIn = callAnswer g (pageWrite J) (spentStrip J)
+
+  -- the page after it: its cells are raised to the levels of the computed write
+  unfoldable pub pageIn : List ℕ
+  pageIn = callPage g (pageWrite J) (λ a. raisedTo (startIn (width J)) (J .page) (levelAt (a .levels))) (J .page)
+
+-- a call of write or price with these three weights, one bit a cell and no cell marked
 module _ (W : List ℕ) (code L S : ℕ) (before content : List ℕ) where
+  -- its job
+  abbrev pub jobOf : Job
+  jobOf = plainJob (numbered code) W L S before content
+
   -- THE ANSWER of a write, and of a price
   unfoldable pub answerOf : Answer
-  answerOf = callAnswer (ground code L S (length before) (length content)) (pageWrite (numbered code) W L S before content) (spentStrip (numbered code) W L S before content)
+  answerOf = answerIn (ground code L S (length before) (length content)) jobOf
 
   -- THE PAGE after a write
   unfoldable pub pageOf : List ℕ
-  pageOf = callPage (ground code L S (length before) (length content)) (pageWrite (numbered code) W L S before content) before
+  pageOf = pageIn (ground code L S (length before) (length content)) jobOf
 
 -- the number of an answer: 0, 7 where the page is spent, or the refusal's
 abbrev pub numberOf : Answer → ℕ

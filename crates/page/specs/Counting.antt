@@ -5,11 +5,12 @@
 use mathlib.Core.Bool.{cond}
 use mathlib.Core.List.{List, [], _∷_}
 use mathlib.Core.Option.{Option, none, some}
-use Prim.Native.Nat.{ℕ, _*_}
+use Prim.Native.Nat.{ℕ}
 use lib.Dec.{eqb, ltb}
 use lib.ListN.{length}
 use Rattle.cells.specs.Places.{listOf, sumOf}
-use Rattle.page.specs.Reading.{stripLevels}
+use Rattle.codes.specs.Layouts.{Layout, oneBit, cellsIn}
+use Rattle.demand.specs.Reading.{stripLevels}
 use Rattle.page.specs.Refusals.{shapeGround}
 use Rattle.page.specs.Answers.{completionOf}
 use Rattle.page.specs.declared.Refusal.{Refusal}
@@ -29,14 +30,14 @@ abbrev pub zeroRow : Row
 zeroRow = record { counts = 0 ∷ 0 ∷ 0 ∷ 0 ∷ [] }
 
 -- 'one row for each strip'; 'the rows from S to 63 are zero'
-unfoldable pub rowAt : ℕ → ℕ → List ℕ → ℕ → Row
-rowAt L S page k = cond (ltb k S) (rowOf (16 * L) (stripLevels L page k)) zeroRow
+unfoldable pub rowAt : Layout → ℕ → ℕ → List ℕ → ℕ → Row
+rowAt lay L S page k = cond (ltb k S) (rowOf (cellsIn lay L) (stripLevels (cellsIn lay L) page k)) zeroRow
 
 -- the rows of a page, or all zeros with a refusal
-unfoldable pub rowsOf : Option Refusal → ℕ → ℕ → List ℕ → List Row
-rowsOf none L S page = listOf 64 (rowAt L S page)
-rowsOf (some r) L S page = listOf 64 (λ k. zeroRow)
+unfoldable pub rowsOf : Layout → Option Refusal → ℕ → ℕ → List ℕ → List Row
+rowsOf lay none L S page = listOf 64 (rowAt lay L S page)
+rowsOf lay (some r) L S page = listOf 64 (λ k. zeroRow)
 
--- the census
+-- the census, one bit a cell
 unfoldable pub censusOf : ℕ → ℕ → List ℕ → Census
-censusOf L S page = record { answer = completionOf (shapeGround L S (length page)); rows = rowsOf (shapeGround L S (length page)) L S page }
+censusOf L S page = record { answer = completionOf (shapeGround L S (length page)); rows = rowsOf oneBit (shapeGround L S (length page)) L S page }

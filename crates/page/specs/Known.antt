@@ -1,7 +1,7 @@
 -- THE TABLE of the cases marked P in the paper: one row a case, the sequence of seven writes a row each.
 --   Expected    reads as the data; done with this cost and page; spent with this strip
 --   Case        code, L, S, page, data, and what is expected
---   AllSay      what the cases of a list say of the answers and pages of a write, and of the reading
+--   Says        what a case says of the answers and pages of a write, and of the reading
 --   cases       the table
 use mathlib.Core.Path.{_≡_}
 use mathlib.Core.List.{List, [], _∷_, _++_}
@@ -28,15 +28,15 @@ pub record Case : Type 0 where
 
 -- what a case says of the answers and the pages of a write, and of the reading
 module _ (answers : ℕ → ℕ → ℕ → List ℕ → List ℕ → Answer) (pages : ℕ → ℕ → ℕ → List ℕ → List ℕ → List ℕ) where
-  abbrev pub SaysAs : Case → Expected → Type 0
-  SaysAs c reads = readPage (numbered (c .code)) (c .L) (c .S) (c .page) ≡ c .content
-  SaysAs c (done cost after) = (answers (c .code) (c .L) (c .S) (c .page) (c .content) ≡ A.Done cost) × (pages (c .code) (c .L) (c .S) (c .page) (c .content) ≡ after)
-  SaysAs c (spent k) = (answers (c .code) (c .L) (c .S) (c .page) (c .content) ≡ A.Spent k) × (pages (c .code) (c .L) (c .S) (c .page) (c .content) ≡ c .page)
+  abbrev pub Expects : Case → Expected → Type 0
+  Expects c reads = readPage (numbered (c .code)) (c .L) (c .S) (c .page) ≡ c .content
+  Expects c (done cost after) =
+      (answers (c .code) (c .L) (c .S) (c .page) (c .content) ≡ A.Done cost) × (pages (c .code) (c .L) (c .S) (c .page) (c .content) ≡ after)
+  Expects c (spent k) =
+      (answers (c .code) (c .L) (c .S) (c .page) (c .content) ≡ A.Spent k) × (pages (c .code) (c .L) (c .S) (c .page) (c .content) ≡ c .page)
 
-  -- every case of a list
-  abbrev pub AllSay : List Case → Type 0
-  AllSay [] = Unit {0}
-  AllSay (c ∷ cs) = SaysAs c (c .expected) × AllSay cs
+  abbrev pub Says : Case → Type 0
+  Says c = Expects c (c .expected)
 
 -- six bytes
 abbrev pub six : ℕ → ℕ → ℕ → ℕ → ℕ → ℕ → List ℕ

@@ -1,9 +1,7 @@
--- What the calls promise is stated by these definitions, in this order; `Computed` is the write as it is computed, and `Ledger` counts the raises.
+-- What the calls promise is stated by these definitions, in this order; `Ledger` counts the raises, and `Known` is the paper's table.
 pub mod Shape
 pub mod Reading
-pub mod Demand
 pub mod Refusals
-pub mod Computed
 pub mod Totals
 pub mod Answers
 pub mod Promise

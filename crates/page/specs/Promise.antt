@@ -1,13 +1,15 @@
 -- WHAT A WRITE PROMISES, on every input: for each case of its answer, what holds of the page before and after.
---   Wrote W code L S before content after r
+--   Promised g J after r                    of a job, by the ground of a refusal
+--   Wrote W code L S before content after r   of a write
 use mathlib.Core.Path.{_≡_}
 use mathlib.Core.List.{List}
-use mathlib.Core.Option.{none, some}
+use mathlib.Core.Option.{Option, none, some}
 use Prim.Native.Nat.{ℕ}
 use lib.ListN.{length}
-use Rattle.cells.specs.Climbs.{weightOf}
-use Rattle.page.specs.Demand.{Cheapest, SpentAt}
-use Rattle.page.specs.Refusals.{ground, numbered}
+use Rattle.demand.specs.Jobs.{Job}
+use Rattle.demand.specs.Demand.{Cheapest, SpentAt}
+use Rattle.page.specs.Refusals.{ground}
+use Rattle.page.specs.Answers.{jobOf}
 use Rattle.page.specs.declared.Refusal.{Refusal}
 use Rattle.page.specs.declared.Answer.{Answer}
 use Rattle.page.specs.declared.Answer.the-variants as A
@@ -15,7 +17,11 @@ use Rattle.page.specs.declared.Answer.the-variants as A
 -- 'The answer of a write is done with its cost, spent with the lowest number of a strip .., or refused with the refusal inside it.' Done: the page is the
 -- cheapest of all that could be. Spent: no page could be, and nothing is changed. Refused: by the first ground of the list, and nothing is changed; a
 -- call without a ground is not refused.
-pub data Wrote (W : List ℕ) (code L S : ℕ) (before content after : List ℕ) : Answer → Type 0 where
-  done : {cost : ℕ} → ground code L S (length before) (length content) ≡ none → Cheapest (weightOf W) (numbered code) L S before content after cost → Wrote W code L S before content after (A.Done cost)
-  spent : {k : ℕ} → ground code L S (length before) (length content) ≡ none → SpentAt (numbered code) L S before content k → after ≡ before → Wrote W code L S before content after (A.Spent k)
-  refused : {r : Refusal} → ground code L S (length before) (length content) ≡ some r → after ≡ before → Wrote W code L S before content after (A.Refused r)
+pub data Promised (g : Option Refusal) (J : Job) (after : List ℕ) : Answer → Type 0 where
+  done : {cost : ℕ} → g ≡ none → Cheapest J after cost → Promised g J after (A.Done cost)
+  spent : {k : ℕ} → g ≡ none → SpentAt J k → after ≡ J .page → Promised g J after (A.Spent k)
+  refused : {r : Refusal} → g ≡ some r → after ≡ J .page → Promised g J after (A.Refused r)
+
+-- of a write with the weights W
+abbrev pub Wrote : (W : List ℕ) (code L S : ℕ) (before content after : List ℕ) → Answer → Type 0
+Wrote W code L S before content after r = Promised (ground code L S (length before) (length content)) (jobOf W code L S before content) after r

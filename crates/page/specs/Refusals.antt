@@ -11,6 +11,7 @@ use lib.Dec.{eqb}
 use lib.IntN.{ℤ, pos}
 use lib.Signed.{ltZ}
 use Rattle.codes.specs.Generators.{Generators, short, long}
+use Rattle.codes.specs.Layouts.{Layout, oneBit, bytesIn}
 use Rattle.page.specs.Shape.{oneTo64}
 use Rattle.page.specs.declared.Refusal.{Refusal}
 use Rattle.page.specs.declared.Refusal.the-variants.{CodeUnknown, BytesOutside, StripsOutside, PageLength, DataLength, EraseTemperature}
@@ -32,9 +33,9 @@ bytesGround L = cond (oneTo64 L) none (some BytesOutside)
 unfoldable pub stripsGround : ℕ → Option Refusal
 stripsGround S = cond (oneTo64 S) none (some StripsOutside)
 
--- '4: the page is not 6·L·S bytes long'
-unfoldable pub pageGround : ℕ → ℕ → ℕ → Option Refusal
-pageGround L S size = cond (eqb size (6 * L * S)) none (some PageLength)
+-- '4: the page is not 6·L·S bytes long': a strip of the layout has so many bytes for L bytes of data
+unfoldable pub pageGround : Layout → ℕ → ℕ → ℕ → Option Refusal
+pageGround lay L S size = cond (eqb size (bytesIn lay L * S)) none (some PageLength)
 
 -- '5: the data, or the buffer for it, is not L·S bytes long'
 unfoldable pub dataGround : ℕ → ℕ → ℕ → Option Refusal
@@ -50,11 +51,11 @@ sizesGround code L S = first-of (codeGround code) (limitsGround L S)
 
 -- 2, 3 and 4: 'erase and census take L, S and the page, and no code'
 unfoldable pub shapeGround : ℕ → ℕ → ℕ → Option Refusal
-shapeGround L S page = first-of (limitsGround L S) (pageGround L S page)
+shapeGround L S page = first-of (limitsGround L S) (pageGround oneBit L S page)
 
 -- 1 to 5, for read, price and write
 unfoldable pub ground : ℕ → ℕ → ℕ → ℕ → ℕ → Option Refusal
-ground code L S page content = first-of (sizesGround code L S) (first-of (pageGround L S page) (dataGround L S content))
+ground code L S page content = first-of (sizesGround code L S) (first-of (pageGround oneBit L S page) (dataGround L S content))
 
 -- '8: an erase outside 50 to 400', 'tested after those of the input'
 unfoldable pub eraseGround : ℤ → Option Refusal

@@ -4,6 +4,7 @@ use crate::shape;
 use codes::Code;
 ghost use mathlib.Core.Path.{_≡_};
 ghost use lib.ListN.{length};
+ghost use Rattle.codes.specs.Layouts.{oneBit};
 ghost use Rattle.codes.specs.Codes.{generatorsOf};
 ghost use Rattle.page.specs.Shape.{Sized};
 ghost use Rattle.page.specs.Reading.{readPage};
@@ -12,7 +13,7 @@ ghost use Rattle.page.specs.Answers.{completionOf, kept};
 
 // Reads each strip into its own part of the buffer.
 fn read_strips(code: Code, bytes: usize, strips: usize, page: &[u8], data: &mut [u8])
-    requires { ⌜ Sized bytes strips (now page) (now «data») ⌝ }
+    requires { ⌜ Sized oneBit bytes strips (now page) (now «data») ⌝ }
     ensures { λ _. ⌜ now («data» .exit) ≡ readPage (generatorsOf code) bytes strips (now (page .entry)) ⌝ }
 {
     let mut k: usize = 0;

@@ -7,6 +7,7 @@ ghost use mathlib.Core.List.{List};
 ghost use mathlib.Core.Option.{none};
 ghost use Prim.Native.Nat.{ℕ, _-_, _≤_};
 ghost use lib.ListN.{length, take, drop};
+ghost use Rattle.codes.specs.Layouts.{oneBit};
 ghost use Rattle.codes.specs.Codes.{generatorsOf};
 ghost use Rattle.page.specs.Shape.{oneTo64, stripOf};
 ghost use Rattle.page.specs.Refusals.{limitsGround, sizesGround, pageGround, dataGround, shapeGround, ground, numbered};
@@ -50,7 +51,7 @@ pub fn judge_sizes(code: u32, bytes: u32, strips: u32) -> Completion
 // Judges the page's length, where L and S are within their limits.
 fn judge_page(bytes: u32, strips: u32, page: usize) -> Completion
     requires { ⌜ limitsGround bytes strips ≡ none ⌝ }
-    ensures { λ r. ⌜ r ≡ completionOf (pageGround bytes strips page) ⌝ }
+    ensures { λ r. ⌜ r ≡ completionOf (pageGround oneBit bytes strips page) ⌝ }
 {
     if page != 6 * (bytes as usize) * (strips as usize) {
         return Completion::Refused(Refusal::PageLength);

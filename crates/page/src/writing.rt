@@ -9,20 +9,15 @@ use trellis::backward::words_of;
 use trellis::forward::carry_strip;
 use trellis::forward::plan_strip;
 ghost use mathlib.Core.Path.{_≡_};
-ghost use mathlib.Core.List.{List};
-ghost use mathlib.Core.Option.{Option, none, some};
-ghost use Prim.Native.Nat.{ℕ, _*_, _<_};
+ghost use mathlib.Core.Option.{none};
+ghost use Prim.Native.Nat.{_*_};
 ghost use lib.ListN.{length};
-ghost use Rattle.cells.specs.Bytes.{bitOf, bytesOf};
-ghost use Rattle.cells.specs.Raising.{raisedTo};
 ghost use Rattle.cells.specs.Climbs.{house};
 ghost use Rattle.codes.specs.Codes.{generatorsOf};
+ghost use Rattle.codes.specs.Layouts.{oneBit};
 ghost use Rattle.search.specs.Strip.{Dear, stepsOf};
-ghost use Rattle.trellis.specs.Backward.{decisionAt};
-ghost use Rattle.trellis.specs.Forward.{followed, carriedTo};
-ghost use Rattle.page.specs.Shape.{Sized, strip, part};
-ghost use Rattle.page.specs.Computed.{pageWrite, spentStrip};
-ghost use Rattle.page.specs.Answers.{callAnswer, callPage, answerOf, pageOf};
+ghost use Rattle.page.specs.Shape.{Sized};
+ghost use Rattle.page.specs.Answers.{plainJob, answerIn, pageIn, answerOf, pageOf};
 ghost use Rattle.page.specs.Promise.{Wrote};
 ghost use Rattle.page.specs.Plans.{Planned, Carried};
 
@@ -35,8 +30,9 @@ fn price_strips(
     page: &[u8],
     data: &[u8],
 ) -> Answer
-    requires { ⌜ Sized bytes strips (now page) (now «data») ⌝ }
-    ensures { λ r. ⌜ r ≡ callAnswer none (pageWrite (generatorsOf code) weights bytes strips (now (page .entry)) (now («data» .entry))) (spentStrip (generatorsOf code) weights bytes strips (now (page .entry)) (now («data» .entry))) ⌝ }
+    requires { ⌜ Sized oneBit bytes strips (now page) (now «data») ⌝ }
+    requires { ⌜ Dear (stepsOf weights) ⌝ }
+    ensures { λ r. ⌜ r ≡ answerIn none (plainJob (generatorsOf code) weights bytes strips (now (page .entry)) (now («data» .entry))) ⌝ }
 {
     let words = words_of(code);
     let mut total = Total::new();
@@ -69,9 +65,10 @@ fn plan_strips(
     data: &[u8],
     digits: &mut [u8],
 ) -> Answer
-    requires { ⌜ Sized bytes strips (now page) (now «data») ⌝ }
+    requires { ⌜ Sized oneBit bytes strips (now page) (now «data») ⌝ }
+    requires { ⌜ Dear (stepsOf weights) ⌝ }
     requires { ⌜ length (now digits) ≡ bytes * strips ⌝ }
-    ensures { λ r. ⌜ r ≡ callAnswer none (pageWrite (generatorsOf code) weights bytes strips (now (page .entry)) (now («data» .entry))) (spentStrip (generatorsOf code) weights bytes strips (now (page .entry)) (now («data» .entry))) ⌝ }
+    ensures { λ r. ⌜ r ≡ answerIn none (plainJob (generatorsOf code) weights bytes strips (now (page .entry)) (now («data» .entry))) ⌝ }
     ensures { λ r. ⌜ Planned (generatorsOf code) weights bytes strips (now (page .entry)) (now («data» .entry)) (now (digits .exit)) ⌝ }
 {
     let words = words_of(code);
@@ -105,7 +102,7 @@ fn carry_strips(
     data: &[u8],
     digits: &[u8],
 )
-    requires { ⌜ Sized bytes strips (now page) (now «data») ⌝ }
+    requires { ⌜ Sized oneBit bytes strips (now page) (now «data») ⌝ }
     requires { ⌜ length (now digits) ≡ bytes * strips ⌝ }
     ensures { λ _. ⌜ Carried (generatorsOf code) bytes strips (now (page .entry)) (now («data» .entry)) (now (digits .entry)) (now (page .exit)) ⌝ }
 {
@@ -133,10 +130,10 @@ fn write_strips(
     page: &mut [u8],
     data: &[u8],
 ) -> Answer
-    requires { ⌜ Sized bytes strips (now page) (now «data») ⌝ }
+    requires { ⌜ Sized oneBit bytes strips (now page) (now «data») ⌝ }
     requires { ⌜ Dear (stepsOf weights) ⌝ }
-    ensures { λ r. ⌜ r ≡ callAnswer none (pageWrite (generatorsOf code) weights bytes strips (now (page .entry)) (now («data» .entry))) (spentStrip (generatorsOf code) weights bytes strips (now (page .entry)) (now («data» .entry))) ⌝ }
-    ensures { λ r. ⌜ now (page .exit) ≡ callPage none (pageWrite (generatorsOf code) weights bytes strips (now (page .entry)) (now («data» .entry))) (now (page .entry)) ⌝ }
+    ensures { λ r. ⌜ r ≡ answerIn none (plainJob (generatorsOf code) weights bytes strips (now (page .entry)) (now («data» .entry))) ⌝ }
+    ensures { λ _. ⌜ now (page .exit) ≡ pageIn none (plainJob (generatorsOf code) weights bytes strips (now (page .entry)) (now («data» .entry))) ⌝ }
 {
     let mut digits = [0u8; 4096];
     let whole = bytes * strips;

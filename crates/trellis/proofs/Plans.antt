@@ -2,13 +2,17 @@
 -- comes to the level that the plan gives it.
 --   carried-is     the digits that are followed, carried out, raise the cells to the levels of the write
 --   followed-plans   so the bytes of these digits are a plan
+--   write-near, write-below   a write raises no cell by more than one, and costs less than closed
 use mathlib.Core.Path.{_≡_, refl, sym, _∙_, ap, ap₂}
-use mathlib.Core.Bool.{Bool}
+use mathlib.Core.Bool.{Bool, true, false}
 use mathlib.Core.List.{List, _∷_, _++_}
 use mathlib.Core.Option.{Option, some}
 use Prim.Native.Nat.{ℕ, zero, suc, _<_, _≤_, _+_, _*_, _-_, _/_, _%_, _^_}
 use native.Mathlib.Omega.{arith}
-use lib.ListN.{length}
+use native.Mathlib.Nat.{mod-lt, zero-lt-suc}
+use lib.Dec.{ltb}
+use lib.ListN.{length, getD}
+use borrow.Author.Tests.{ltb-true}
 use Rattle.cells.specs.Bytes.{bitOf, bytesOf}
 use Rattle.cells.specs.Levels.{level}
 use Rattle.cells.proofs.Bytes.{bytesOf-bit}
@@ -35,11 +39,13 @@ use Rattle.search.proofs.Parity.{held, raised-held}
 use Rattle.search.proofs.OneBit.{Pair, oneBit-quotes, oneBit-held}
 use Rattle.search.proofs.Layouts.{oneBit-write}
 use Rattle.search.proofs.Windows.{firstOf, secondOf, parity-number}
-use Rattle.trellis.specs.Backward.{costsOver, decisionAt}
+use Rattle.trellis.specs.Backward.{closed, costsOver, decisionAt}
+use Rattle.trellis.specs.Outcomes.{judged, toldOutcome, solutionOutcome}
+use Rattle.trellis.specs.declared.Outcome.the-variants as O
 use Rattle.trellis.specs.Forward.{stateAt, followedState, followed, wantedFirst, wantedSecond, wantedOf, carriedTo}
 use Rattle.trellis.specs.Plans.{Plans}
 use Rattle.trellis.proofs.Prices.{Suits, cellFor, wideFor, stageFor, labelFor, pricesFor, tiesFor, label-told, digit-told}
-use Rattle.trellis.proofs.Program.{stagesFrom, stages-pairs, stages-are, costs-from, suits-sound}
+use Rattle.trellis.proofs.Program.{stagesFrom, stages-pairs, stages-are, costs-from, suits-sound, outcome-is}
 use Rattle.trellis.proofs.Carrying.{followed-less, followed-bound}
 
 -- CARRYING OUT. The digits that are followed lead through the states that are followed
@@ -187,7 +193,26 @@ followed-plans {G} {W} {strip} {content} {digits} K D most e = record {
     digit : (t : ℕ) → t < 8 * length content → bitOf digits t ≡ followed dec t
     digit t h = ap (λ (x : List ℕ). bitOf x t) e ∙ bytesOf-bit (length content) (followed dec) (followed-bound dec) t h
 
--- NO CELL RISES BY MORE THAN ONE
-pub one-at-most : (G : Generators) (strip content : List ℕ) (u : ℕ → ℕ) (c : ℕ) → carriedTo G strip content u c ≤ suc (level strip c)
-unfolding carriedTo
-one-at-most G strip content u c = omega arith
+-- an outcome that is done has a cost below closed
+done-below : (v c : ℕ) → toldOutcome v ≡ O.Done c → c < closed
+done-below v c = go (ltb v closed) refl
+  where
+    go : (b : Bool) → ltb v closed ≡ b → judged b v ≡ O.Done c → c < closed
+    go true e f = let z : v ≡ c = cc in omega (arith, ltb-true v closed e)
+    go false e f = absurd (let z : _≡_ {A = ℕ} 0 1 = cc in omega arith)
+
+-- WHAT A WRITE CANNOT DO: raise a cell by more than one
+module _ (G : Generators) (W : List ℕ) (K : Suits G W) (D : Dear (stepsOf W)) (L : ℕ) (most : L ≤ 64) (strip content : List ℕ) (a : Solution)
+    (e : rewriteOf oneBit G W L strip unmarked content ≡ some a) where
+  pub write-near : (c : ℕ) → c < cellsIn oneBit L → levelAt (a .levels) c ≤ suc (level strip c)
+  unfolding carriedTo
+  write-near c h =
+      let l : c < 16 * L = rw (oneBit-cells L) at h in
+      omega (arith, carried-is G W K L most strip content D a e c l,
+      mod-lt (level strip c + wantedOf G content (followed (decisionAt G W strip content (8 * L))) c) (zero-lt-suc 1))
+
+  -- or cost as much as closed
+  pub write-below : a .cost < closed
+  unfolding solutionOutcome
+  write-below =
+      done-below (getD (costsOver G W strip content (8 * L) (8 * L)) 0 0) (a .cost) (outcome-is G W K L most strip content D ∙ ap solutionOutcome e)

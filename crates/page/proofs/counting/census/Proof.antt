@@ -8,16 +8,20 @@ use lib.ListN.{length}
 use borrow.Author.Needs.{needs}
 use Rattle.cells.specs.Places.{listOf}
 use Rattle.cells.specs.Levels.{level}
+use Rattle.codes.specs.Layouts.{oneBit, bytesIn}
+use Rattle.codes.proofs.Layouts.{oneBit-cells}
+use Rattle.demand.specs.Jobs.{part}
 use Rattle.page.specs.Refusals.{shapeGround}
 use Rattle.page.specs.Counting.{rowOf, rowAt}
-use Rattle.page.proofs.Fitting.{one-to-64, strip-there}
-use Rattle.page.proofs.Judging.{done-none, shape-in-order}
-use Rattle.page.proofs.Tallies.{strip-row, rows-none, rows-more, census-refused, census-done}
+use Rattle.page.proofs.Strips.{one-to-64, strip-there}
+use Rattle.page.proofs.Refusals.{done-none, shape-in-order}
+use Rattle.page.proofs.Promise.{oneBit-whole}
+use Rattle.page.proofs.Counts.{strip-row, rows-none, rows-more, census-refused, census-done}
 use Rattle.page.proofs.counting.census.Statement.{statement}
 use Rattle.page.proofs.counting.census.Tie as tie
 
 abbrev Inv-loop : tie.InvT-loop
-Inv-loop bytes strips page rows₀ judged k₀ rows k = (k ≤ strips) × (rows ≡ listOf 64 (rowAt bytes k page))
+Inv-loop bytes strips page rows₀ judged k₀ rows k = (k ≤ strips) × (rows ≡ listOf 64 (rowAt oneBit bytes k page))
 
 abbrev μ-loop : tie.MeasureT-loop
 μ-loop bytes strips page rows₀ judged k₀ rows k = strips - k
@@ -51,7 +55,7 @@ returns c =
 
 loop-holds : tie.Need-loop-holds Inv-loop μ-loop
 unfolding listOf
-loop-holds c = (omega arith, rows-none (c .before .before .before .before .args .bytes) (c .before .before .before .before .args .page .now))
+loop-holds c = (omega arith, rows-none oneBit (c .before .before .before .before .args .bytes) (c .before .before .before .before .args .page .now))
 
 strip-requires : tie.Need-strip-requires Inv-loop μ-loop
 strip-requires c κs = search needs
@@ -80,8 +84,11 @@ loop-again c =
     let a = l .before .before .before .before .before .args in
     let s = shape-in-order (a .bytes) (a .strips) (length (a .page .now)) (shape-none (l .before)) in
     let t = strip-there (a .bytes) (a .strips) (l .loop .k) (a .page .now) (s .0) (s .2) (c .before .before .loop-test .taken) in
-    let r = c .row-of .ensures ∙ ap (λ (x : List ℕ). rowOf (16 * a .bytes) (level x)) (c .before .strip .ensures ∙ t) ∙ strip-row (a .bytes) (l .loop .k) (a .page .now) in
-    (omega arith, rw (l .loop .inv .1) (rows-more (a .bytes) (l .loop .k) (a .page .now) (c .row-of .result) (omega (arith, small (l .before))) r))
+    let r =
+    c .row-of .ensures ∙ ap (λ (x : List ℕ). rowOf (16 * a .bytes) (level x)) (c .before .strip .ensures ∙ t)
+    ∙ ap (λ (n : ℕ). rowOf n (level (part (bytesIn oneBit (a .bytes)) (l .loop .k) (a .page .now)))) (sym (oneBit-cells (a .bytes)))
+    ∙ strip-row oneBit (a .bytes) (l .loop .k) (a .page .now) (oneBit-whole (a .bytes) .cells-fill) in
+    (omega arith, rw (l .loop .inv .1) (rows-more oneBit (a .bytes) (l .loop .k) (a .page .now) (c .row-of .result) (omega (arith, small (l .before))) r))
 
 returns-2 : tie.Need-returns-2 Inv-loop μ-loop
 returns-2 c =
@@ -89,7 +96,7 @@ returns-2 c =
     let a = t .before .before .before .before .args in
     let e : c .before .loop .k ≡ a .strips = omega arith in
     census-done (a .bytes) (a .strips) (a .page .now) _ (t .before .before .judge-shape .ensures) (c .before .loop .rows) (shape-none t)
-    (c .before .loop .inv .1 ∙ ap (λ (n : ℕ). listOf 64 (rowAt (a .bytes) n (a .page .now))) e)
+    (c .before .loop .inv .1 ∙ ap (λ (n : ℕ). listOf 64 (rowAt oneBit (a .bytes) n (a .page .now))) e)
 
 pub census-spec : {M : Type 1} → statement M
 census-spec =

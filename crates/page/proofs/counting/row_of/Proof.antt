@@ -6,7 +6,7 @@ use borrow.Author.Needs.{needs}
 use Rattle.cells.specs.Places.{sumOf}
 use Rattle.cells.specs.Levels.{level}
 use Rattle.page.specs.Counting.{countOf, rowOf}
-use Rattle.page.proofs.Tallies.{row-le, row-next}
+use Rattle.page.proofs.Counts.{row-le, row-next}
 use Rattle.page.proofs.counting.row_of.Statement.{statement}
 use Rattle.page.proofs.counting.row_of.Tie as tie
 

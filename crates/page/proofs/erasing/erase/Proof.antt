@@ -6,7 +6,7 @@ use lib.ListN.{length}
 use borrow.Author.Needs.{needs}
 use Rattle.page.specs.Refusals.{shapeGround, eraseGround, first-of}
 use Rattle.page.specs.Answers.{completionOf}
-use Rattle.page.proofs.Judging.{done-none, refused-some}
+use Rattle.page.proofs.Refusals.{done-none, refused-some}
 use Rattle.page.proofs.erasing.erase.Statement.{statement}
 use Rattle.page.proofs.erasing.erase.Tie as tie
 

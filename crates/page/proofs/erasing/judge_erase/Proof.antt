@@ -8,7 +8,7 @@ use lib.IntN.{pos}
 use lib.Signed.{ltZ}
 use borrow.Author.Needs.{needs}
 use Rattle.page.specs.Refusals.{shapeGround, eraseGround}
-use Rattle.page.proofs.Judging.{done-none, refused-first}
+use Rattle.page.proofs.Refusals.{done-none, refused-first}
 use Rattle.page.proofs.erasing.judge_erase.Statement.{statement}
 use Rattle.page.proofs.erasing.judge_erase.Tie as tie
 

@@ -7,10 +7,14 @@ use lib.ListN.{length}
 use borrow.Author.Needs.{needs}
 use Rattle.codes.specs.Codes.{generatorsOf}
 use Rattle.codes.specs.Reading.{readStrip}
-use Rattle.page.specs.Shape.{strip, part}
-use Rattle.page.proofs.Parts.{within}
-use Rattle.page.proofs.Fitting.{one-to-64, strip-there, lent-length, stored-length, part-more}
-use Rattle.page.proofs.Readings.{parts-read}
+use Rattle.codes.specs.Layouts.{oneBit}
+use Rattle.demand.specs.Jobs.{part}
+use Rattle.demand.proofs.Reading.{parts-read}
+use Rattle.page.specs.Reading.{readPage}
+use Rattle.page.specs.Plans.{stripAt}
+use Rattle.page.proofs.Promise.{oneBit-whole}
+use Rattle.cells.proofs.Parts.{within}
+use Rattle.page.proofs.Strips.{one-to-64, strip-there, lent-length, stored-length, part-more}
 use Rattle.page.proofs.reading.read_strips.Statement.{statement}
 use Rattle.page.proofs.reading.read_strips.Tie as tie
 
@@ -18,7 +22,7 @@ abbrev Inv-loop : tie.InvT-loop
 Inv-loop code bytes strips page data₀ k₀ «data» k =
     (length «data» ≡ length data₀)
     × (k ≤ strips)
-    × ((j : ℕ) → j < k → part bytes j «data» ≡ readStrip (generatorsOf code) bytes (strip bytes j page))
+    × ((j : ℕ) → j < k → part bytes j «data» ≡ readStrip oneBit (generatorsOf code) bytes (stripAt bytes j page))
 
 abbrev μ-loop : tie.MeasureT-loop
 μ-loop code bytes strips page data₀ k₀ «data» k = strips - k
@@ -71,22 +75,23 @@ loop-again c =
     let r = c .before .before .read in
     let m = lent-length (a .bytes) (l .k) (l .«data») (fit t) in
     let n = r .kept .1 .1 .0 ∙ m in
-    let y : r .last .1 .1 .0 ≡ readStrip (generatorsOf (a .code)) (a .bytes) (strip (a .bytes) (l .k) (a .page .now)) =
-    r .ensures ∙ ap₂ (readStrip (generatorsOf (a .code))) m (c .before .before .before .before .strip .ensures ∙ strip-there (a .bytes) (a .strips) (l .k) (a .page .now) (s .pre .bytes-in) (s .pre .page-is) (t .loop-test .taken)) in (
+    let y : r .last .1 .1 .0 ≡ readStrip oneBit (generatorsOf (a .code)) (a .bytes) (stripAt (a .bytes) (l .k) (a .page .now)) =
+    r .ensures ∙ ap₂ (readStrip oneBit (generatorsOf (a .code))) m (c .before .before .before .before .strip .ensures ∙ strip-there (a .bytes) (a .strips) (l .k) (a .page .now) (s .pre .bytes-in) (s .pre .page-is) (t .loop-test .taken)) in (
       stored-length (a .bytes) (l .k) (l .«data») (r .last .1 .1 .0) (fit t) n ∙ l .inv .0,
       omega arith,
-      part-more (a .bytes) (l .k) (l .«data») (r .last .1 .1 .0) (λ j. readStrip (generatorsOf (a .code)) (a .bytes) (strip (a .bytes) j (a .page .now))) (fit t) n y (l .inv .2),
+      part-more (a .bytes) (l .k) (l .«data») (r .last .1 .1 .0) (λ j z. z ≡ readStrip oneBit (generatorsOf (a .code)) (a .bytes) (stripAt (a .bytes) j (a .page .now))) (fit t) n y (l .inv .2),
     )
 
 same-length : tie.Need-same-length Inv-loop μ-loop
 same-length c = search needs
 
 returns : tie.Need-returns Inv-loop μ-loop
+unfolding readPage
 returns c =
     let s = c .before .before .before .before in
     let l = c .before .loop in
     let e : l .k ≡ s .args .strips = omega arith in
-    parts-read _ (s .args .bytes) (s .args .strips) (s .args .page .now) (l .«data») (l .inv .0 ∙ s .pre .data-is) (λ j h. l .inv .2 j (omega arith))
+    parts-read oneBit _ (s .args .bytes) (s .args .strips) (s .args .page .now) (oneBit-whole (s .args .bytes)) (l .«data») (l .inv .0 ∙ s .pre .data-is) (λ j h. l .inv .2 j (omega arith))
 
 pub read-strips-spec : {M : Type 1} → statement M
 read-strips-spec =

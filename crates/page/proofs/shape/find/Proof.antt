@@ -5,8 +5,10 @@ use Prim.Native.Nat.{_+_, _*_, _≤_}
 use native.Mathlib.Omega.{arith}
 use native.Mathlib.Nat.{add-sub-cancel-left}
 use borrow.Author.Needs.{needs}
-use Rattle.page.specs.Shape.{oneTo64, strip}
-use Rattle.page.proofs.Fitting.{limits-in, limits-below, limits-above, part-ends, strip-outside, strip-beyond, strip-inside}
+use Rattle.codes.proofs.Layouts.{oneBit-bytes}
+use Rattle.demand.specs.Jobs.{part}
+use Rattle.page.specs.Shape.{oneTo64}
+use Rattle.page.proofs.Strips.{limits-in, limits-below, limits-above, part-ends, strip-outside, strip-beyond, strip-inside}
 use Rattle.page.proofs.shape.find.Statement.{statement}
 use Rattle.page.proofs.shape.find.Tie as tie
 
@@ -31,7 +33,7 @@ div-whole : tie.Need-div-whole
 div-whole c = search needs
 
 returns-3 : tie.Need-returns-3
-returns-3 c = ((omega arith, omega arith), λ page e. sym (strip-beyond _ _ page (bytes-in (c .before)) (rw e (c .if3 .taken))))
+returns-3 c = ((omega arith, omega arith), λ page e. sym (strip-beyond _ _ page (bytes-in (c .before)) (rw (e, oneBit-bytes (c .before .before .before .args .bytes)) (c .if3 .taken))))
 
 mul-a : tie.Need-mul-a
 mul-a c = omega (arith, fit c)
@@ -40,12 +42,12 @@ add-t8 : tie.Need-add-t8
 add-t8 c = omega (arith, fit c)
 
 returns-4 : tie.Need-returns-4
-unfolding strip
+unfolding part
 returns-4 c =
     let a = c .before .before .before .args in (
       (omega arith, fit c),
       λ page e.
-          rw (add-sub-cancel-left (6 * a .bytes * a .k) (6 * a .bytes), strip-inside (a .bytes) (a .k) page (bytes-in (c .before)) (rw e (fit c))),
+          rw (add-sub-cancel-left (6 * a .bytes * a .k) (6 * a .bytes), strip-inside (a .bytes) (a .k) page (bytes-in (c .before)) (rw (e, oneBit-bytes (a .bytes)) (fit c)), oneBit-bytes (a .bytes)),
     )
 
 pub find-spec : {M : Type 1} → statement M

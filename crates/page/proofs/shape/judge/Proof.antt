@@ -2,8 +2,9 @@
 use mathlib.Core.Path.{_≡_, sym, _∙_}
 use mathlib.Core.Option.{none}
 use borrow.Author.Needs.{needs}
+use Rattle.codes.specs.Layouts.{oneBit}
 use Rattle.page.specs.Refusals.{ground, first-of, sizesGround, limitsGround, pageGround, dataGround}
-use Rattle.page.proofs.Judging.{done-none, done-next, refused-first, sizes-limits}
+use Rattle.page.proofs.Refusals.{done-none, done-next, refused-first, sizes-limits}
 use Rattle.page.proofs.shape.judge.Statement.{statement}
 use Rattle.page.proofs.shape.judge.Tie as tie
 
@@ -28,7 +29,7 @@ unfolding ground
 returns c =
     let j = c .before .before in
     let a = j .before .args in
-    refused-first (sizesGround (a .code) (a .bytes) (a .strips)) (first-of (pageGround (a .bytes) (a .strips) (a .page)) (dataGround (a .bytes) (a .strips) (a .«data»)))
+    refused-first (sizesGround (a .code) (a .bytes) (a .strips)) (first-of (pageGround oneBit (a .bytes) (a .strips) (a .page)) (dataGround (a .bytes) (a .strips) (a .«data»)))
     (j .judge-sizes .result) (j .judge-sizes .ensures) (c .enum-told2 .given .1)
 
 judge-page-requires : tie.Need-judge-page-requires
@@ -47,9 +48,9 @@ returns-2 c =
     let n = j .before in
     let s = n .before .before in
     let a = s .before .args in
-    done-next (sizesGround (a .code) (a .bytes) (a .strips)) (first-of (pageGround (a .bytes) (a .strips) (a .page)) (dataGround (a .bytes) (a .strips) (a .«data»)))
+    done-next (sizesGround (a .code) (a .bytes) (a .strips)) (first-of (pageGround oneBit (a .bytes) (a .strips) (a .page)) (dataGround (a .bytes) (a .strips) (a .«data»)))
     (s .judge-sizes .ensures) (n .enum-told .given .1)
-    (refused-first (pageGround (a .bytes) (a .strips) (a .page)) (dataGround (a .bytes) (a .strips) (a .«data»)) (j .judge-page .result) (j .judge-page .ensures) (c .enum-told4 .given .1))
+    (refused-first (pageGround oneBit (a .bytes) (a .strips) (a .page)) (dataGround (a .bytes) (a .strips) (a .«data»)) (j .judge-page .result) (j .judge-page .ensures) (c .enum-told4 .given .1))
 
 judge-data-requires : tie.Need-judge-data-requires
 judge-data-requires c κs = limits-none (c .before .before .before)
@@ -62,7 +63,7 @@ returns-3 c =
     let n = j .before in
     let s = n .before .before in
     let a = s .before .args in
-    let page = pageGround (a .bytes) (a .strips) (a .page) in
+    let page = pageGround oneBit (a .bytes) (a .strips) (a .page) in
     let rest = dataGround (a .bytes) (a .strips) (a .«data») in
     done-next (sizesGround (a .code) (a .bytes) (a .strips)) (first-of page rest) (s .judge-sizes .ensures) (n .enum-told .given .1)
     (done-next page rest (j .judge-page .ensures) (m .enum-told3 .given .1) (c .judge-data .ensures))

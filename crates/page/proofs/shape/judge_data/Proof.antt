@@ -3,7 +3,7 @@ use native.Mathlib.Omega.{arith}
 use native.Mathlib.Nat.{mul-le-mul}
 use borrow.Author.Tests.{eq-eqb, ne-eqb}
 use Rattle.page.specs.Refusals.{dataGround}
-use Rattle.page.proofs.Judging.{limits-most}
+use Rattle.page.proofs.Refusals.{limits-most}
 use Rattle.page.proofs.shape.judge_data.Statement.{statement}
 use Rattle.page.proofs.shape.judge_data.Tie as tie
 

@@ -4,8 +4,9 @@ use native.Mathlib.Omega.{arith}
 use native.Mathlib.Nat.{mul-le-mul}
 use borrow.Author.Needs.{needs}
 use borrow.Author.Tests.{eq-eqb, ne-eqb}
+use Rattle.codes.proofs.Layouts.{oneBit-bytes}
 use Rattle.page.specs.Refusals.{pageGround}
-use Rattle.page.proofs.Judging.{limits-most}
+use Rattle.page.proofs.Refusals.{limits-most}
 use Rattle.page.proofs.shape.judge_page.Statement.{statement}
 use Rattle.page.proofs.shape.judge_page.Tie as tie
 
@@ -20,11 +21,11 @@ mul-if1-2 c =
 
 returns : tie.Need-returns
 unfolding pageGround
-returns c = simp (ne-eqb _ _ (c .if1 .taken))
+returns c = simp (oneBit-bytes (c .before .args .bytes), ne-eqb _ _ (c .if1 .taken))
 
 returns-2 : tie.Need-returns-2
 unfolding pageGround
-returns-2 c = simp (eq-eqb _ _ (c .if1 .left))
+returns-2 c = simp (oneBit-bytes (c .before .args .bytes), eq-eqb _ _ (c .if1 .left))
 
 pub judge-page-spec : {M : Type 1} → statement M
 judge-page-spec = tie.close (tie.spec mul-if1 mul-if1-2 returns returns-2)

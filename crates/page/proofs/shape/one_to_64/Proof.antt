@@ -2,7 +2,7 @@
 use mathlib.Core.Path.{sym}
 use borrow.Author.Tests.{le-leb}
 use Rattle.page.specs.Shape.{oneTo64}
-use Rattle.page.proofs.Fitting.{limits-below}
+use Rattle.page.proofs.Strips.{limits-below}
 use Rattle.page.proofs.shape.one_to_64.Statement.{statement}
 use Rattle.page.proofs.shape.one_to_64.Tie as tie
 

@@ -1,12 +1,14 @@
 -- The invariant: the strips before k are raised to what their digits want, and from strip k on the page is as it was.
 use mathlib.Core.Path.{sym, ap, _∙_}
-use Prim.Native.Nat.{ℕ, _+_, _*_, _-_, _≤_}
+use Prim.Native.Nat.{_+_, _*_, _-_, _≤_}
 use native.Mathlib.Omega.{arith}
 use lib.ListN.{length}
 use borrow.Author.Needs.{needs}
 use Rattle.codes.specs.Codes.{generatorsOf}
-use Rattle.page.proofs.Fitting.{one-to-64, lent-length}
-use Rattle.page.proofs.Rounds.{strip-fits, part-fits, CarriedUpTo, carried-none, carried-more}
+use Rattle.codes.specs.Layouts.{oneBit, bytesIn}
+use Rattle.codes.proofs.Layouts.{oneBit-bytes}
+use Rattle.page.proofs.Strips.{one-to-64, lent-length}
+use Rattle.page.proofs.Loops.{strip-fits, part-fits, CarriedUpTo, carried-none, carried-more}
 use Rattle.page.proofs.writing.carry_strips.Statement.{statement}
 use Rattle.page.proofs.writing.carry_strips.Tie as tie
 
@@ -18,7 +20,9 @@ abbrev μ-loop : tie.MeasureT-loop
 
 -- in a turn the strip ends within the page
 fit : (c : tie.In-loop Inv-loop μ-loop) → let a = c .before .before .before .before .before .args in 6 * a .bytes * c .before .loop .k + 6 * a .bytes ≤ length (c .before .loop .page)
-fit c = omega (arith, strip-fits (c .before .before .before .before .before .pre .0) (c .loop-test .taken), c .before .loop .inv .size)
+fit c =
+    let s = c .before .before .before .before .before in
+    omega (arith, rw (oneBit-bytes (s .args .bytes)) at (strip-fits (s .pre .0) (c .loop-test .taken)), c .before .loop .inv .size)
 
 -- and its part within the data
 fit-data : (c : tie.In-loop Inv-loop μ-loop) → let a = c .before .before .before .before .before .args in a .bytes * c .before .loop .k + a .bytes ≤ length (a .«data» .now)
@@ -85,7 +89,11 @@ carry-strip-requires c κs =
     let d = lent-length (a .bytes) (l .k) (a .«data» .now) (fit-data t) in
     let g = lent-length (a .bytes) (l .k) (a .digits .now) (fit-digits t) in
     let p = lent-length (6 * a .bytes) (l .k) (l .page) (fit t) in
-    (g ∙ sym d, omega (arith, d, one-to-64 (a .bytes) (s .pre .0 .bytes-in)), p ∙ ap (λ (n : ℕ). 6 * n) (sym d))
+    record {
+      digits-are = g ∙ sym d;
+      most = omega (arith, d, one-to-64 (a .bytes) (s .pre .0 .bytes-in));
+      size = p ∙ sym (oneBit-bytes (a .bytes)) ∙ ap (bytesIn oneBit) (sym d);
+    }
 
 add-k : tie.Need-add-k Inv-loop μ-loop
 add-k c = search needs
@@ -96,7 +104,7 @@ loop-less c = search needs
 loop-again : tie.Need-loop-again Inv-loop μ-loop
 loop-again c =
     let t = c .before .before .before .before .before .before in
-    carried-more (t .before .loop .inv) (t .before .before .before .before .before .pre .0 .page-is) (t .loop-test .taken) (c .before .before .carry-strip .ensures)
+    carried-more (t .before .loop .inv) (sym (oneBit-bytes (t .before .before .before .before .before .args .bytes))) (t .before .before .before .before .before .pre .0 .page-is) (t .loop-test .taken) (c .before .before .carry-strip .ensures)
 
 same-length : tie.Need-same-length Inv-loop μ-loop
 same-length c = c .before .loop .inv .size

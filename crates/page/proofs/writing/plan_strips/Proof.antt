@@ -7,14 +7,16 @@ use mir.Syntax.{w8}
 use borrow.Author.Needs.{needs, elem-fits}
 use Rattle.codes.specs.Codes.{generatorsOf}
 use Rattle.trellis.proofs.Prices.{Suits}
-use Rattle.page.proofs.Fitting.{lent-length}
-use Rattle.page.proofs.Rounds.{suits, part-fits, turn-shaped, turn-outcome, PlannedTo, planned-none, planned-more, Reached, reached-none, reached-more, reached-spent, spent-none, reached-all}
+use Rattle.trellis.proofs.Program.{suits}
+use Rattle.page.specs.Answers.{plainJob}
+use Rattle.page.proofs.Strips.{lent-length}
+use Rattle.page.proofs.Loops.{part-fits, turn-shaped, turn-outcome, PlannedTo, planned-none, planned-more, Reached, reached-none, reached-more, reached-spent, spent-none, reached-all}
 use Rattle.page.proofs.writing.plan_strips.Statement.{statement}
 use Rattle.page.proofs.writing.plan_strips.Tie as tie
 
 abbrev Inv-loop : tie.InvT-loop
 Inv-loop code weights bytes strips page «data» digits₀ words total₀ k₀ digits total k =
-    (Reached (generatorsOf code) weights bytes strips page «data» total k) × (PlannedTo (generatorsOf code) weights bytes strips page «data» digits k)
+    (Reached (plainJob (generatorsOf code) weights bytes strips page «data») total k) × (PlannedTo (generatorsOf code) weights bytes strips page «data» digits k)
 
 abbrev μ-loop : tie.MeasureT-loop
 μ-loop code weights bytes strips page «data» digits₀ words total₀ k₀ digits total k = strips - k
@@ -32,14 +34,14 @@ fit-digits : (c : tie.In-loop Inv-loop μ-loop) → let a = c .before .before .b
 fit-digits c = omega (arith, fit c, c .before .loop .inv .1 .size, c .before .before .before .before .before .before .before .pre .0 .data-is)
 
 -- after a turn the total has one more strip
-callPage : (c : tie.After-add Inv-loop μ-loop) → let l = c .before .before .before .before .before .before .before .before .before in
+one-more : (c : tie.After-add Inv-loop μ-loop) → let l = c .before .before .before .before .before .before .before .before .before in
     let a = l .before .before .before .before .before .before .args in
-    Reached (generatorsOf (a .code)) (a .weights) (a .bytes) (a .strips) (a .page .now) (a .«data» .now) (c .add .result) (l .loop .k + 1)
-callPage c =
+    Reached (plainJob (generatorsOf (a .code)) (a .weights) (a .bytes) (a .strips) (a .page .now) (a .«data» .now)) (c .add .result) (l .loop .k + 1)
+one-more c =
     let t = c .before .before .before .before .before .before .before .before in
     let s = t .before .before .before .before .before .before .before in
     let is = c .before .before .before .before .before .before .strip .ensures in
-    reached-more (t .before .loop .inv .0) (t .loop-test .taken) (turn-outcome (s .pre .0) (t .loop-test .taken) is (suited s) (c .before .before .before .plan-strip .ensures .0)) (c .add .ensures)
+    reached-more (t .before .loop .inv .0) (t .loop-test .taken) (turn-outcome (s .pre .0) (t .loop-test .taken) is (suited s) (s .pre .1 .0) (c .before .before .before .plan-strip .ensures .0)) (c .add .ensures)
 
 words-of-requires : tie.Need-words-of-requires Inv-loop μ-loop
 words-of-requires c κs = search needs
@@ -50,7 +52,7 @@ new-requires c κs = search needs
 loop-holds : tie.Need-loop-holds Inv-loop μ-loop
 loop-holds c =
     let s = c .before .before .before .before .before in
-    (reached-none (suited s) (s .pre .0) (c .new .ensures), planned-none (s .pre .1))
+    (reached-none (suited s) (s .pre .1 .0) (s .pre .0) (c .new .ensures), planned-none (s .pre .1 .1))
 
 mul-a : tie.Need-mul-a Inv-loop μ-loop
 mul-a c = omega (arith, fit c)
@@ -89,7 +91,7 @@ plan-strip-requires c κs =
     let s = n .before .before .before .before in
     let a = s .args in
     let l = t .before .loop in (
-      turn-shaped (s .pre .0) (t .loop-test .taken) (c .before .before .strip .ensures) (n .words-of .ensures),
+      turn-shaped (s .pre .0) (t .loop-test .taken) (c .before .before .strip .ensures) (n .words-of .ensures) (s .pre .1 .0),
       lent-length (a .bytes) (l .k) (l .digits) (fit-digits t) ∙ sym (lent-length (a .bytes) (l .k) (a .«data» .now) (fit t)),
     )
 
@@ -104,7 +106,7 @@ same-length c = search needs
 
 returns : tie.Need-returns Inv-loop μ-loop
 returns c =
-    let r = callPage (c .before .before) in
+    let r = one-more (c .before .before) in
     let e = c .before .if1 .taken in
     (reached-spent r e (c .answer .ensures), record { planned = λ a f. absurd (spent-none r e a f) })
 
@@ -119,7 +121,7 @@ loop-again c =
     let t = c .before .before .before .before .before .before .before .before .before in
     let s = t .before .before .before .before .before .before .before in
     let is = c .before .before .before .before .before .before .before .strip .ensures in
-    (callPage (c .before), planned-more (s .pre .0) (t .loop-test .taken) is (t .before .loop .inv .1) (c .before .before .before .before .plan-strip .ensures .1))
+    (one-more (c .before), planned-more (s .pre .0) (t .loop-test .taken) is (t .before .loop .inv .1) (c .before .before .before .before .plan-strip .ensures .1))
 
 answer-requires-2 : tie.Need-answer-requires-2 Inv-loop μ-loop
 answer-requires-2 c κs = search needs

@@ -3,7 +3,8 @@ use mathlib.Core.Path.{refl}
 use native.Mathlib.Omega.{arith}
 use borrow.Author.Needs.{needs}
 use Rattle.cells.specs.Bytes.{Octets}
-use Rattle.page.proofs.Rounds.{Judged, sized-by, in-order-answer, refused-answer, kept-by}
+use Rattle.search.proofs.Parity.{house-dear}
+use Rattle.page.proofs.Loops.{Judged, sized-by, in-order-answer, refused-answer, kept-by}
 use Rattle.page.proofs.writing.price.Statement.{statement}
 use Rattle.page.proofs.writing.price.Tie as tie
 
@@ -28,7 +29,9 @@ house-weights-requires : tie.Need-house-weights-requires
 house-weights-requires c κs = search needs
 
 price-strips-requires : tie.Need-price-strips-requires
-price-strips-requires c κs = let n = c .before .before in sized-by (judged (n .before .before)) (n .enum-told .given .1)
+price-strips-requires c κs =
+    let n = c .before .before in
+    (sized-by (judged (n .before .before)) (n .enum-told .given .1), rw (c .house-weights .ensures) house-dear)
 
 enum-known-judged : tie.Need-enum-known-judged
 enum-known-judged c = search needs
@@ -38,13 +41,13 @@ returns c =
     let n = c .before .before .before in
     let j = n .before .before in
     let e = in-order-answer (judged j) (n .enum-told .given .1) (c .before .before .code-of .ensures) (c .before .house-weights .ensures) (c .price-strips .ensures) in
-    (e, kept-by (octets (j .before)) refl e)
+    (e, kept-by _ _ _ _ _ (octets (j .before)) refl e)
 
 returns-2 : tie.Need-returns-2
 returns-2 c =
     let j = c .before .before .before in
     let e = refused-answer (judged j) (c .before .judged .given .1) in
-    (e, kept-by (octets (j .before)) refl e)
+    (e, kept-by _ _ _ _ _ (octets (j .before)) refl e)
 
 pub price-spec : {M : Type 1} → statement M
 price-spec =

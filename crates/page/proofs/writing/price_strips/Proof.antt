@@ -6,12 +6,14 @@ use mir.Syntax.{w8}
 use borrow.Author.Needs.{needs, elem-fits}
 use Rattle.codes.specs.Codes.{generatorsOf}
 use Rattle.trellis.proofs.Prices.{Suits}
-use Rattle.page.proofs.Rounds.{suits, part-fits, turn-shaped, turn-outcome, Reached, reached-none, reached-more, reached-spent, reached-all}
+use Rattle.trellis.proofs.Program.{suits}
+use Rattle.page.specs.Answers.{plainJob}
+use Rattle.page.proofs.Loops.{part-fits, turn-shaped, turn-outcome, Reached, reached-none, reached-more, reached-spent, reached-all}
 use Rattle.page.proofs.writing.price_strips.Statement.{statement}
 use Rattle.page.proofs.writing.price_strips.Tie as tie
 
 abbrev Inv-loop : tie.InvT-loop
-Inv-loop code weights bytes strips page «data» words total₀ k₀ total k = Reached (generatorsOf code) weights bytes strips page «data» total k
+Inv-loop code weights bytes strips page «data» words total₀ k₀ total k = Reached (plainJob (generatorsOf code) weights bytes strips page «data») total k
 
 abbrev μ-loop : tie.MeasureT-loop
 μ-loop code weights bytes strips page «data» words total₀ k₀ total k = strips - k
@@ -22,15 +24,15 @@ suited c = suits (c .args .code) (c .args .weights) (c .good .1 .0 .1 .0 .1) (λ
 
 -- in a turn the part ends within the data
 fit : (c : tie.In-loop Inv-loop μ-loop) → let a = c .before .before .before .before .before .before .args in a .bytes * c .before .loop .k + a .bytes ≤ length (a .«data» .now)
-fit c = part-fits (c .before .before .before .before .before .before .pre) (c .loop-test .taken)
+fit c = part-fits (c .before .before .before .before .before .before .pre .0) (c .loop-test .taken)
 
 -- after a turn the total has one more strip
-callPage : (c : tie.After-add Inv-loop μ-loop) → let l = c .before .before .before .before .before .before in let a = l .before .before .before .before .before .args in
-    Reached (generatorsOf (a .code)) (a .weights) (a .bytes) (a .strips) (a .page .now) (a .«data» .now) (c .add .result) (l .loop .k + 1)
-callPage c =
+one-more : (c : tie.After-add Inv-loop μ-loop) → let l = c .before .before .before .before .before .before in let a = l .before .before .before .before .before .args in
+    Reached (plainJob (generatorsOf (a .code)) (a .weights) (a .bytes) (a .strips) (a .page .now) (a .«data» .now)) (c .add .result) (l .loop .k + 1)
+one-more c =
     let t = c .before .before .before .before .before in
     let s = t .before .before .before .before .before .before in
-    reached-more (t .before .loop .inv) (t .loop-test .taken) (turn-outcome (s .pre) (t .loop-test .taken) (c .before .before .before .strip .ensures) (suited s) (c .before .price-strip .ensures)) (c .add .ensures)
+    reached-more (t .before .loop .inv) (t .loop-test .taken) (turn-outcome (s .pre .0) (t .loop-test .taken) (c .before .before .before .strip .ensures) (suited s) (s .pre .1) (c .before .price-strip .ensures)) (c .add .ensures)
 
 words-of-requires : tie.Need-words-of-requires Inv-loop μ-loop
 words-of-requires c κs = search needs
@@ -41,7 +43,7 @@ new-requires c κs = search needs
 loop-holds : tie.Need-loop-holds Inv-loop μ-loop
 loop-holds c =
     let s = c .before .before .before .before in
-    reached-none (suited s) (s .pre) (c .new .ensures)
+    reached-none (suited s) (s .pre .1) (s .pre .0) (c .new .ensures)
 
 mul-a : tie.Need-mul-a Inv-loop μ-loop
 mul-a c = omega (arith, fit c)
@@ -65,7 +67,8 @@ price-strip-requires : tie.Need-price-strip-requires Inv-loop μ-loop
 price-strip-requires c κs =
     let t = c .before .before .before in
     let n = t .before .before .before in
-    turn-shaped (n .before .before .before .pre) (t .loop-test .taken) (c .before .strip .ensures) (n .words-of .ensures)
+    let s = n .before .before .before in
+    turn-shaped (s .pre .0) (t .loop-test .taken) (c .before .strip .ensures) (n .words-of .ensures) (s .pre .1)
 
 add-requires : tie.Need-add-requires Inv-loop μ-loop
 add-requires c κs = search needs
@@ -74,7 +77,7 @@ answer-requires : tie.Need-answer-requires Inv-loop μ-loop
 answer-requires c κs = search needs
 
 returns : tie.Need-returns Inv-loop μ-loop
-returns c = reached-spent (callPage (c .before .before)) (c .before .if1 .taken) (c .answer .ensures)
+returns c = reached-spent (one-more (c .before .before)) (c .before .if1 .taken) (c .answer .ensures)
 
 add-k : tie.Need-add-k Inv-loop μ-loop
 add-k c = search needs
@@ -83,7 +86,7 @@ loop-less : tie.Need-loop-less Inv-loop μ-loop
 loop-less c = search needs
 
 loop-again : tie.Need-loop-again Inv-loop μ-loop
-loop-again c = callPage (c .before)
+loop-again c = one-more (c .before)
 
 answer-requires-2 : tie.Need-answer-requires-2 Inv-loop μ-loop
 answer-requires-2 c κs = search needs

@@ -8,7 +8,8 @@ use mir.Syntax.{w8}
 use borrow.Author.Needs.{needs, elem-fits}
 use Rattle.codes.specs.Codes.{generatorsOf}
 use Rattle.trellis.proofs.Prices.{Suits}
-use Rattle.page.proofs.Rounds.{suits, whole-most, front-length, front-fits, front-back, done-page, spent-page, not-refused}
+use Rattle.trellis.proofs.Program.{suits}
+use Rattle.page.proofs.Loops.{whole-most, front-length, front-fits, front-back, done-page, spent-page, not-refused}
 use Rattle.page.proofs.writing.write_strips.Statement.{statement}
 use Rattle.page.proofs.writing.write_strips.Tie as tie
 
@@ -41,7 +42,9 @@ part-digits-end : tie.Need-part-digits-end
 part-digits-end c = whole-most (c .before .before .before .pre .0)
 
 plan-strips-requires : tie.Need-plan-strips-requires
-plan-strips-requires c κs = search needs
+plan-strips-requires c κs =
+    let s = c .before .before .before .before in
+    (s .pre .0, (s .pre .1, front-length _ _ (whole-most (s .pre .0))))
 
 enum-told : tie.Need-enum-told
 enum-told c = search needs

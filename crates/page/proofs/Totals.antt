@@ -1,4 +1,8 @@
 -- The running total over all strips answers as the page's write does: the sum of the costs, or the first strip that is spent.
+--   total-spent     once spent a total stays
+--   total-same      outcomes that agree make the same total
+--   total-answers   what a total answers after n more strips
+--   page-answers    the total over a page's strips answers as its write does
 use mathlib.Core.Path.{_≡_, refl, _∙_, ap, ap₂}
 use mathlib.Core.Bool.{Bool, true, false}
 use mathlib.Core.List.{List}
@@ -7,15 +11,16 @@ use Prim.Native.Nat.{ℕ, zero, suc, _<_, _≤_, _+_, _*_, _%_, _^_}
 use native.Mathlib.Omega.{arith}
 use native.Mathlib.Nat.{mod-eq-of-lt}
 use Rattle.cells.specs.Places.{listOf}
-use Rattle.codes.specs.Generators.{Generators}
 use Rattle.search.specs.Best.{Solution}
 use Rattle.search.specs.Trellis.{joined, all, first-none}
-use Rattle.trellis.specs.Wide.{solutionOutcome}
+use Rattle.trellis.specs.Backward.{closed}
+use Rattle.trellis.specs.Outcomes.{solutionOutcome}
 use Rattle.trellis.specs.declared.Outcome.{Outcome}
 use Rattle.trellis.specs.declared.Outcome.the-variants as O
 use Rattle.page.specs.Totals.{noTotal, withOutcome, unlessSpent, added, totalFrom, spentOrDone, answerFor}
 use Rattle.page.specs.Answers.{callAnswer}
-use Rattle.page.specs.Computed.{stripWrite, pageWrite, spentStrip}
+use Rattle.demand.specs.Jobs.{Job}
+use Rattle.demand.specs.Computed.{stripWrite, pageWrite, spentStrip}
 use Rattle.page.specs.declared.Total.{Total}
 use Rattle.page.specs.declared.Answer.{Answer}
 use Rattle.page.specs.declared.Answer.the-variants as A
@@ -35,7 +40,7 @@ total-same t f g (suc n) e = ap (λ (o : Outcome). totalFrom (added t o) (λ i. 
 -- a total that has room for n more strips
 pub record Room (t : Total) (n : ℕ) : Type 0 where
   pub unspent : t .spent ≡ false
-  pub cost-room : t .cost + n * 262144 < 2 ^ 32
+  pub cost-room : t .cost + n * closed < 2 ^ 32
   pub strip-room : t .strips + n < 2 ^ 32
 
 -- what it answers after n more strips, whose writes one after the other are w, or which are first spent at k
@@ -46,7 +51,7 @@ answersAfter t none k = A.Spent (t .strips + k)
 module _ (w : ℕ → Option Solution) where
   -- no strip's write costs 262,144 or more
   pub Bounded : (ℕ → ℕ) → ℕ → Type 0
-  Bounded g n = (j : ℕ) → j < n → (a : Solution) → w (g j) ≡ some a → a .cost < 262144
+  Bounded g n = (j : ℕ) → j < n → (a : Solution) → w (g j) ≡ some a → a .cost < closed
 
   pub total-answers : (n : ℕ) (g : ℕ → ℕ) (t : Total) → Room t n → Bounded g n → answerFor (totalFrom t (λ j. solutionOutcome (w (g j))) n) ≡ answersAfter t (all w (listOf n g)) (first-none w (listOf n g))
   unfolding totalFrom all first-none listOf joined solutionOutcome Bounded
@@ -60,12 +65,12 @@ module _ (w : ℕ → Option Solution) where
       adds o = ap (λ (s : Bool). unlessSpent s t (withOutcome t o)) (r .unspent)
 
       go : (x : Option Solution) → w (g 0) ≡ x → (q : Option Solution)
-          → ((u : Total) → Room u n → ((j : ℕ) → j < n → (a : Solution) → w (g (suc j)) ≡ some a → a .cost < 262144) → answerFor (totalFrom u (λ j. solutionOutcome (w (g (suc j)))) n) ≡ answersAfter u q (first-none w (listOf n (λ i. g (suc i)))))
+          → ((u : Total) → Room u n → ((j : ℕ) → j < n → (a : Solution) → w (g (suc j)) ≡ some a → a .cost < closed) → answerFor (totalFrom u (λ j. solutionOutcome (w (g (suc j)))) n) ≡ answersAfter u q (first-none w (listOf n (λ i. g (suc i)))))
           → answerFor (totalFrom (added t (solutionOutcome x)) (λ j. solutionOutcome (w (g (suc j)))) n) ≡ answersAfter t (joined x q) (elim x [ none ↦ 0 | some a ↦ suc (first-none w (listOf n (λ i. g (suc i)))) ])
       go none e q f =
           rw (adds O.Spent, total-spent (withOutcome t O.Spent) (λ j. solutionOutcome (w (g (suc j)))) n refl) (ap A.Spent (omega arith))
       go (some a) e q f =
-          let c : a .cost < 262144 = b 0 (omega arith) a e in
+          let c : a .cost < closed = b 0 (omega arith) a e in
           let s : (t .cost + a .cost) % 2 ^ 64 ≡ t .cost + a .cost = mod-eq-of-lt (omega (arith, r .cost-room)) in
           let k : (t .strips + 1) % 2 ^ 32 ≡ t .strips + 1 = mod-eq-of-lt (omega (arith, r .strip-room)) in
           let u : Total = record { cost = t .cost + a .cost; strips = t .strips + 1; spent = false } in
@@ -78,13 +83,14 @@ module _ (w : ℕ → Option Solution) where
           ends (some d) = ap A.Done (omega arith)
 
 -- THE PAGE: the total over its strips answers as its write does
-pub page-answers : (G : Generators) (W : List ℕ) (L S : ℕ) (before content : List ℕ) → S ≤ 64 → ((k : ℕ) → k < S → (a : Solution) → stripWrite G W L S before content k ≡ some a → a .cost < 262144)
-    → answerFor (totalFrom noTotal (λ k. solutionOutcome (stripWrite G W L S before content k)) S) ≡ callAnswer none (pageWrite G W L S before content) (spentStrip G W L S before content)
+pub page-answers : (J : Job) → J .strips ≤ 64 → ((k : ℕ) → k < J .strips → (a : Solution) → stripWrite J k ≡ some a → a .cost < closed)
+    → answerFor (totalFrom noTotal (λ k. solutionOutcome (stripWrite J k)) (J .strips)) ≡ callAnswer none (pageWrite J) (spentStrip J)
 unfolding pageWrite spentStrip Bounded
-page-answers G W L S before content h b =
-    total-answers (stripWrite G W L S before content) S (λ k. k) noTotal (record { unspent = refl; cost-room = omega arith; strip-room = omega arith }) b
-    ∙ ends (all (stripWrite G W L S before content) (listOf S (λ k. k)))
+page-answers J h b =
+    total-answers (stripWrite J) (J .strips) (λ k. k) noTotal (record { unspent = refl; cost-room = omega arith; strip-room = omega arith }) b
+    ∙ ends (all (stripWrite J) (listOf (J .strips) (λ k. k)))
   where
-    ends : (q : Option Solution) → answersAfter noTotal q (first-none (stripWrite G W L S before content) (listOf S (λ k. k))) ≡ callAnswer none q (first-none (stripWrite G W L S before content) (listOf S (λ k. k)))
+    ends : (q : Option Solution) → answersAfter noTotal q (first-none (stripWrite J) (listOf (J .strips) (λ k. k)))
+        ≡ callAnswer none q (first-none (stripWrite J) (listOf (J .strips) (λ k. k)))
     ends none = ap A.Spent (omega arith)
     ends (some a) = ap A.Done (omega arith)

@@ -1,5 +1,9 @@
 -- A strip within the page: what the limits say, which strips lie in a page, and parts that are stored one by one.
-use mathlib.Core.Path.{_≡_, refl, sym, _∙_, ap}
+--   one-to-64, limits-in, limits-below, limits-above   the limits
+--   part-ends                                          where a part of a list ends
+--   strip-outside, strip-beyond, strip-inside, strip-there   which strips lie in a page
+--   lent-length, stored-length, part-more              parts that a loop lends and stores
+use mathlib.Core.Path.{_≡_, refl, sym, _∙_, ap, subst⁻¹}
 use mathlib.Core.Bool.{Bool, true, false, _&&_}
 use mathlib.Core.List.{List, [], _++_}
 use Prim.Native.Nat.{ℕ, suc, _+_, _*_, _-_, _/_, _%_, _<_, _≤_}
@@ -11,8 +15,11 @@ use lib.Seq.{ext-getD, getD-take, getD-drop, length-take-le, take-at, drop-at, t
 use borrow.Rule.Slice.PartMut.{same-len-mid}
 use borrow.Author.Count.{below-more}
 use borrow.Author.Tests.{le-leb, lt-leb, leb-true}
-use Rattle.page.specs.Shape.{strip, part, oneTo64, inPage, stripOf}
-use Rattle.page.proofs.Parts.{within, part-number, part-place}
+use Rattle.codes.specs.Layouts.{oneBit, bytesIn}
+use Rattle.codes.proofs.Layouts.{oneBit-bytes}
+use Rattle.demand.specs.Jobs.{part}
+use Rattle.page.specs.Shape.{oneTo64, inPage, stripOf}
+use Rattle.cells.proofs.Parts.{within}
 
 -- two tests that hold together hold each
 both : (a b : Bool) → (a && b) ≡ true → (a ≡ true) × (b ≡ true)
@@ -58,39 +65,22 @@ module _ (L k : ℕ) (page : List ℕ) where
   strip-outside e = simp e
 
   -- none where it ends beyond the page's end
-  pub strip-beyond : oneTo64 L ≡ true → length page / (6 * L) ≤ k → stripOf L k page ≡ []
+  pub strip-beyond : oneTo64 L ≡ true → length page / (bytesIn oneBit L) ≤ k → stripOf L k page ≡ []
   unfolding stripOf inPage
   strip-beyond e h =
-      let l : length page < 6 * L * suc k = omega (arith, part-beyond (6 * L) k (length page) (omega (arith, one-to-64 L e)) h) in
+      let l : length page < bytesIn oneBit L * suc k = omega (arith, part-beyond (bytesIn oneBit L) k (length page) (omega (arith, one-to-64 L e, oneBit-bytes L)) h) in
       simp (e, lt-leb _ _ l)
 
   -- the strip where it ends within the page
-  pub strip-inside : oneTo64 L ≡ true → 6 * L * k + 6 * L ≤ length page → stripOf L k page ≡ strip L k page
+  pub strip-inside : oneTo64 L ≡ true → bytesIn oneBit L * k + bytesIn oneBit L ≤ length page → stripOf L k page ≡ part (bytesIn oneBit L) k page
   unfolding stripOf inPage
-  strip-inside e h = let l : 6 * L * suc k ≤ length page = omega arith in simp (e, le-leb _ _ l)
+  strip-inside e h = let l : bytesIn oneBit L * suc k ≤ length page = omega arith in simp (e, le-leb _ _ l)
 
 -- each of the S strips of a page lies in it
-pub strip-there : (L S k : ℕ) (page : List ℕ) → oneTo64 L ≡ true → length page ≡ 6 * L * S → k < S → stripOf L k page ≡ strip L k page
-strip-there L S k page e p h = strip-inside L k page e (omega (arith, within (6 * L) k S h))
+pub strip-there : (L S k : ℕ) (page : List ℕ) → oneTo64 L ≡ true → length page ≡ bytesIn oneBit L * S → k < S → stripOf L k page ≡ part (bytesIn oneBit L) k page
+strip-there L S k page e p h = strip-inside L k page e (omega (arith, within (bytesIn oneBit L) k S h))
 
--- PARTS ONE BY ONE. Place i of part k
-part-at : (w k : ℕ) (x : List ℕ) (i : ℕ) → i < w → getD (part w k x) i 0 ≡ getD x (w * k + i) 0
-unfolding part
-part-at w k x i h = rw (getD-take w (drop (w * k) x) i 0 h, getD-drop (w * k) x i 0)
-
--- the same parts, the same list
-pub parts-same : (w S : ℕ) (x y : List ℕ) → length x ≡ w * S → length y ≡ w * S → ((k : ℕ) → k < S → part w k x ≡ part w k y) → x ≡ y
-parts-same w S x y p q e = ext-getD 0 x y (p ∙ sym q) each
-  where
-    each : (i : ℕ) → i < length x → getD x i 0 ≡ getD y i 0
-    each i h =
-        let l : i < w * S = omega arith in
-        let m = part-place w S i l in
-        ap (λ (n : ℕ). getD x n 0) (sym (div-add-mod i w)) ∙ sym (part-at w (i / w) x (i % w) m)
-        ∙ ap (λ (z : List ℕ). getD z (i % w) 0) (e (i / w) (part-number w S i l))
-        ∙ part-at w (i / w) y (i % w) m ∙ ap (λ (n : ℕ). getD y n 0) (div-add-mod i w)
-
--- part j of a list is that of its front where it lies there
+-- PARTS STORED ONE BY ONE. Part j of a list is that of its front where it lies there
 part-front : (w j : ℕ) (p q : List ℕ) → w * j + w ≤ length p → part w j (p ++ q) ≡ part w j p
 unfolding part
 part-front w j p q h =
@@ -106,11 +96,11 @@ lent-length w k x h = rw (add-sub-cancel-left (w * k) w) (length-take-le w (drop
 pub stored-length : (w k : ℕ) (x y : List ℕ) → w * k + w ≤ length x → length y ≡ w → length (take (w * k) x ++ (y ++ drop (w * k + w - w * k) (drop (w * k) x))) ≡ length x
 stored-length w k x y h l = same-len-mid (w * k) (w * k + w - w * k) x y (l ∙ sym (lent-length w k x h))
 
--- part k stored: the parts before it and it are those of f, as a loop has them after turn k
-pub part-more : (w k : ℕ) (x y : List ℕ) (f : ℕ → List ℕ) → w * k + w ≤ length x → length y ≡ w → y ≡ f k → ((j : ℕ) → j < k → part w j x ≡ f j)
-    → (j : ℕ) → j < k + 1 → part w j (take (w * k) x ++ (y ++ drop (w * k + w - w * k) (drop (w * k) x))) ≡ f j
+-- part k stored: what holds of the parts before it, and of it, holds of the parts as a loop has them after turn k
+pub part-more : (w k : ℕ) (x y : List ℕ) (P : ℕ → List ℕ → Type 0) → w * k + w ≤ length x → length y ≡ w → P k y → ((j : ℕ) → j < k → P j (part w j x))
+    → (j : ℕ) → j < k + 1 → P j (part w j (take (w * k) x ++ (y ++ drop (w * k + w - w * k) (drop (w * k) x))))
 unfolding part
-part-more w k x y f h l e p = below-more (λ (j : ℕ). part w j (take (w * k) x ++ (y ++ rest)) ≡ f j) k before (here ∙ e)
+part-more w k x y P h l e p = below-more (λ (j : ℕ). P j (part w j (take (w * k) x ++ (y ++ rest)))) k before (subst⁻¹ (P k) here e)
   where
     rest : List ℕ
     rest = drop (w * k + w - w * k) (drop (w * k) x)
@@ -118,11 +108,13 @@ part-more w k x y f h l e p = below-more (λ (j : ℕ). part w j (take (w * k) x
     front : length (take (w * k) x) ≡ w * k
     front = length-take-le (w * k) x (let z : w * k ≤ length x = omega arith in z)
 
-    before : (j : ℕ) → j < k → part w j (take (w * k) x ++ (y ++ rest)) ≡ f j
-    before j m =
+    same : (j : ℕ) → j < k → part w j (take (w * k) x ++ (y ++ rest)) ≡ part w j x
+    same j m =
         let z : w * j + w ≤ length (take (w * k) x) = omega (arith, front, within w j k m) in
-        part-front w j (take (w * k) x) (y ++ rest) z ∙ sym (part-front w j (take (w * k) x) (drop (w * k) x) z)
-        ∙ ap (part w j) (take-append-drop (w * k) x) ∙ p j m
+        part-front w j (take (w * k) x) (y ++ rest) z ∙ sym (part-front w j (take (w * k) x) (drop (w * k) x) z) ∙ ap (part w j) (take-append-drop (w * k) x)
+
+    before : (j : ℕ) → j < k → P j (part w j (take (w * k) x ++ (y ++ rest)))
+    before j m = subst⁻¹ (P j) (same j m) (p j m)
 
     here : part w k (take (w * k) x ++ (y ++ rest)) ≡ y
     here = rw (drop-at (take (w * k) x) (y ++ rest) (w * k) front) (take-at y rest w l)

@@ -1,4 +1,8 @@
 -- The grounds of a refusal: what holds of a call that has none, and what an answer tells of the ground.
+--   limits-in-order, limits-most, sizes-limits   L and S where the limits have no ground
+--   shape-in-order, in-order                     a call without a ground
+--   done-none, refused-some                      an answer tells its ground
+--   refused-first, done-next                     grounds tested one after the other
 use mathlib.Core.Path.{_≡_, refl, sym, _∙_}
 use mathlib.Core.Bool.{Bool, true, false, cond}
 use mathlib.Core.Option.{Option, none, some}
@@ -6,9 +10,10 @@ use Prim.Native.Nat.{ℕ, _*_, _≤_}
 use native.Mathlib.Omega.{arith}
 use lib.Dec.{eqb}
 use borrow.Author.Tests.{eqb-true}
+use Rattle.codes.specs.Layouts.{oneBit, bytesIn}
 use Rattle.page.specs.Shape.{oneTo64}
 use Rattle.page.specs.Refusals.{first-of, codeGround, bytesGround, stripsGround, pageGround, dataGround, limitsGround, sizesGround, shapeGround, ground}
-use Rattle.page.proofs.Fitting.{one-to-64}
+use Rattle.page.proofs.Strips.{one-to-64}
 use Rattle.page.specs.Answers.{completionOf}
 use Rattle.page.specs.declared.Refusal.{Refusal}
 use Rattle.page.specs.declared.Completion.{Completion}
@@ -36,12 +41,12 @@ pub limits-most : (L S : ℕ) → limitsGround L S ≡ none → (L ≤ 64) × (S
 limits-most L S e = let l = limits-in-order L S e in (one-to-64 L (l .0) .1, one-to-64 S (l .1) .1)
 
 -- L, S and the page's length where the shape is in order
-pub shape-in-order : (L S page : ℕ) → shapeGround L S page ≡ none → (oneTo64 L ≡ true) × (oneTo64 S ≡ true) × (page ≡ 6 * L * S)
+pub shape-in-order : (L S page : ℕ) → shapeGround L S page ≡ none → (oneTo64 L ≡ true) × (oneTo64 S ≡ true) × (page ≡ bytesIn oneBit L * S)
 unfolding shapeGround pageGround
 shape-in-order L S page e =
-    let p = neither (limitsGround L S) (pageGround L S page) e in
+    let p = neither (limitsGround L S) (pageGround oneBit L S page) e in
     let l = limits-in-order L S (p .0) in
-    (l .0, l .1, eqb-true page (6 * L * S) (no-ground (eqb page (6 * L * S)) _ (p .1)))
+    (l .0, l .1, eqb-true page (bytesIn oneBit L * S) (no-ground (eqb page (bytesIn oneBit L * S)) _ (p .1)))
 
 -- the limits are kept where the code and the limits have no ground
 pub sizes-limits : (code L S : ℕ) → sizesGround code L S ≡ none → limitsGround L S ≡ none
@@ -50,13 +55,13 @@ sizes-limits code L S e = neither (codeGround code) (limitsGround L S) e .1
 
 -- L, S and both lengths where a call has no ground
 pub in-order : (code L S page content : ℕ) → ground code L S page content ≡ none
-    → (oneTo64 L ≡ true) × (oneTo64 S ≡ true) × (page ≡ 6 * L * S) × (content ≡ L * S)
+    → (oneTo64 L ≡ true) × (oneTo64 S ≡ true) × (page ≡ bytesIn oneBit L * S) × (content ≡ L * S)
 unfolding ground pageGround dataGround
 in-order code L S page content e =
-    let p = neither (sizesGround code L S) (first-of (pageGround L S page) (dataGround L S content)) e in
-    let q = neither (pageGround L S page) (dataGround L S content) (p .1) in
+    let p = neither (sizesGround code L S) (first-of (pageGround oneBit L S page) (dataGround L S content)) e in
+    let q = neither (pageGround oneBit L S page) (dataGround L S content) (p .1) in
     let l = limits-in-order L S (sizes-limits code L S (p .0)) in
-    (l .0, l .1, eqb-true page (6 * L * S) (no-ground (eqb page (6 * L * S)) _ (q .0)), eqb-true content (L * S) (no-ground (eqb content (L * S)) _ (q .1)))
+    (l .0, l .1, eqb-true page (bytesIn oneBit L * S) (no-ground (eqb page (bytesIn oneBit L * S)) _ (q .0)), eqb-true content (L * S) (no-ground (eqb content (L * S)) _ (q .1)))
 
 -- an answer that is done has no ground
 pub done-none : (g : Option Refusal) → completionOf g ≡ Done → g ≡ none

@@ -1,4 +1,8 @@
 -- The census: one cell more in a row, and one row more in the rows.
+--   row-le, row-next              a row, cell by cell
+--   strip-row                     a strip's row is that of its cells of the page
+--   rows-none, rows-more          the rows, strip by strip
+--   census-refused, census-done   the census by the judge's answer
 use mathlib.Core.Path.{_≡_, refl, sym, _∙_, ap, ap₂}
 use mathlib.Core.Bool.{Bool, true, false, cond}
 use mathlib.Core.List.{List, _∷_}
@@ -13,8 +17,10 @@ use borrow.Author.Tests.{lt-ltb, le-ltb, ltb-true, ltb-false}
 use Rattle.cells.specs.Places.{listOf, sumOf}
 use Rattle.cells.specs.Levels.{level}
 use Rattle.cells.proofs.Places.{listOf-same, sumOf-same, sumOf-more, sumOf-le}
-use Rattle.page.specs.Shape.{strip}
-use Rattle.page.specs.Reading.{stripLevels}
+use Rattle.codes.specs.Layouts.{Layout, oneBit, cellsIn, bytesIn}
+use Rattle.demand.specs.Jobs.{part}
+use Rattle.demand.specs.Reading.{stripLevels}
+use Rattle.demand.proofs.Jobs.{part-level}
 use Rattle.page.specs.Refusals.{shapeGround}
 use Rattle.page.specs.Answers.{completionOf}
 use Rattle.page.specs.Counting.{countOf, rowOf, zeroRow, rowAt, rowsOf, censusOf}
@@ -22,8 +28,7 @@ use Rattle.page.specs.declared.Refusal.{Refusal}
 use Rattle.page.specs.declared.Completion.{Completion}
 use Rattle.page.specs.declared.Completion.the-variants.{Refused}
 use Rattle.page.specs.declared.Row.{Row}
-use Rattle.page.proofs.Judging.{refused-some}
-use Rattle.page.proofs.Parts.{strip-level}
+use Rattle.page.proofs.Refusals.{refused-some}
 
 -- A ROW. One cell more
 count-more : (n : ℕ) (v : ℕ → ℕ) (l : ℕ) → countOf (n + 1) v l ≡ countOf n v l + cond (eqb (v n) l) 1 0
@@ -59,12 +64,12 @@ module _ (n : ℕ) (v : ℕ → ℕ) where
   row-next (suc (suc (suc (suc l)))) e h = absurd (let z : ⊥ = omega arith in z)
 
 -- a strip's row is that of its cells of the page
-pub strip-row : (L k : ℕ) (page : List ℕ) → rowOf (16 * L) (level (strip L k page)) ≡ rowOf (16 * L) (stripLevels L page k)
+pub strip-row : (lay : Layout) (L k : ℕ) (page : List ℕ) → 3 * cellsIn lay L ≡ 8 * bytesIn lay L → rowOf (cellsIn lay L) (level (part (bytesIn lay L) k page)) ≡ rowOf (cellsIn lay L) (stripLevels (cellsIn lay L) page k)
 unfolding rowOf countOf stripLevels
-strip-row L k page = simp (count 0, count 1, count 2, count 3)
+strip-row lay L k page fill = simp (count 0, count 1, count 2, count 3)
   where
-    count : (l : ℕ) → sumOf (16 * L) (λ c. cond (eqb (level (strip L k page) c) l) 1 0) ≡ sumOf (16 * L) (λ c. cond (eqb (level page (16 * L * k + c)) l) 1 0)
-    count l = sumOf-same (16 * L) _ _ (λ c h. ap (λ (x : ℕ). cond (eqb x l) 1 0) (strip-level L k page c h))
+    count : (l : ℕ) → sumOf (cellsIn lay L) (λ c. cond (eqb (level (part (bytesIn lay L) k page) c) l) 1 0) ≡ sumOf (cellsIn lay L) (λ c. cond (eqb (level page (cellsIn lay L * k + c)) l) 1 0)
+    count l = sumOf-same (cellsIn lay L) _ _ (λ c h. ap (λ (x : ℕ). cond (eqb x l) 1 0) (part-level (cellsIn lay L) (bytesIn lay L) fill k page c h))
 
 -- THE ROWS. A list with place k stored
 set-listOf : {A : Type 0} (n k : ℕ) (f g : ℕ → A) (x : A) → k < n → x ≡ g k → ((i : ℕ) → (i ≡ k → ⊥) → f i ≡ g i) → set (listOf n f) k x ≡ listOf n g
@@ -83,18 +88,18 @@ same-test i k d = go (ltb i k) refl
     go false e = e ∙ sym (le-ltb i (k + 1) (omega (arith, lt-of-le-of-ne {n = k} {m = i} (ltb-false i k e) (λ (q : k ≡ i). d (sym q)))))
 
 -- no strip yet: all zeros
-pub rows-none : (L : ℕ) (page : List ℕ) → listOf 64 (λ k. zeroRow) ≡ listOf 64 (rowAt L 0 page)
+pub rows-none : (lay : Layout) (L : ℕ) (page : List ℕ) → listOf 64 (λ k. zeroRow) ≡ listOf 64 (rowAt lay L 0 page)
 unfolding rowAt
-rows-none L page = listOf-same 64 _ _ (λ i h. rw (le-ltb i 0 (omega arith)))
+rows-none lay L page = listOf-same 64 _ _ (λ i h. rw (le-ltb i 0 (omega arith)))
 
 -- row k stored: the rows of k + 1 strips
-pub rows-more : (L k : ℕ) (page : List ℕ) (r : Row) → k < 64 → r ≡ rowOf (16 * L) (stripLevels L page k)
-    → set (listOf 64 (rowAt L k page)) k r ≡ listOf 64 (rowAt L (k + 1) page)
+pub rows-more : (lay : Layout) (L k : ℕ) (page : List ℕ) (r : Row) → k < 64 → r ≡ rowOf (cellsIn lay L) (stripLevels (cellsIn lay L) page k)
+    → set (listOf 64 (rowAt lay L k page)) k r ≡ listOf 64 (rowAt lay L (k + 1) page)
 unfolding rowAt
-rows-more L k page r h e =
+rows-more lay L k page r h e =
     set-listOf 64 k _ _ r h
     (e ∙ rw (lt-ltb k (k + 1) (omega arith)))
-    (λ i d. ap (λ (b : Bool). cond b (rowOf (16 * L) (stripLevels L page i)) zeroRow) (same-test i k d))
+    (λ i d. ap (λ (b : Bool). cond b (rowOf (cellsIn lay L) (stripLevels (cellsIn lay L) page i)) zeroRow) (same-test i k d))
 
 -- THE CENSUS. The judge's answer c beside the rows
 module _ (L S : ℕ) (page : List ℕ) (c : Completion) (e : c ≡ completionOf (shapeGround L S (length page))) where
@@ -104,6 +109,6 @@ module _ (L S : ℕ) (page : List ℕ) (c : Completion) (e : c ≡ completionOf 
   census-refused f = rw (refused-some (shapeGround L S (length page)) (sym e ∙ f)) (ap (λ (x : Completion). record { answer = x; rows = listOf 64 (λ k. zeroRow) }) f)
 
   -- with none
-  pub census-done : (rows : List Row) → shapeGround L S (length page) ≡ none → rows ≡ listOf 64 (rowAt L S page) → record { answer = c; rows = rows } ≡ censusOf L S page
+  pub census-done : (rows : List Row) → shapeGround L S (length page) ≡ none → rows ≡ listOf 64 (rowAt oneBit L S page) → record { answer = c; rows = rows } ≡ censusOf L S page
   unfolding censusOf rowsOf
   census-done rows f g = rw f (ap₂ (λ (x : Completion) (y : List Row). record { answer = x; rows = y }) (e ∙ ap completionOf f) g)

@@ -1,0 +1,168 @@
+-- THE TABLE HOLDS: one test that the checker computes over all its rows, through tables of states, and the law that turns the test into what each row says.
+--   answer-tabled, page-tabled   the evaluated definitions are those of the calls
+--   passes                       the test of a row
+--   cases-hold                   THE THEOREM
+use mathlib.Core.Path.{_≡_, refl, sym, _∙_, ap, ap₂, subst₂, fun-ext}
+use mathlib.Core.Bool.{Bool, true, false, _&&_, false≢true}
+use mathlib.Core.List.{List, [], _∷_, map}
+use mathlib.Core.Option.{Option}
+use Prim.Native.Nat.{ℕ, _*_}
+use native.Mathlib.Omega.{arith}
+use lib.Dec.{eqb}
+use lib.ListN.{length}
+use borrow.Author.Tests.{eqb-true}
+use Rattle.cells.specs.Places.{listOf, sumOf, number, Each, no-more, and-each}
+use Rattle.cells.specs.Bytes.{bitOf, bytesOf}
+use Rattle.cells.specs.Levels.{level}
+use Rattle.cells.specs.Raising.{startOf, startIn, zeroFrom, raise, raisedTimes, triple, raisedTo}
+use Rattle.cells.specs.Climbs.{house, weightOf}
+use Rattle.codes.specs.Generators.{digit}
+use Rattle.codes.specs.Layouts.{oneBit, stagesIn, cellsIn, bytesIn}
+use Rattle.codes.specs.Reading.{ago, sumBit, codeBit, dataBit}
+use Rattle.codes.specs.Sequences.{odd}
+use Rattle.codes.specs.Registers.{dot, push, register, quotient}
+use Rattle.codes.specs.Encoders.{encoderOf}
+use Rattle.search.specs.Best.{Solution}
+use Rattle.search.specs.Strip.{stepsOf, cellsOf}
+use Rattle.search.specs.Trellis.{before, lexltb, beats, better, joined, all, first-none}
+use Rattle.search.specs.Search.{labels, sums, wanted, branch, next, stages}
+use Rattle.search.specs.Parity.{keep-or-raise, parity-choice}
+use Rattle.search.specs.Levels.{levelAt}
+use Rattle.search.specs.Layouts.{unmarked, dataBits, stripCells, rewriteOf}
+use Rattle.search.specs.Table.{grow, look, step, table, write-table}
+use Rattle.search.proofs.Parity.{house-dear}
+use Rattle.search.proofs.Table.{write-by-table}
+use Rattle.search.proofs.Layouts.{oneBit-write}
+use Rattle.demand.specs.Jobs.{part}
+use Rattle.demand.specs.Reading.{stripLevels, readBy}
+use Rattle.demand.specs.Computed.{stripBytes, stripWrite, pageWrite, spentStrip}
+use Rattle.page.specs.Shape.{oneTo64}
+use Rattle.page.specs.Reading.{readPage}
+use Rattle.page.specs.Refusals.{codeGround, bytesGround, stripsGround, limitsGround, sizesGround, pageGround, dataGround, shapeGround, ground, numbered}
+use Rattle.page.specs.Answers.{callAnswer, callPage, answerIn, pageIn, jobOf, answerOf, pageOf}
+use Rattle.page.specs.Known.{Case, Expected, reads, done, spent, Expects, Says, cases}
+use Rattle.page.specs.declared.Answer.{Answer}
+use Rattle.page.specs.declared.Answer.the-variants as A
+use Rattle.page.proofs.Promise.{numbered-sound}
+
+module _ (code L S : ℕ) (page content : List ℕ) where
+  -- the writes of the strips by tables of states
+  unfoldable pub stripTabled : ℕ → Option Solution
+  stripTabled k =
+      write-table (encoderOf (numbered code)) (dataBits oneBit (part L k content)) (parity-choice (stepsOf house)) 2 (stagesIn oneBit L)
+      (stripCells oneBit L (part (bytesIn oneBit L) k page) unmarked)
+
+  -- they are the strips' writes
+  strip-tabled : stripWrite (jobOf house code L S page content) ≡ stripTabled
+  unfolding stripWrite stripBytes stripTabled encoderOf
+  strip-tabled = fun-ext λ k.
+      sym (write-by-table (encoderOf (numbered code)) (dataBits oneBit (part L k content)) (parity-choice (stepsOf house)) 2 (stagesIn oneBit L) _
+      ∙ oneBit-write (numbered code .memory) (numbered code) (numbered-sound code) (omega arith) house house-dear L (part (bytesIn oneBit L) k page) unmarked (part L k content))
+
+  -- a call of write, evaluated
+  unfoldable pub answerTabled : Answer
+  answerTabled =
+      callAnswer (ground code L S (length page) (length content)) (all stripTabled (listOf S (λ k. k))) (first-none stripTabled (listOf S (λ k. k)))
+
+  unfoldable pub pageTabled : List ℕ
+  pageTabled =
+      callPage (ground code L S (length page) (length content)) (all stripTabled (listOf S (λ k. k)))
+      (λ a. raisedTo (startIn (cellsIn oneBit L)) page (levelAt (a .levels))) page
+
+  -- THE EVALUATED DEFINITION IS THE ONE OF DEMAND 3: the answer
+  pub answer-tabled : answerOf house code L S page content ≡ answerTabled
+  unfolding answerOf answerIn answerTabled pageWrite spentStrip
+  answer-tabled =
+      ap (λ (w : ℕ → Option Solution). callAnswer (ground code L S (length page) (length content)) (all w (listOf S (λ k. k))) (first-none w (listOf S (λ k. k)))) strip-tabled
+
+  -- and the page
+  pub page-tabled : pageOf house code L S page content ≡ pageTabled
+  unfolding pageOf pageIn pageTabled pageWrite
+  page-tabled =
+      ap (λ (w : ℕ → Option Solution). callPage (ground code L S (length page) (length content)) (all w (listOf S (λ k. k)))
+      (λ a. raisedTo (startIn (cellsIn oneBit L)) page (levelAt (a .levels))) page) strip-tabled
+
+-- TESTS. Whether two lists of bytes are the same
+sameBytes : List ℕ → List ℕ → Bool
+sameBytes [] [] = true
+sameBytes [] (b ∷ y) = false
+sameBytes (a ∷ x) [] = false
+sameBytes (a ∷ x) (b ∷ y) = eqb a b && sameBytes x y
+
+-- two tests that hold together
+each-true : (a b : Bool) → (a && b) ≡ true → (a ≡ true) × (b ≡ true)
+each-true true b e = (refl, e)
+each-true false b e = absurd (false≢true e)
+
+same-bytes : (x y : List ℕ) → sameBytes x y ≡ true → x ≡ y
+unfolding sameBytes
+same-bytes [] [] e = refl
+same-bytes [] (b ∷ y) e = absurd (false≢true e)
+same-bytes (a ∷ x) [] e = absurd (false≢true e)
+same-bytes (a ∷ x) (b ∷ y) e =
+    let p = each-true (eqb a b) (sameBytes x y) e in
+    ap₂ (λ (c : ℕ) (l : List ℕ). c ∷ l) (eqb-true a b (p .0)) (same-bytes x y (p .1))
+
+-- whether an answer is done with this cost, or spent with this strip
+isDone : Answer → ℕ → Bool
+isDone (A.Done c) cost = eqb c cost
+isDone (A.Spent k) cost = false
+isDone (A.Refused r) cost = false
+
+isSpent : Answer → ℕ → Bool
+isSpent (A.Done c) k = false
+isSpent (A.Spent j) k = eqb j k
+isSpent (A.Refused r) k = false
+
+is-done : (a : Answer) (cost : ℕ) → isDone a cost ≡ true → a ≡ A.Done cost
+unfolding isDone
+is-done (A.Done c) cost e = ap A.Done (eqb-true c cost e)
+is-done (A.Spent k) cost e = absurd (false≢true e)
+is-done (A.Refused r) cost e = absurd (false≢true e)
+
+is-spent : (a : Answer) (k : ℕ) → isSpent a k ≡ true → a ≡ A.Spent k
+unfolding isSpent
+is-spent (A.Done c) k e = absurd (false≢true e)
+is-spent (A.Spent j) k e = ap A.Spent (eqb-true j k e)
+is-spent (A.Refused r) k e = absurd (false≢true e)
+
+-- THE TEST of a row
+passes : Case → Expected → Bool
+passes c reads = sameBytes (readPage (numbered (c .code)) (c .L) (c .S) (c .page)) (c .content)
+passes c (done cost after) =
+    isDone (answerTabled (c .code) (c .L) (c .S) (c .page) (c .content)) cost && sameBytes (pageTabled (c .code) (c .L) (c .S) (c .page) (c .content)) after
+passes c (spent k) =
+    isSpent (answerTabled (c .code) (c .L) (c .S) (c .page) (c .content)) k && sameBytes (pageTabled (c .code) (c .L) (c .S) (c .page) (c .content)) (c .page)
+
+-- a row that passes says what it says
+says : (c : Case) (x : Expected) → passes c x ≡ true → Expects answerTabled pageTabled c x
+unfolding passes
+says c reads e = same-bytes _ _ e
+says c (done cost after) e = let p = each-true _ _ e in (is-done _ cost (p .0), same-bytes _ _ (p .1))
+says c (spent k) e = let p = each-true _ _ e in (is-spent _ k (p .0), same-bytes _ _ (p .1))
+
+-- of all rows
+allPass : List Case → Bool
+allPass [] = true
+allPass (c ∷ cs) = passes c (c .expected) && allPass cs
+
+all-say : (cs : List Case) → allPass cs ≡ true → Each (Says answerTabled pageTabled) cs
+unfolding allPass
+all-say [] e = no-more
+all-say (c ∷ cs) e = let p = each-true _ _ e in and-each (says c (c .expected) (p .0)) (all-say cs (p .1))
+
+-- THE TABLE PASSES, computed
+table-passes : allPass cases ≡ true
+unfolding allPass passes isDone isSpent sameBytes answerTabled pageTabled stripTabled write-table table step look grow stages labels quotient register push dot branch next wanted sums joined better beats before lexltb parity-choice keep-or-raise odd weightOf cellsOf encoderOf digit listOf bitOf level dataBits stripCells stagesIn cellsIn bytesIn part all first-none numbered ground codeGround limitsGround sizesGround bytesGround stripsGround pageGround dataGround oneTo64 startIn startOf raisedTo bytesOf number raisedTimes raise zeroFrom triple levelAt readPage readBy stripLevels dataBit sumBit codeBit sumOf ago
+table-passes = refl
+
+-- THE THEOREM: the table holds of the answer and the page of a write with the house's weights
+pub cases-hold : Each (Says (answerOf house) (pageOf house)) cases
+cases-hold =
+    subst₂ (λ (a : ℕ → ℕ → ℕ → List ℕ → List ℕ → Answer) (p : ℕ → ℕ → ℕ → List ℕ → List ℕ → List ℕ). Each (Says a p) cases) (sym answers) (sym pages) (all-say cases table-passes)
+  where
+    answers : answerOf house ≡ answerTabled
+    answers = fun-ext λ code. fun-ext λ L. fun-ext λ S. fun-ext λ page. fun-ext λ content. answer-tabled code L S page content
+
+    pages : pageOf house ≡ pageTabled
+    pages = fun-ext λ code. fun-ext λ L. fun-ext λ S. fun-ext λ page. fun-ext λ content. page-tabled code L S page content

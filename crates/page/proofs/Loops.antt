@@ -1,0 +1,302 @@
+-- One turn of the loops over a page's strips: what is lent, the strip's outcome, and what the total, the digits and the page are after it. Then what the
+-- whole write and its calls make of that.
+--   turn-shaped, turn-outcome       what a turn lends is in order, and its outcome is that of the strip's write
+--   PlannedTo, planned-more         the plans of the strips before k
+--   Reached, reached-more, ..       the total after k strips
+--   CarriedUpTo, carried-more       the page with the digits of the strips before k carried out
+--   done-page, spent-page           the page that a write leaves
+--   Judged, in-order-answer, ..     the calls
+use mathlib.Core.Path.{_≡_, refl, sym, _∙_, ap}
+use mathlib.Core.Bool.{true}
+use mathlib.Core.List.{List, _++_}
+use mathlib.Core.Option.{Option, none, some}
+use Prim.Native.Nat.{ℕ, suc, _+_, _*_, _-_, _<_, _≤_}
+use native.Mathlib.Omega.{arith}
+use native.Mathlib.Nat.{not-suc-le-zero, add-sub-cancel-left, sub-zero, mul-le-mul}
+use lib.ListN.{length, getD, take, drop, length-append}
+use lib.Seq.{drop-drop, take-at, drop-at, length-take-le}
+use Rattle.cells.specs.Bytes.{bitOf, Octets}
+use Rattle.cells.specs.Climbs.{house}
+use Rattle.cells.specs.Raising.{startOf, startIn, raisedTo}
+use Rattle.cells.proofs.Raising.{raisedTo-length}
+use Rattle.cells.proofs.Parts.{within}
+use Rattle.codes.specs.Generators.{Generators}
+use Rattle.codes.specs.Layouts.{oneBit, cellsIn, bytesIn}
+use Rattle.search.specs.Best.{Solution}
+use Rattle.search.specs.Strip.{Dear, stepsOf}
+use Rattle.search.specs.Levels.{levelAt}
+use Rattle.trellis.specs.Backward.{wordsOf, Shaped}
+use Rattle.trellis.specs.Forward.{carriedTo}
+use Rattle.trellis.specs.Outcomes.{solutionOutcome}
+use Rattle.trellis.specs.Plans.{writeOf, Plans}
+use Rattle.trellis.specs.declared.Outcome.{Outcome}
+use Rattle.trellis.proofs.Prices.{Suits}
+use Rattle.demand.specs.Jobs.{part, Job}
+use Rattle.demand.specs.Computed.{stripWrite, pageWrite, spentStrip}
+use Rattle.demand.proofs.Jobs.{part-length}
+use Rattle.page.specs.Shape.{stripOf, Sized}
+use Rattle.page.specs.Totals.{noTotal, added, totalFrom, answerFor}
+use Rattle.page.specs.Refusals.{ground, numbered}
+use Rattle.page.specs.Answers.{completionOf, callAnswer, callPage, plainJob, answerIn, pageIn, answerOf, pageOf}
+use Rattle.page.specs.Promise.{Wrote}
+use Rattle.page.specs.Plans.{stripAt, Planned, Carried}
+use Rattle.page.specs.declared.Refusal.{Refusal}
+use Rattle.page.specs.declared.Total.{Total}
+use Rattle.page.specs.declared.Answer.{Answer}
+use Rattle.page.specs.declared.Answer.the-variants as A
+use Rattle.page.specs.declared.Completion.{Completion}
+use Rattle.page.specs.declared.Completion.the-variants as C
+use Rattle.page.proofs.Strips.{one-to-64, strip-there, part-more, lent-length, stored-length}
+use Rattle.page.proofs.Totals.{page-answers, total-spent, total-same}
+use Rattle.page.proofs.Plans.{write-same, strip-below, carried-page}
+use Rattle.page.proofs.Refusals.{in-order, done-none, refused-some}
+use Rattle.page.proofs.Promise.{wrote}
+
+-- LENT PARTS. The part that a turn lends
+lent : (L k : ℕ) (x : List ℕ) → take (L * k + L - L * k) (drop (L * k) x) ≡ part L k x
+unfolding part
+lent L k x = ap (λ (n : ℕ). take n (drop (L * k) x)) (add-sub-cancel-left (L * k) L)
+
+-- in a turn the strip ends within the page
+pub strip-fits : {L S : ℕ} {page content : List ℕ} → Sized oneBit L S page content → {k : ℕ} → k < S → bytesIn oneBit L * k + bytesIn oneBit L ≤ length page
+strip-fits {L} {S} Z {k} h = omega (arith, Z .page-is, within (bytesIn oneBit L) k S h)
+
+-- and its part within the data
+pub part-fits : {L S : ℕ} {page content : List ℕ} → Sized oneBit L S page content → {k : ℕ} → k < S → L * k + L ≤ length content
+part-fits {L} {S} Z {k} h = omega (arith, Z .data-is, within L k S h)
+
+-- THE PLANS of the strips before k
+pub record PlannedTo (G : Generators) (W : List ℕ) (L S : ℕ) (page content digits : List ℕ) (k : ℕ) : Type 0 where
+  pub size : length digits ≡ L * S
+  pub so-far : (j : ℕ) → j < k → Plans G W (stripAt L j page) (part L j content) (part L j digits)
+
+-- at first
+pub planned-none : {G : Generators} {W : List ℕ} {L S : ℕ} {page content digits : List ℕ} → length digits ≡ L * S → PlannedTo G W L S page content digits 0
+planned-none e = record { size = e; so-far = λ j h. absurd (not-suc-le-zero h) }
+
+-- TURN k, with the strip x that `strip` gave
+module _ {L S : ℕ} {page content : List ℕ} (Z : Sized oneBit L S page content) {k : ℕ} (h : k < S) {x : List ℕ} (is : x ≡ stripOf L k page) where
+  -- it is strip k
+  strip-is : x ≡ stripAt L k page
+  strip-is = is ∙ strip-there L S k page (Z .bytes-in) (Z .page-is) h
+
+  -- its part of the data has L bytes
+  data-length : length (take (L * k + L - L * k) (drop (L * k) content)) ≡ L
+  data-length = lent-length L k content (part-fits Z h)
+
+  -- the strip and the part are in order
+  pub turn-shaped : {G : Generators} {W words : List ℕ} → words ≡ wordsOf G → Dear (stepsOf W) → Shaped G W words x (take (L * k + L - L * k) (drop (L * k) content))
+  turn-shaped w D = record {
+    words-are = w;
+    size = ap length strip-is ∙ part-length (bytesIn oneBit L) S k page (Z .page-is) h ∙ ap (bytesIn oneBit) (sym data-length);
+    most = omega (arith, data-length, one-to-64 L (Z .bytes-in));
+    dear = D;
+  }
+
+  -- its outcome is that of the strip's write
+  pub turn-outcome : {G : Generators} {W : List ℕ} {o : Outcome} → Suits G W → Dear (stepsOf W)
+      → o ≡ solutionOutcome (writeOf G W x (take (L * k + L - L * k) (drop (L * k) content))) → o ≡ solutionOutcome (stripWrite (plainJob G W L S page content) k)
+  turn-outcome {G} {W} K D e =
+      (rw (lent L k content, strip-is) at e)
+      ∙ ap solutionOutcome (write-same G W K D L S (one-to-64 L (Z .bytes-in) .1) page content k (ap length (sym (lent L k content)) ∙ data-length))
+
+  -- with its digits the strips before it and it are planned
+  pub planned-more : {G : Generators} {W digits ys : List ℕ} → PlannedTo G W L S page content digits k
+      → (length ys ≡ length (take (L * k + L - L * k) (drop (L * k) content))) × Plans G W x (take (L * k + L - L * k) (drop (L * k) content)) ys
+      → PlannedTo G W L S page content (take (L * k) digits ++ (ys ++ drop (L * k + L - L * k) (drop (L * k) digits))) (k + 1)
+  planned-more {G} {W} {digits} {ys} p e =
+      let fits : L * k + L ≤ length digits = omega (arith, p .size, within L k S h) in
+      let long : length ys ≡ L = e .0 ∙ data-length in
+      let own : Plans G W (stripAt L k page) (part L k content) ys = rw (lent L k content, strip-is) at (e .1) in
+      record { size = stored-length L k digits ys fits long ∙ p .size; so-far = part-more L k digits ys (λ j. Plans G W (stripAt L j page) (part L j content)) fits long own (p .so-far) }
+
+-- THE TOTAL after k strips: with the outcomes of the others it comes to the page's answer
+pub record Reached (J : Job) (total : Total) (k : ℕ) : Type 0 where
+  pub comes-to : answerFor (totalFrom total (λ i. solutionOutcome (stripWrite J (k + i))) (J .strips - k)) ≡ answerIn none J
+
+-- at first
+pub reached-none : {G : Generators} {W : List ℕ} {L S : ℕ} {page content : List ℕ} → Suits G W → Dear (stepsOf W) → Sized oneBit L S page content → {t : Total}
+    → t ≡ noTotal → Reached (plainJob G W L S page content) t 0
+unfolding answerIn
+reached-none {G} {W} {L} {S} {page} {content} K D Z e =
+    let J : Job = plainJob G W L S page content in
+    record {
+      comes-to = rw (e, sub-zero S) (ap answerFor (total-same noTotal _ (λ i. solutionOutcome (stripWrite J i)) S (λ i h. ap (λ (j : ℕ). solutionOutcome (stripWrite J j)) (omega arith)))
+          ∙ page-answers J (one-to-64 S (Z .strips-in) .1) (λ k h a. strip-below G W K D L S (one-to-64 L (Z .bytes-in) .1) page content k a));
+    }
+
+module _ {J : Job} where
+  -- with one more strip
+  pub reached-more : {t u : Total} {k : ℕ} {o : Outcome} → Reached J t k → k < J .strips → o ≡ solutionOutcome (stripWrite J k) → u ≡ added t o → Reached J u (k + 1)
+  unfolding totalFrom
+  reached-more {t} {u} {k} {o} r h e f =
+      let s : J .strips - k ≡ suc (J .strips - (k + 1)) = omega arith in
+      let e₀ : o ≡ solutionOutcome (stripWrite J (k + 0)) = e ∙ ap (λ (j : ℕ). solutionOutcome (stripWrite J j)) (omega arith) in
+      record {
+        comes-to = ap answerFor (total-same u _ (λ i. solutionOutcome (stripWrite J (k + suc i))) (J .strips - (k + 1)) (λ i l. ap (λ (j : ℕ). solutionOutcome (stripWrite J j)) (omega arith)))
+            ∙ rw (f, e₀) (rw s at (r .comes-to));
+      }
+
+  -- a total that is spent answers
+  pub reached-spent : {t : Total} {k : ℕ} {r : Answer} → Reached J t k → t .spent ≡ true → r ≡ answerFor t → r ≡ answerIn none J
+  reached-spent {t} {k} g e f = f ∙ sym (ap answerFor (total-spent t _ (J .strips - k) e)) ∙ g .comes-to
+
+  -- and the page has no write
+  pub spent-none : {t : Total} {k : ℕ} → Reached J t k → t .spent ≡ true → (a : Solution) → pageWrite J ≡ some a → ⊥
+  unfolding answerIn
+  spent-none {t} g e a f =
+      let s : A.Spent (t .strips) ≡ callAnswer none (some a) (spentStrip J) = rw (e, f) at (reached-spent g e refl) in
+      let z : _≡_ {A = ℕ} 0 1 = cc in omega arith
+
+  -- after all strips it answers
+  pub reached-all : {t : Total} {k : ℕ} {r : Answer} → Reached J t k → J .strips ≤ k → r ≡ answerFor t → r ≡ answerIn none J
+  unfolding totalFrom
+  reached-all {k = k} g h f = let z : J .strips - k ≡ 0 = omega arith in f ∙ (rw z at (g .comes-to))
+
+-- THE PAGE with the digits of the strips before k carried out
+pub record CarriedUpTo (G : Generators) (L S : ℕ) (before content digits page : List ℕ) (k : ℕ) : Type 0 where
+  pub size : length page ≡ length before
+  pub so-far : (j : ℕ) → j < k
+      → stripAt L j page ≡ raisedTo startOf (stripAt L j before) (carriedTo G (stripAt L j before) (part L j content) (bitOf (part L j digits)))
+  pub rest : drop (bytesIn oneBit L * k) page ≡ drop (bytesIn oneBit L * k) before
+
+-- what is left of a list after part k is stored is what was left of the list before
+rest-more : (w k : ℕ) (x y before : List ℕ) → w * k + w ≤ length x → length y ≡ w → drop (w * k) x ≡ drop (w * k) before
+    → drop (w * (k + 1)) (take (w * k) x ++ (y ++ drop (w * k + w - w * k) (drop (w * k) x))) ≡ drop (w * (k + 1)) before
+rest-more w k x y before h l e =
+    let n : w * (k + 1) ≡ w * k + w = omega arith in
+    let m : w * k + w - w * k ≡ w = omega arith in
+    rw (n, m, ← drop-drop w (w * k) (take (w * k) x ++ (y ++ drop w (drop (w * k) x))),
+    drop-at (take (w * k) x) (y ++ drop w (drop (w * k) x)) (w * k) (length-take-le (w * k) x (omega arith)), drop-at y (drop w (drop (w * k) x)) w l, e)
+    (drop-drop w (w * k) before)
+
+-- at first
+pub carried-none : {G : Generators} {L S : ℕ} {before content digits : List ℕ} → CarriedUpTo G L S before content digits before 0
+carried-none = record { size = refl; so-far = λ j h. absurd (not-suc-le-zero h); rest = refl }
+
+-- with one more strip, where b is the bytes of a strip
+pub carried-more : {G : Generators} {L S b : ℕ} {before content digits page ys : List ℕ} {k : ℕ} → CarriedUpTo G L S before content digits page k
+    → b ≡ bytesIn oneBit L → length before ≡ bytesIn oneBit L * S → k < S
+    → ys ≡ raisedTo startOf (take (b * k + b - b * k) (drop (b * k) page))
+    (carriedTo G (take (b * k + b - b * k) (drop (b * k) page)) (take (L * k + L - L * k) (drop (L * k) content)) (bitOf (take (L * k + L - L * k) (drop (L * k) digits))))
+    → CarriedUpTo G L S before content digits (take (b * k) page ++ (ys ++ drop (b * k + b - b * k) (drop (b * k) page))) (k + 1)
+unfolding part
+carried-more {G} {L} {S} {b} {before} {content} {digits} {page} {ys} {k} p q z h e = rw q (go (rw q at e))
+  where
+    n : ℕ
+    n = bytesIn oneBit L
+
+    go : ys ≡ raisedTo startOf (take (n * k + n - n * k) (drop (n * k) page))
+        (carriedTo G (take (n * k + n - n * k) (drop (n * k) page)) (take (L * k + L - L * k) (drop (L * k) content)) (bitOf (take (L * k + L - L * k) (drop (L * k) digits))))
+        → CarriedUpTo G L S before content digits (take (n * k) page ++ (ys ++ drop (n * k + n - n * k) (drop (n * k) page))) (k + 1)
+    go e =
+        let own = rw (lent n k page, lent L k content, lent L k digits, p .rest) at e in
+        let own-length : length ys ≡ n = ap length own ∙ raisedTo-length startOf _ _ ∙ part-length n S k before z h in
+        let fits : n * k + n ≤ length page = omega (arith, p .size, within n k S h) in
+        record {
+          size = stored-length n k page ys fits own-length ∙ p .size;
+          so-far = part-more n k page ys (λ j y. y ≡ raisedTo startOf (stripAt L j before) (carriedTo G (stripAt L j before) (part L j content) (bitOf (part L j digits))))
+              fits own-length own (p .so-far);
+          rest = rest-more n k page ys before fits own-length (p .rest);
+        }
+
+-- THE DIGITS of all strips are at most 4,096 bytes
+pub whole-most : {L S : ℕ} {page content : List ℕ} → Sized oneBit L S page content → L * S ≤ 4096
+whole-most {L} {S} Z = mul-le-mul {n₁ = L} {m₁ = S} {n₂ = 64} {m₂ = 64} (one-to-64 L (Z .bytes-in) .1) (one-to-64 S (Z .strips-in) .1)
+
+-- the first n places of a list
+pub front-length : (n : ℕ) (x : List ℕ) → n ≤ length x → length (take (n - 0) x) ≡ n
+front-length n x h = rw (sub-zero n) (length-take-le n x h)
+
+-- lie within it where they were stored there
+pub front-fits : (n : ℕ) (y rest : List ℕ) → length y ≡ n → n ≤ length (y ++ rest)
+front-fits n y rest e = omega (arith, length-append y rest)
+
+-- and hold what was
+pub front-back : (n : ℕ) (y rest : List ℕ) → length y ≡ n → take (n - 0) (y ++ rest) ≡ y
+front-back n y rest e = rw (sub-zero n) (take-at y rest n e)
+
+-- THE PAGE that a write leaves, by the plans' answer
+module _ {G : Generators} {W : List ℕ} (K : Suits G W) (D : Dear (stepsOf W)) {L S : ℕ} {before content : List ℕ} (Z : Sized oneBit L S before content)
+    {r : Answer} (e : r ≡ answerIn none (plainJob G W L S before content)) where
+  -- the job
+  abbrev J : Job
+  J = plainJob G W L S before content
+
+  -- the page raised to the levels of a write
+  abbrev raised : Solution → List ℕ
+  raised a = raisedTo (startIn (cellsIn oneBit L)) before (levelAt (a .levels))
+
+  -- where it is done, each strip is carried out as it was planned
+  pub done-page : {digits after : List ℕ} {cost : ℕ} → r ≡ A.Done cost → Planned G W L S before content digits → Carried G L S before content digits after
+      → after ≡ pageIn none (plainJob G W L S before content)
+  unfolding pageIn answerIn
+  done-page {digits} {after} {cost} f p c = go (pageWrite J) refl
+    where
+      go : (w : Option Solution) → pageWrite J ≡ w → after ≡ callPage none w raised before
+      go (some a) q = carried-page G W K D L S (one-to-64 L (Z .bytes-in) .1) before content (Z .page-is) (Z .data-is) digits after a q p c
+      go none q = absurd (let z : _≡_ {A = ℕ} 0 1 = cc in omega arith)
+
+  -- where it is spent, nothing is changed
+  pub spent-page : {n : ℕ} → r ≡ A.Spent n → before ≡ pageIn none (plainJob G W L S before content)
+  unfolding pageIn answerIn
+  spent-page {n} f = go (pageWrite J) e
+    where
+      go : (w : Option Solution) → r ≡ callAnswer none w (spentStrip J) → before ≡ callPage none w raised before
+      go none h = refl
+      go (some a) h = absurd (let z : _≡_ {A = ℕ} 0 1 = cc in omega arith)
+
+  -- and it is not refused
+  pub not-refused : {q : Refusal} → r ≡ A.Refused q → ⊥
+  unfolding answerIn
+  not-refused {q} f = go (pageWrite J) e
+    where
+      go : (w : Option Solution) → r ≡ callAnswer none w (spentStrip J) → ⊥
+      go none h = let z : _≡_ {A = ℕ} 0 1 = cc in omega arith
+      go (some a) h = let z : _≡_ {A = ℕ} 0 1 = cc in omega arith
+
+-- THE CALLS. What `judge` answered
+pub record Judged (code L S : ℕ) (before content : List ℕ) (j : Completion) : Type 0 where
+  pub by : j ≡ completionOf (ground code L S (length before) (length content))
+
+module _ {code L S : ℕ} {before content : List ℕ} {j : Completion} (J : Judged code L S before content j) where
+  -- where it is done there is no ground
+  no-ground : j ≡ C.Done → ground code L S (length before) (length content) ≡ none
+  no-ground e = done-none _ (sym (J .by) ∙ e)
+
+  -- so the call is in order
+  pub sized-by : j ≡ C.Done → Sized oneBit L S before content
+  sized-by e =
+      let i = in-order code L S (length before) (length content) (no-ground e) in
+      record { bytes-in = i .0; strips-in = i .1; page-is = i .2; data-is = i .3 }
+
+  -- answers as its strips do
+  pub in-order-answer : j ≡ C.Done → {G : Generators} {W : List ℕ} {r : Answer} → G ≡ numbered code → W ≡ house
+      → r ≡ answerIn none (plainJob G W L S before content) → r ≡ answerOf house code L S before content
+  unfolding answerOf
+  in-order-answer e g w f = rw (no-ground e, ← g, ← w) f
+
+  -- and leaves the page that they do
+  pub in-order-page : j ≡ C.Done → {G : Generators} {W after : List ℕ} → G ≡ numbered code → W ≡ house
+      → after ≡ pageIn none (plainJob G W L S before content) → after ≡ pageOf house code L S before content
+  unfolding pageOf
+  in-order-page e g w f = rw (no-ground e, ← g, ← w) f
+
+  -- where it is refused, that is the ground
+  the-ground : {q : Refusal} → j ≡ C.Refused q → ground code L S (length before) (length content) ≡ some q
+  the-ground e = refused-some _ (sym (J .by) ∙ e)
+
+  -- and the answer
+  pub refused-answer : {q : Refusal} → j ≡ C.Refused q → A.Refused q ≡ answerOf house code L S before content
+  unfolding answerOf answerIn
+  refused-answer e = rw (the-ground e)
+
+  -- and nothing is changed
+  pub refused-page : {q : Refusal} → j ≡ C.Refused q → before ≡ pageOf house code L S before content
+  unfolding pageOf pageIn
+  refused-page e = rw (the-ground e)
+
+-- such an answer and such a page keep the promise
+pub kept-by : (code L S : ℕ) (before content : List ℕ) {after : List ℕ} {r : Answer} → Octets content → after ≡ pageOf house code L S before content
+    → r ≡ answerOf house code L S before content → Wrote house code L S before content after r
+kept-by code L S before content b p e = rw (p, e) (wrote house code L S before content b)

@@ -1,0 +1,103 @@
+-- THE PROMISE IS KEPT by the computed write, on every input.
+--   promise-kept                    of any job that is in order where it has no ground
+--   numbered-sound, oneBit-whole    both codes and every L go with one bit a cell
+--   job-in-order, wrote             so the calls' jobs keep it, with any weights
+--   done-not-spent, spent-no-page   spent exactly when there is no page
+use mathlib.Core.Path.{_≡_, refl}
+use mathlib.Core.Bool.{Bool, true, false, cond}
+use mathlib.Core.List.{List}
+use mathlib.Core.Option.{Option, none, some}
+use Prim.Native.Nat.{ℕ, _≤_, _*_}
+use native.Mathlib.Omega.{arith}
+use lib.Dec.{eqb}
+use lib.ListN.{length, getD}
+use Rattle.cells.specs.Bytes.{Octets}
+use Rattle.cells.specs.Raising.{startIn, raisedTo}
+use Rattle.codes.specs.Generators.{short, long, g2, digit}
+use Rattle.codes.specs.Layouts.{oneBit}
+use Rattle.codes.specs.Encoders.{Proper}
+use Rattle.codes.proofs.Codes.{short-proper, long-proper}
+use Rattle.codes.proofs.Layouts.{oneBit-stages, oneBit-cells, oneBit-bytes}
+use Rattle.search.specs.Best.{Solution}
+use Rattle.search.specs.Levels.{levelAt}
+use Rattle.search.specs.Layouts.{Sound}
+use Rattle.search.proofs.OneBit.{Both}
+use Rattle.search.proofs.Layouts.{oneBit-sound}
+use Rattle.trellis.proofs.Prices.{Suits}
+use Rattle.demand.specs.Jobs.{Job, width, Whole, InOrder}
+use Rattle.demand.specs.Demand.{Could}
+use Rattle.demand.specs.Computed.{pageWrite, spentStrip}
+use Rattle.demand.proofs.Demand.{cheapest, spent-at}
+use Rattle.page.specs.Refusals.{ground, numbered}
+use Rattle.page.specs.Answers.{callAnswer, callPage, answerIn, pageIn, jobOf, answerOf, pageOf}
+use Rattle.page.specs.Promise.{Promised, Wrote, done, spent, refused}
+use Rattle.page.specs.declared.Refusal.{Refusal}
+use Rattle.page.specs.declared.Answer.{Answer}
+use Rattle.page.specs.declared.Answer.the-variants as A
+use Rattle.page.proofs.Refusals.{in-order}
+
+-- ANY JOB that is in order where it has no ground
+pub promise-kept : (g : Option Refusal) (J : Job) → (g ≡ none → InOrder J) → Promised g J (pageIn g J) (answerIn g J)
+unfolding pageIn answerIn
+promise-kept g J I = go g refl (pageWrite J) refl
+  where
+    go : (h : Option Refusal) → g ≡ h → (w : Option Solution) → pageWrite J ≡ w → Promised g J (callPage h w (λ a. raisedTo (startIn (width J)) (J .page) (levelAt (a .levels))) (J .page)) (callAnswer h w (spentStrip J))
+    go (some r) e w f = refused e refl
+    go none e (some a) f = done e (cheapest J (I e) a f)
+    go none e none f = spent e (spent-at J (I e) f) refl
+
+-- ONE BIT A CELL. 16·L cells fill 6·L bytes, and 8·L stages take the data
+pub oneBit-whole : (L : ℕ) → Whole oneBit L
+oneBit-whole L = record { cells-fill = omega (arith, oneBit-cells L, oneBit-bytes L); stages-fill = omega (arith, oneBit-stages L) }
+
+-- both codes lead with 1, and reach back no more than six stages
+pub numbered-proper : (code : ℕ) → Proper (numbered code) × (numbered code .memory ≤ 6)
+unfolding numbered
+numbered-proper code = go (eqb code 3)
+  where
+    go : (b : Bool) → Proper (cond b short long) × ((cond b short long) .memory ≤ 6)
+    go true = (short-proper, omega arith)
+    go false = (long-proper, omega arith)
+
+-- they have two generators, which begin with 1
+numbered-both : (code : ℕ) → Both (numbered code)
+unfolding numbered digit
+numbered-both code = go (eqb code 3)
+  where
+    go : (b : Bool) → Both (cond b short long)
+    go true = record { g1-leads = refl; g2-leads = refl; two = refl }
+    go false = record { g1-leads = refl; g2-leads = refl; two = refl }
+
+-- so they go with one bit a cell
+pub numbered-sound : (code : ℕ) → Sound oneBit (numbered code)
+numbered-sound code = oneBit-sound (numbered code) (numbered-both code .g1-leads) (rw (numbered-both code .two))
+
+-- and suit weights of three bytes
+pub numbered-suits : (code : ℕ) (W : List ℕ) → length W ≡ 3 → ((i : ℕ) → getD W i 0 ≤ 255) → Suits (numbered code) W
+numbered-suits code W three bytes =
+    record { proper = numbered-proper code .0; both = numbered-both code; reach = numbered-proper code .1; three = three; bytes = bytes }
+
+-- A CALL without a ground is in order
+pub job-in-order : (W : List ℕ) (code L S : ℕ) (before content : List ℕ) → Octets content → ground code L S (length before) (length content) ≡ none
+    → InOrder (jobOf W code L S before content)
+job-in-order W code L S before content b e =
+    let i = in-order code L S (length before) (length content) e in
+    record { sound = numbered-sound code; whole = oneBit-whole L; page-is = i .2; data-is = i .3; octets = b }
+
+-- so the computed answer and page keep the promise, with any weights
+pub wrote : (W : List ℕ) (code L S : ℕ) (before content : List ℕ) → Octets content
+    → Wrote W code L S before content (pageOf W code L S before content) (answerOf W code L S before content)
+unfolding pageOf answerOf
+wrote W code L S before content b =
+    promise-kept (ground code L S (length before) (length content)) (jobOf W code L S before content) (job-in-order W code L S before content b)
+
+-- SPENT EXACTLY WHEN there is no such page: of a call in order, done and spent exclude each other and there is no third
+pub done-not-spent : {g : Option Refusal} {J : Job} {after : List ℕ} {r : Answer} → Promised g J after r → g ≡ none → ((other : List ℕ) → Could J other → ⊥)
+    → (k : ℕ) × (r ≡ A.Spent k)
+done-not-spent (done e p) g n = absurd (n _ (p .could))
+done-not-spent (spent {k = k} e p f) g n = (k, refl)
+done-not-spent (refused {r = r} e f) g n = let z : _≡_ {A = ℕ} 0 1 = cc in absurd (omega arith)
+
+-- and where the answer is spent there is no such page
+pub spent-no-page : {g : Option Refusal} {J : Job} {after : List ℕ} {k : ℕ} → Promised g J after (A.Spent k) → (other : List ℕ) → Could J other → ⊥
+spent-no-page (spent e p f) = p .no-page
