@@ -11,12 +11,12 @@ number-requires c κs = search needs
 value-requires : tie.Need-value-requires
 value-requires c κs = search needs
 
-word-requires : tie.Need-word-requires
-word-requires c κs = search needs
+packed-requires : tie.Need-packed-requires
+packed-requires c κs = search needs
 
 returns : tie.Need-returns
 unfolding answerWord
 returns c = omega (arith, c .packed .ensures, c .before .value .ensures, c .before .before .number .ensures)
 
 pub answer-word-spec : {M : Type 1} → statement M
-answer-word-spec = tie.close (tie.spec number-requires value-requires word-requires returns)
+answer-word-spec = tie.close (tie.spec number-requires value-requires packed-requires returns)

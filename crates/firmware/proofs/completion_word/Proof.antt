@@ -8,12 +8,12 @@ use Rattle.firmware.proofs.completion_word.Tie as tie
 completion-number-requires : tie.Need-completion-number-requires
 completion-number-requires c κs = search needs
 
-word-requires : tie.Need-word-requires
-word-requires c κs = search needs
+packed-requires : tie.Need-packed-requires
+packed-requires c κs = search needs
 
 returns : tie.Need-returns
 unfolding completionWord
 returns c = omega (arith, c .packed .ensures, c .before .completion-number .ensures)
 
 pub completion-word-spec : {M : Type 1} → statement M
-completion-word-spec = tie.close (tie.spec completion-number-requires word-requires returns)
+completion-word-spec = tie.close (tie.spec completion-number-requires packed-requires returns)
