@@ -55,7 +55,8 @@ unfolding levelsOf
 length-levels n page = length-listOf n (level page)
 
 -- what a change costs, by the levels after it
-costIn-levels : (J : Job) (after : List ℕ) (v : ℕ → ℕ) → ((c : ℕ) → c < pageCells J → level after c ≡ v c) → costIn J after ≡ sumOf (pageCells J) (climbs J v)
+costIn-levels : (J : Job) (after : List ℕ) (v : ℕ → ℕ) → ((c : ℕ) → c < pageCells J → level after c ≡ v c)
+    → costIn J after ≡ sumOf (pageCells J) (climbs J v)
 unfolding costIn costOf
 costIn-levels J after v e = sumOf-same (pageCells J) _ _ (λ c h. ap (climb (weightOf (J .weights)) (level (J .page) c)) (e c h))
 
@@ -68,7 +69,8 @@ any [] = no-more
 any (k ∷ l) = and-each tt (any l)
 
 -- lower at the first place is lower at the first cell
-lower-at-first : (n : ℕ) (after other : List ℕ) (y : List ℕ) → ((c : ℕ) → c < n → levelAt y c ≡ level after c) → LexLower y (levelsOf n other)
+lower-at-first : (n : ℕ) (after other : List ℕ) (y : List ℕ) → ((c : ℕ) → c < n → levelAt y c ≡ level after c)
+    → LexLower y (levelsOf n other)
     → LowerAtFirst n after other
 unfolding levelsOf levelAt
 lower-at-first n after other y f r = record {
@@ -91,13 +93,15 @@ module _ (J : Job) (I : InOrder J) where
   -- each strip's write is its best
   pub problem-solves : (k : ℕ) → Solves (stripProblem J k) (stripWrite J k)
   unfolding stripProblem stripWrite
-  problem-solves k = strip-solves (J .layout) (J .bytes) (stripBytes J k) (marksOf J k) (J .code) (I .sound) (J .weights) (part (J .bytes) k (J .content))
+  problem-solves k =
+      strip-solves (J .layout) (J .bytes) (stripBytes J k) (marksOf J k) (J .code) (I .sound) (J .weights) (part (J .bytes) k (J .content))
 
   -- so the strips' writes are the page's best
   solved : Solves (All (stripProblem J) (listOf (J .strips) (λ k. k))) (pageWrite J)
   unfolding pageWrite
   solved =
-      all-solves (stripWrite J) (stripProblem J) (λ k. width J) Any (λ k n. problem-solves k) (problem-width J (I .sound) (I .whole)) (any (listOf (J .strips) (λ k. k)))
+      all-solves (stripWrite J) (stripProblem J) (λ k. width J) Any (λ k n. problem-solves k) (problem-width J (I .sound) (I .whole))
+      (any (listOf (J .strips) (λ k. k)))
 
   page-width : Width (pageCells J) (All (stripProblem J) (listOf (J .strips) (λ k. k)))
   page-width = record { width = λ c y a. all-levels J (I .sound) (I .whole) c y a .0 }
@@ -106,18 +110,21 @@ module _ (J : Job) (I : InOrder J) where
   inside : (c : ℕ) → c < pageCells J → 3 * c + 2 < 8 * length (J .page)
   inside c h =
       let e : 3 * pageCells J ≡ 8 * length (J .page) =
-      sym (mul-assoc 3 (width J) (J .strips)) ∙ ap (λ (x : ℕ). x * J .strips) (I .whole .cells-fill) ∙ mul-assoc 8 _ (J .strips) ∙ ap (λ (x : ℕ). 8 * x) (sym (I .page-is)) in
+      sym (mul-assoc 3 (width J) (J .strips)) ∙ ap (λ (x : ℕ). x * J .strips) (I .whole .cells-fill) ∙ mul-assoc 8 _ (J .strips)
+      ∙ ap (λ (x : ℕ). 8 * x) (sym (I .page-is)) in
       omega arith
 
   -- and what lies in it is a cell
   outside : (c : ℕ) → 3 * c < 8 * length (J .page) → c < pageCells J
   outside c h =
       let e : 3 * pageCells J ≡ 8 * length (J .page) =
-      sym (mul-assoc 3 (width J) (J .strips)) ∙ ap (λ (x : ℕ). x * J .strips) (I .whole .cells-fill) ∙ mul-assoc 8 _ (J .strips) ∙ ap (λ (x : ℕ). 8 * x) (sym (I .page-is)) in
+      sym (mul-assoc 3 (width J) (J .strips)) ∙ ap (λ (x : ℕ). x * J .strips) (I .whole .cells-fill) ∙ mul-assoc 8 _ (J .strips)
+      ∙ ap (λ (x : ℕ). 8 * x) (sym (I .page-is)) in
       omega arith
 
   -- the levels of a page that could be are admitted, at what the change costs
-  could-all : (other : List ℕ) → Could J other → All (stripProblem J) (listOf (J .strips) (λ k. k)) (costIn J other) (levelsOf (pageCells J) other)
+  could-all : (other : List ℕ) → Could J other
+      → All (stripProblem J) (listOf (J .strips) (λ k. k)) (costIn J other) (levelsOf (pageCells J) other)
   unfolding stripLevels
   could-all other p =
       rw (costIn-levels J other (levelAt (levelsOf (pageCells J) other)) (λ c h. sym (level-there (pageCells J) other c h)))
@@ -126,7 +133,8 @@ module _ (J : Job) (I : InOrder J) where
         high = λ c h. rw (level-there (pageCells J) other c h) (level-bound other c);
         kept = λ c h m. level-there (pageCells J) other c h ∙ p .marked-stay c h m;
         reads = λ j h t l.
-            cells-same (J .layout) (J .code) (J .bytes) (I .whole) _ _ t l (λ c m. level-there (pageCells J) other (width J * j + c) (place-inside (width J) j c m (J .strips) h))
+            cells-same (J .layout) (J .code) (J .bytes) (I .whole) _ _ t l
+            (λ c m. level-there (pageCells J) other (width J * j + c) (place-inside (width J) j c m (J .strips) h))
             ∙ reads-only (J .layout) (J .code) (J .bytes) (J .strips) other (J .content) (p .reads) j h t l;
       }))
 
@@ -144,7 +152,8 @@ module _ (J : Job) (I : InOrder J) where
   levels-could y v = record {
     size = raisedTo-length _ (J .page) _;
     reads = reads-of (J .layout) (J .code) (J .bytes) (J .strips) (raised y) (J .content) (I .data-is) (I .octets) (λ j h t l.
-        cells-same (J .layout) (J .code) (J .bytes) (I .whole) _ _ t l (λ c m. raised-level y v (width J * j + c) (place-inside (width J) j c m (J .strips) h))
+        cells-same (J .layout) (J .code) (J .bytes) (I .whole) _ _ t l
+        (λ c m. raised-level y v (width J * j + c) (place-inside (width J) j c m (J .strips) h))
         ∙ v .reads j h t l);
     no-lower = λ c h. rw (raised-level y v c h) (v .up c h);
     marked-stay = λ c h m. raised-level y v c h ∙ v .kept c h m;
@@ -152,18 +161,21 @@ module _ (J : Job) (I : InOrder J) where
 
   -- what an answer's levels are
   answer-levels : (a : Solution) → pageWrite J ≡ some a
-      → (length (a .levels) ≡ pageCells J) × PageLevels J (levelAt (a .levels)) × (a .cost ≡ sumOf (pageCells J) (climbs J (levelAt (a .levels))))
+      → (length (a .levels) ≡ pageCells J) × PageLevels J (levelAt (a .levels))
+      × (a .cost ≡ sumOf (pageCells J) (climbs J (levelAt (a .levels))))
   answer-levels a e = all-levels J (I .sound) (I .whole) (a .cost) (a .levels) (the-best (rw e at solved) .valid)
 
   -- the page raised to them has them
-  pub answer-raised : (a : Solution) → pageWrite J ≡ some a → (c : ℕ) → c < pageCells J → level (raised (a .levels)) c ≡ levelAt (a .levels) c
+  pub answer-raised : (a : Solution) → pageWrite J ≡ some a → (c : ℕ) → c < pageCells J
+      → level (raised (a .levels)) c ≡ levelAt (a .levels) c
   answer-raised a e = raised-level (a .levels) (answer-levels a e .1)
 
   -- AN ANSWER: the page raised to its levels is the cheapest
   pub cheapest : (a : Solution) → pageWrite J ≡ some a → Cheapest J (raised (a .levels)) (a .cost)
   cheapest a e = record {
     could = levels-could (a .levels) (v .1);
-    raised = raisedTo-same _ (J .page) (levelAt (a .levels)) (level (raised (a .levels))) (λ c h. sym (raised-level (a .levels) (v .1) c (outside c h)));
+    raised = raisedTo-same _ (J .page) (levelAt (a .levels)) (level (raised (a .levels)))
+        (λ c h. sym (raised-level (a .levels) (v .1) c (outside c h)));
     paid = costIn-levels J (raised (a .levels)) (levelAt (a .levels)) (raised-level (a .levels) (v .1)) ∙ sym (v .2);
     least = λ other p. cost-least best _ _ (could-all other p);
     among-equals = λ other p f c h n.
@@ -175,7 +187,8 @@ module _ (J : Job) (I : InOrder J) where
       best : Best (All (stripProblem J) (listOf (J .strips) (λ k. k))) a
       best = the-best (rw e at solved)
 
-      v : (length (a .levels) ≡ pageCells J) × PageLevels J (levelAt (a .levels)) × (a .cost ≡ sumOf (pageCells J) (climbs J (levelAt (a .levels))))
+      v : (length (a .levels) ≡ pageCells J) × PageLevels J (levelAt (a .levels))
+          × (a .cost ≡ sumOf (pageCells J) (climbs J (levelAt (a .levels))))
       v = answer-levels a e
 
   -- a page that could be has an answer for each of its strips
@@ -187,7 +200,8 @@ module _ (J : Job) (I : InOrder J) where
   unfolding pageWrite spentStrip
   first-closed e =
       closed-at (stripProblem J) (J .strips) (λ k. k) _
-      (none-first (stripWrite J) (stripProblem J) (λ k. width J) Any (λ k n. problem-solves k) (problem-width J (I .sound) (I .whole)) (any (listOf (J .strips) (λ k. k))) e)
+      (none-first (stripWrite J) (stripProblem J) (λ k. width J) Any (λ k n. problem-solves k) (problem-width J (I .sound) (I .whole))
+      (any (listOf (J .strips) (λ k. k))) e)
 
 -- A STRIP ALONE is a job of one strip
 part-zero : (n : ℕ) (x : List ℕ) → length x ≡ n → part n 0 x ≡ x
@@ -211,9 +225,12 @@ module _ (J : Job) (I : InOrder J) where
     same-problem : stripProblem (stripJob J k) 0 ≡ stripProblem J k
     unfolding stripProblem stripJob stripBytes
     same-problem =
-        rw (part-zero (bytesIn (J .layout) (J .bytes)) (part _ k (J .page)) (part-length _ (J .strips) k (J .page) (I .page-is) h),
-        part-zero (J .bytes) (part _ k (J .content)) (part-length _ (J .strips) k (J .content) (I .data-is) h))
-        (ap (λ (m : ℕ → Bool). Rewrite (stepsOf (J .weights)) (meaningOf (J .layout)) (encoderOf (J .code)) (dataBits (J .layout) (part (J .bytes) k (J .content)))
+        rw (
+          part-zero (bytesIn (J .layout) (J .bytes)) (part _ k (J .page)) (part-length _ (J .strips) k (J .page) (I .page-is) h),
+          part-zero (J .bytes) (part _ k (J .content)) (part-length _ (J .strips) k (J .content) (I .data-is) h),
+        )
+        (ap (λ (m : ℕ → Bool). Rewrite (stepsOf (J .weights)) (meaningOf (J .layout)) (encoderOf (J .code))
+        (dataBits (J .layout) (part (J .bytes) k (J .content)))
         (stagesIn (J .layout) (J .bytes)) (stripCells (J .layout) (J .bytes) (stripBytes J k) m)) same-marks)
       where
         same-marks : (λ c. J .marks (width J * k + (width J * 0 + c))) ≡ marksOf J k
@@ -223,7 +240,9 @@ module _ (J : Job) (I : InOrder J) where
     pattern-write : (other : List ℕ) → Could (stripJob J k) other → ((d : ℕ) (y : List ℕ) → stripProblem J k d y → ⊥) → ⊥
     unfolding stripJob
     pattern-write other p closed =
-        let q : Parts (stripProblem (stripJob J k)) (width J) 1 (λ j. j) _ _ = all-parts (stripProblem (stripJob J k)) (width J) (problem-width (stripJob J k) (I .sound) (I .whole)) 1 (λ j. j) _ _ (could-all (stripJob J k) alone other p) in
+        let q : Parts (stripProblem (stripJob J k)) (width J) 1 (λ j. j) _ _ =
+        all-parts (stripProblem (stripJob J k)) (width J) (problem-width (stripJob J k) (I .sound) (I .whole)) 1
+        (λ j. j) _ _ (could-all (stripJob J k) alone other p) in
         let e : 0 < 1 = omega arith in
         closed _ _ (rw same-problem at (q .valid 0 e))
 

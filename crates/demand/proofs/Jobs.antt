@@ -99,7 +99,8 @@ module _ (n b : ℕ) (fill : 3 * n ≡ 8 * b) (k : ℕ) where
 
     module _ (start to : ℕ → ℕ) where
       -- bit i of strip k raised
-      part-bit-raised : (i : ℕ) → i < 8 * b → bit-raised start page to (8 * (b * k) + i) ≡ bit-raised (λ c. start (n * k + c)) (part b k page) (λ c. to (n * k + c)) i
+      part-bit-raised : (i : ℕ) → i < 8 * b
+          → bit-raised start page to (8 * (b * k) + i) ≡ bit-raised (λ c. start (n * k + c)) (part b k page) (λ c. to (n * k + c)) i
       unfolding bit-raised
       part-bit-raised i l =
           let c : i / 3 < n = omega arith in
@@ -114,4 +115,5 @@ module _ (n b : ℕ) (fill : 3 * n ≡ 8 * b) (k : ℕ) where
       part-raised S e h =
           part-bytesOf (length page) (b * k) b (bit-raised start page to) (omega (arith, within b k S h))
           ∙ bytesOf-same b _ (bit-raised (λ c. start (n * k + c)) (part b k page) (λ c. to (n * k + c))) part-bit-raised
-          ∙ ap (λ (m : ℕ). bytesOf m (bit-raised (λ c. start (n * k + c)) (part b k page) (λ c. to (n * k + c)))) (sym (part-length b S k page e h))
+          ∙ ap (λ (m : ℕ). bytesOf m (bit-raised (λ c. start (n * k + c)) (part b k page) (λ c. to (n * k + c))))
+          (sym (part-length b S k page e h))

@@ -66,7 +66,8 @@ module _ (J : Job) (Z : Sound (J .layout) (J .code)) (F : Whole (J .layout) (J .
   -- cell i of strip k, by the page
   cell-level : (k i : ℕ) → i < width J → cellAt (jobCells J k) i .level ≡ level (J .page) (width J * k + i)
   unfolding stripCells stripBytes
-  cell-level k i h = ap (λ (x : Cell). x .level) (cells-at (width J) _ _ i h) ∙ part-level (width J) (bytesIn (J .layout) (J .bytes)) (F .cells-fill) k (J .page) i h
+  cell-level k i h = ap (λ (x : Cell). x .level) (cells-at (width J) _ _ i h)
+      ∙ part-level (width J) (bytesIn (J .layout) (J .bytes)) (F .cells-fill) k (J .page) i h
 
   cell-mark : (k i : ℕ) → i < width J → cellAt (jobCells J k) i .mark ≡ J .marks (width J * k + i)
   unfolding stripCells
@@ -78,26 +79,31 @@ module _ (J : Job) (Z : Sound (J .layout) (J .code)) (F : Whole (J .layout) (J .
 
   -- a write of a strip is what could be, at what it pays
   problem-could : (k c : ℕ) (y : List ℕ) → stripProblem J k c y
-      → CouldBe (stepsOf (J .weights)) (J .layout) (J .code) (stagesIn (J .layout) (J .bytes)) (bitOf (part (J .bytes) k (J .content))) (jobCells J k) y
+      → CouldBe (stepsOf (J .weights)) (J .layout) (J .code) (stagesIn (J .layout) (J .bytes)) (bitOf (part (J .bytes) k (J .content)))
+      (jobCells J k) y
       × (pays (stepsOf (J .weights)) (jobCells J k) y ≡ c)
   unfolding stripProblem dataBits
   problem-could k c y w = (
-    rewrite-could (stepsOf (J .weights)) (J .layout) (J .code) Z (stagesIn (J .layout) (J .bytes)) _ (bit-bound (part (J .bytes) k (J .content))) (jobCells J k) (strip-size k) c y w,
+    rewrite-could (stepsOf (J .weights)) (J .layout) (J .code) Z
+        (stagesIn (J .layout) (J .bytes)) _ (bit-bound (part (J .bytes) k (J .content))) (jobCells J k) (strip-size k) c y w,
     raised-pays (stepsOf (J .weights)) (w .raised),
   )
 
   -- and the other way
   could-problem : (k : ℕ) (y : List ℕ)
-      → CouldBe (stepsOf (J .weights)) (J .layout) (J .code) (stagesIn (J .layout) (J .bytes)) (bitOf (part (J .bytes) k (J .content))) (jobCells J k) y
+      → CouldBe (stepsOf (J .weights)) (J .layout) (J .code) (stagesIn (J .layout) (J .bytes)) (bitOf (part (J .bytes) k (J .content)))
+      (jobCells J k) y
       → stripProblem J k (pays (stepsOf (J .weights)) (jobCells J k) y) y
   unfolding stripProblem dataBits
   could-problem k y p =
-      could-rewrite (stepsOf (J .weights)) (J .layout) (J .code) Z (stagesIn (J .layout) (J .bytes)) _ (bit-bound (part (J .bytes) k (J .content))) (jobCells J k) (strip-size k) y p
+      could-rewrite (stepsOf (J .weights)) (J .layout) (J .code) Z
+      (stagesIn (J .layout) (J .bytes)) _ (bit-bound (part (J .bytes) k (J .content))) (jobCells J k) (strip-size k) y p
 
   -- every write of a strip has a level for each cell
   pub problem-width : (k : ℕ) → Width (width J) (stripProblem J k)
   unfolding stripProblem
-  problem-width k = strip-width (J .layout) (J .bytes) (stripBytes J k) (marksOf J k) (J .code) Z (J .weights) (part (J .bytes) k (J .content))
+  problem-width k =
+      strip-width (J .layout) (J .bytes) (stripBytes J k) (marksOf J k) (J .code) Z (J .weights) (part (J .bytes) k (J .content))
 
   -- strip j's levels among all levels y
   own : List ℕ → ℕ → List ℕ
@@ -108,7 +114,8 @@ module _ (J : Job) (Z : Sound (J .layout) (J .code)) (F : Whole (J .layout) (J .
   own-level y j c h = getD-take (width J) (drop (width J * j) y) c 0 h ∙ getD-drop (width J * j) y c 0
 
   -- what strip j pays
-  own-pays : (y : List ℕ) (j : ℕ) → pays (stepsOf (J .weights)) (jobCells J j) (own y j) ≡ sumOf (width J) (λ c. climbs J (levelAt y) (width J * j + c))
+  own-pays : (y : List ℕ) (j : ℕ)
+      → pays (stepsOf (J .weights)) (jobCells J j) (own y j) ≡ sumOf (width J) (λ c. climbs J (levelAt y) (width J * j + c))
   unfolding pays cellsIn
   own-pays y j =
       ap (λ (n : ℕ). sumOf n (λ i. climb (weightOf (J .weights)) (cellAt (jobCells J j) i .level) (levelAt (own y j) i))) (strip-size j)
@@ -120,7 +127,8 @@ module _ (J : Job) (Z : Sound (J .layout) (J .code)) (F : Whole (J .layout) (J .
   unfolding own cellsIn
   levels-all y e p =
       rw (sumOf-parts (width J) (J .strips) (climbs J (levelAt y)))
-      (parts-all (stripProblem J) (width J) (J .strips) (λ k. k) (λ j. sumOf (width J) (λ c. climbs J (levelAt y) (width J * j + c))) y e valid)
+      (parts-all (stripProblem J) (width J) (J .strips) (λ k. k) (λ j. sumOf (width J) (λ c. climbs J (levelAt y) (width J * j + c))) y e
+      valid)
     where
       -- cell i of strip j rises
       rises : (j : ℕ) → j < J .strips → (i : ℕ) → i < width J → Rise (stepsOf (J .weights)) (cellAt (jobCells J j) i) (levelAt (own y j) i)
@@ -134,11 +142,13 @@ module _ (J : Job) (Z : Sound (J .layout) (J .code)) (F : Whole (J .layout) (J .
 
       valid : (j : ℕ) → j < J .strips → stripProblem J j (sumOf (width J) (λ c. climbs J (levelAt y) (width J * j + c))) (own y j)
       valid j h = rw (own-pays y j) at (could-problem j (own y j) (record {
-        size = length-take-le (width J) (drop (width J * j) y) (omega (arith, length-drop (width J * j) y, within (width J) j (J .strips) h)) ∙ sym (strip-size j);
+        size = length-take-le (width J) (drop (width J * j) y)
+            (omega (arith, length-drop (width J * j) y, within (width J) j (J .strips) h)) ∙ sym (strip-size j);
         rises = λ i k. rises j h i (rw (strip-size j) at k);
         reads = λ t k.
             let l : t < 8 * J .bytes = rw (F .stages-fill) at k in
-            cells-same (J .layout) (J .code) (J .bytes) F _ _ t l (λ c m. own-level y j c m) ∙ p .reads j h t l ∙ sym (part-data (J .bytes) j (J .content) t l);
+            cells-same (J .layout) (J .code) (J .bytes) F _ _ t l (λ c m. own-level y j c m) ∙ p .reads j h t l
+            ∙ sym (part-data (J .bytes) j (J .content) t l);
       }))
 
   -- and what is valid for all strips the page admits
@@ -148,21 +158,24 @@ module _ (J : Job) (Z : Sound (J .layout) (J .code)) (F : Whole (J .layout) (J .
   all-levels c y a = (
     q .size,
     record {
-      up = λ c h. by-place c h (λ i. level (J .page) i ≤ levelAt y i) (λ j i m n. omega (arith, rises j i m n .up, own-level y j i n, cell-level j i n));
+      up = λ c h. by-place c h (λ i. level (J .page) i ≤ levelAt y i)
+          (λ j i m n. omega (arith, rises j i m n .up, own-level y j i n, cell-level j i n));
       high = λ c h. by-place c h (λ i. levelAt y i ≤ 3) (λ j i m n. omega (arith, rises j i m n .high, own-level y j i n));
       kept = λ c h. by-place c h (λ i. J .marks i ≡ true → levelAt y i ≡ level (J .page) i) (λ j i m n k.
           sym (own-level y j i n) ∙ rises j i m n .kept (cell-mark j i n ∙ k) ∙ cell-level j i n);
       reads = λ j h t l. cells-same (J .layout) (J .code) (J .bytes) F _ _ t l (λ c m. sym (own-level y j c m))
           ∙ could j h .0 .reads t (rw (F .stages-fill) l) ∙ part-data (J .bytes) j (J .content) t l;
     },
-    q .sum ∙ sumOf-same (J .strips) _ _ (λ j h. sym (could j h .1) ∙ own-pays y j) ∙ sym (sumOf-parts (width J) (J .strips) (climbs J (levelAt y))),
+    q .sum ∙ sumOf-same (J .strips) _ _ (λ j h. sym (could j h .1) ∙ own-pays y j)
+        ∙ sym (sumOf-parts (width J) (J .strips) (climbs J (levelAt y))),
   )
     where
       q : Parts (stripProblem J) (width J) (J .strips) (λ k. k) c y
       q = all-parts (stripProblem J) (width J) problem-width (J .strips) (λ k. k) c y a
 
       could : (j : ℕ) → j < J .strips
-          → CouldBe (stepsOf (J .weights)) (J .layout) (J .code) (stagesIn (J .layout) (J .bytes)) (bitOf (part (J .bytes) j (J .content))) (jobCells J j) (own y j)
+          → CouldBe (stepsOf (J .weights)) (J .layout) (J .code) (stagesIn (J .layout) (J .bytes)) (bitOf (part (J .bytes) j (J .content)))
+          (jobCells J j) (own y j)
           × (pays (stepsOf (J .weights)) (jobCells J j) (own y j) ≡ q .costs j)
       could j h = problem-could j (q .costs j) (own y j) (q .valid j h)
 

@@ -26,11 +26,13 @@ use Rattle.demand.proofs.Jobs.{part-length, part-octets, part-data, par
 pub cells-same : (lay : Layout) (G : Generators) (L : ℕ) → Whole lay L → (v w : ℕ → ℕ) (t : ℕ) → t < 8 * L
     → ((c : ℕ) → c < cellsIn lay L → v c ≡ w c) → dataBit lay G v t ≡ dataBit lay G w t
 unfolding cellsIn
-cells-same lay G L F v w t h e = dataBit-same lay v w (stagesIn lay L) e G t (part-number (lay .bits) (stagesIn lay L) t (rw (F .stages-fill) h))
+cells-same lay G L F v w t h e =
+    dataBit-same lay v w (stagesIn lay L) e G t (part-number (lay .bits) (stagesIn lay L) t (rw (F .stages-fill) h))
 
 module _ (lay : Layout) (G : Generators) (L S : ℕ) (page : List ℕ) where
   -- bit t of strip j of what a page reads as is the strip's data bit t
-  pub readBy-bit : (j : ℕ) → j < S → (t : ℕ) → t < 8 * L → bitOf (readBy lay G L S page) (8 * L * j + t) ≡ dataBit lay G (stripLevels (cellsIn lay L) page j) t
+  pub readBy-bit : (j : ℕ) → j < S → (t : ℕ) → t < 8 * L
+      → bitOf (readBy lay G L S page) (8 * L * j + t) ≡ dataBit lay G (stripLevels (cellsIn lay L) page j) t
   unfolding readBy
   readBy-bit j h t l =
       bytesOf-bit (L * S) _ (λ i. dataBit-bound lay G _ _) (8 * L * j + t) (omega (arith, place-inside (8 * L) j t l S h))
@@ -47,7 +49,8 @@ module _ (lay : Layout) (G : Generators) (L S : ℕ) (page : List ℕ) where
         bit : (n : ℕ) → n < 8 * (L * S) → dataBit lay G (stripLevels (cellsIn lay L) page (n / (8 * L))) (n % (8 * L)) ≡ bitOf content n
         bit n h =
             let k : n < 8 * L * S = omega arith in
-            f (n / (8 * L)) (part-number (8 * L) S n k) (n % (8 * L)) (part-place (8 * L) S n k) ∙ ap (bitOf content) (div-add-mod n (8 * L))
+            f (n / (8 * L)) (part-number (8 * L) S n k) (n % (8 * L)) (part-place (8 * L) S n k)
+            ∙ ap (bitOf content) (div-add-mod n (8 * L))
 
     -- and only there
     pub reads-only : readBy lay G L S page ≡ content

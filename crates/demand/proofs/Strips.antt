@@ -29,7 +29,8 @@ module _ (problem : ℕ → Problem) (w : ℕ) where
     pub valid : (j : ℕ) → j < S → problem (f j) (costs j) (take w (drop (w * j) y))
 
   -- one part more in front
-  front : (S : ℕ) (f : ℕ → ℕ) (c₁ c₂ : ℕ) (y₁ y₂ : List ℕ) → length y₁ ≡ w → problem (f 0) c₁ y₁ → Parts S (λ i. f (suc i)) c₂ y₂ → Parts (suc S) f (c₁ + c₂) (y₁ ++ y₂)
+  front : (S : ℕ) (f : ℕ → ℕ) (c₁ c₂ : ℕ) (y₁ y₂ : List ℕ) → length y₁ ≡ w → problem (f 0) c₁ y₁ → Parts S (λ i. f (suc i)) c₂ y₂
+      → Parts (suc S) f (c₁ + c₂) (y₁ ++ y₂)
   unfolding cons sumOf
   front S f c₁ c₂ y₁ y₂ l p q = record {
     costs = cons c₁ (q .costs);
@@ -42,19 +43,24 @@ module _ (problem : ℕ → Problem) (w : ℕ) where
       valid zero h = let e : w * 0 ≡ 0 = omega arith in rw (e, take-at y₁ y₂ w l) p
       valid (suc j) h =
           let e : w * suc j ≡ w + w * j = omega arith in
-          let d : drop (w + w * j) (y₁ ++ y₂) ≡ drop (w * j) y₂ = sym (drop-drop (w * j) w (y₁ ++ y₂)) ∙ ap (drop (w * j)) (drop-at y₁ y₂ w l) in
+          let d : drop (w + w * j) (y₁ ++ y₂) ≡ drop (w * j) y₂ = sym (drop-drop (w * j) w (y₁ ++ y₂))
+          ∙ ap (drop (w * j)) (drop-at y₁ y₂ w l) in
           rw (e, d) (q .valid j (omega arith))
 
   -- what is valid for all is valid for each
-  pub all-parts : (wide : (k : ℕ) → Width w (problem k)) (S : ℕ) (f : ℕ → ℕ) (c : ℕ) (y : List ℕ) → All problem (listOf S f) c y → Parts S f c y
+  pub all-parts : (wide : (k : ℕ) → Width w (problem k)) (S : ℕ) (f : ℕ → ℕ) (c : ℕ) (y : List ℕ) → All problem (listOf S f) c y
+      → Parts S f c y
   unfolding All listOf sumOf
-  all-parts wide zero f c y empty = record { costs = λ j. 0; sum = refl; size = let e : w * 0 ≡ 0 = omega arith in sym e; valid = λ j h. absurd (not-suc-le-zero h) }
+  all-parts wide zero f c y empty =
+      record { costs = λ j. 0; sum = refl; size = let e : w * 0 ≡ 0 = omega arith in sym e; valid = λ j h. absurd (not-suc-le-zero h) }
   all-parts wide (suc S) f c y p =
       rw (p .sum, p .append)
-      (front S f (p .cost₁) (p .cost₂) (p .levels₁) (p .levels₂) (wide (f 0) .width _ _ (p .valid₁)) (p .valid₁) (all-parts wide S (λ i. f (suc i)) (p .cost₂) (p .levels₂) (p .valid₂)))
+      (front S f (p .cost₁) (p .cost₂) (p .levels₁) (p .levels₂) (wide (f 0) .width _ _ (p .valid₁)) (p .valid₁)
+      (all-parts wide S (λ i. f (suc i)) (p .cost₂) (p .levels₂) (p .valid₂)))
 
   -- and what is valid for each is valid for all
-  pub parts-all : (S : ℕ) (f costs : ℕ → ℕ) (y : List ℕ) → length y ≡ w * S → ((j : ℕ) → j < S → problem (f j) (costs j) (take w (drop (w * j) y))) → All problem (listOf S f) (sumOf S costs) y
+  pub parts-all : (S : ℕ) (f costs : ℕ → ℕ) (y : List ℕ) → length y ≡ w * S
+      → ((j : ℕ) → j < S → problem (f j) (costs j) (take w (drop (w * j) y))) → All problem (listOf S f) (sumOf S costs) y
   unfolding All listOf sumOf
   parts-all zero f costs [] e v = empty
   parts-all zero f costs (x ∷ y) e v = let z : suc (length y) ≡ w * 0 = e in absurd (omega arith)
@@ -86,12 +92,20 @@ cons-list y g (suc j) = g j
 -- by its number
 pub closed-at : (problem : ℕ → Problem) (S : ℕ) (f : ℕ → ℕ) (k : ℕ) → FirstClosed problem (listOf S f) k → ClosedAt problem S f k
 unfolding listOf cons cons-list
-closed-at problem (suc S) f zero (here p) = record { inside = omega arith; closed = p; open-cost = λ j. 0; open-levels = λ j. []; open-before = λ j h. absurd (not-suc-le-zero h) }
+closed-at problem (suc S) f zero (here p) =
+    record { inside = omega arith; closed = p; open-cost = λ j. 0; open-levels = λ j. []; open-before = λ j h. absurd (not-suc-le-zero h) }
 closed-at problem (suc S) f (suc k) (later d y p q) =
     let r : ClosedAt problem S (λ i. f (suc i)) k = closed-at problem S (λ i. f (suc i)) k q in
-    record { inside = omega (arith, r .inside); closed = r .closed; open-cost = cons d (r .open-cost); open-levels = cons-list y (r .open-levels); open-before = before r }
+    record {
+      inside = omega (arith, r .inside);
+      closed = r .closed;
+      open-cost = cons d (r .open-cost);
+      open-levels = cons-list y (r .open-levels);
+      open-before = before r;
+    }
   where
-    before : (r : ClosedAt problem S (λ i. f (suc i)) k) (j : ℕ) → j < suc k → problem (f j) (cons d (r .open-cost) j) (cons-list y (r .open-levels) j)
+    before : (r : ClosedAt problem S (λ i. f (suc i)) k) (j : ℕ) → j < suc k
+        → problem (f j) (cons d (r .open-cost) j) (cons-list y (r .open-levels) j)
     before r zero h = p
     before r (suc j) h = r .open-before j (omega arith)
 
@@ -102,12 +116,15 @@ pub record PartOf (w : ℕ → Option Solution) (d : ℕ) (f : ℕ → ℕ) (a :
   pub levels-are : take d (drop (d * j) (a .levels)) ≡ own .levels
 
 -- an answer of all parts has one of each
-pub all-each : (w : ℕ → Option Solution) (d : ℕ) → ((k : ℕ) (b : Solution) → w k ≡ some b → length (b .levels) ≡ d) → (n : ℕ) (f : ℕ → ℕ) (a : Solution) → all w (listOf n f) ≡ some a → (j : ℕ) → j < n → PartOf w d f a j
+pub all-each : (w : ℕ → Option Solution) (d : ℕ) → ((k : ℕ) (b : Solution) → w k ≡ some b → length (b .levels) ≡ d)
+    → (n : ℕ) (f : ℕ → ℕ) (a : Solution) → all w (listOf n f) ≡ some a → (j : ℕ) → j < n → PartOf w d f a j
 unfolding all listOf joined
 all-each w d z zero f a e j h = absurd (not-suc-le-zero h)
 all-each w d z (suc n) f a e j h = go (w (f 0)) refl (all w (listOf n (λ i. f (suc i)))) (all-each w d z n (λ i. f (suc i))) e j h
   where
-    go : (x : Option Solution) → w (f 0) ≡ x → (q : Option Solution) → ((b : Solution) → q ≡ some b → (j : ℕ) → j < n → PartOf w d (λ i. f (suc i)) b j) → joined x q ≡ some a → (j : ℕ) → j < suc n → PartOf w d f a j
+    go : (x : Option Solution) → w (f 0) ≡ x → (q : Option Solution)
+        → ((b : Solution) → q ≡ some b → (j : ℕ) → j < n → PartOf w d (λ i. f (suc i)) b j) → joined x q ≡ some a → (j : ℕ) → j < suc n
+        → PartOf w d f a j
     go none p q r e j h = absurd (some-none a (sym e))
     go (some b) p none r e j h = absurd (some-none a (sym e))
     go (some b) p (some c) r e zero h =
@@ -118,5 +135,6 @@ all-each w d z (suc n) f a e j h = go (w (f 0)) refl (all w (listOf n (λ i. f (
         let l : b .levels ++ c .levels ≡ a .levels = ap (λ (x : Solution). x .levels) (Option·some-injective _ _ e) in
         let o : d * suc j ≡ d + d * j = omega arith in
         let g : PartOf w d (λ i. f (suc i)) c j = r c refl j (omega arith) in
-        let q : drop (d + d * j) (b .levels ++ c .levels) ≡ drop (d * j) (c .levels) = sym (drop-drop (d * j) d (b .levels ++ c .levels)) ∙ ap (drop (d * j)) (drop-at (b .levels) (c .levels) d (z (f 0) b p)) in
+        let q : drop (d + d * j) (b .levels ++ c .levels) ≡ drop (d * j) (c .levels) = sym (drop-drop (d * j) d (b .levels ++ c .levels))
+        ∙ ap (drop (d * j)) (drop-at (b .levels) (c .levels) d (z (f 0) b p)) in
         record { own = g .own; is = g .is; levels-are = rw (o, ← l, q) (g .levels-are) }

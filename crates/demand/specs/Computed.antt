@@ -19,7 +19,8 @@ module _ (J : Job) where
 
   -- strip k's write, on its own bytes, marks and part of the data
   unfoldable pub stripWrite : ℕ → Option Solution
-  stripWrite k = rewriteOf (J .layout) (J .code) (J .weights) (J .bytes) (stripBytes k) (λ c. J .marks (width J * k + c)) (part (J .bytes) k (J .content))
+  stripWrite k = rewriteOf (J .layout) (J .code) (J .weights) (J .bytes) (stripBytes k) (λ c. J .marks (width J * k + c))
+      (part (J .bytes) k (J .content))
 
   -- strips 0 .. S − 1, one after the other
   unfoldable pub pageWrite : Option Solution

@@ -55,7 +55,8 @@ module _ (W : List ℕ) (K : Weights W) (code L S : ℕ) (before content : List 
   unfolding pageOf pageIn
   write-near c h = go (ground code L S (length before) (length content)) refl (pageWrite (jobOf W code L S before content)) refl
     where
-      go : (g : Option Refusal) → ground code L S (length before) (length content) ≡ g → (w : Option Solution) → pageWrite (jobOf W code L S before content) ≡ w
+      go : (g : Option Refusal) → ground code L S (length before) (length content) ≡ g → (w : Option Solution)
+          → pageWrite (jobOf W code L S before content) ≡ w
           → level (callPage g w (λ a. raisedTo (startIn (cellsIn oneBit L)) before (levelAt (a .levels))) before) c ≤ suc (level before c)
       go (some r) e w f = omega arith
       go none e none f = omega arith
@@ -77,7 +78,9 @@ module _ (W : List ℕ) (K : Weights W) (code L S : ℕ) (before content : List 
         go : Wrote W code L S before content (pageOf W code L S before content) (A.Done cost) → cost ≤ cellsIn oneBit L * S * w
         go (done g p) =
             rw (← (p .paid))
-            (sumOf-le (cellsIn oneBit L * S) w _ (λ c h. climb-most (weightOf W) w most (level before c) (level (pageOf W code L S before content) c) (p .could .no-lower c h) (write-near c h)))
+            (sumOf-le
+            (cellsIn oneBit L * S) w _ (λ c h. climb-most (weightOf W) w most (level before c) (level (pageOf W code L S before content) c)
+            (p .could .no-lower c h) (write-near c h)))
 
     -- the largest page has 65,536 cells
     pub write-largest : cost ≤ 65536 * w
@@ -106,5 +109,6 @@ unfolding weightOf
 house-weights = record { three = refl; bytes = λ i. omega (arith, house-most i); dear = house-dear }
 
 -- 'One write of the largest page costs at most 1,835,008.'
-pub house-largest : (code L S : ℕ) (before content : List ℕ) → Octets content → (cost : ℕ) → answerOf house code L S before content ≡ A.Done cost → cost ≤ 1835008
+pub house-largest : (code L S : ℕ) (before content : List ℕ) → Octets content → (cost : ℕ)
+    → answerOf house code L S before content ≡ A.Done cost → cost ≤ 1835008
 house-largest code L S before content b cost e = write-largest house house-weights code L S before content b 28 house-most cost e

@@ -64,20 +64,26 @@ module _ (n : ℕ) (v : ℕ → ℕ) where
   row-next (suc (suc (suc (suc l)))) e h = absurd (let z : ⊥ = omega arith in z)
 
 -- a strip's row is that of its cells of the page
-pub strip-row : (lay : Layout) (L k : ℕ) (page : List ℕ) → 3 * cellsIn lay L ≡ 8 * bytesIn lay L → rowOf (cellsIn lay L) (level (part (bytesIn lay L) k page)) ≡ rowOf (cellsIn lay L) (stripLevels (cellsIn lay L) page k)
+pub strip-row : (lay : Layout) (L k : ℕ) (page : List ℕ) → 3 * cellsIn lay L ≡ 8 * bytesIn lay L
+    → rowOf (cellsIn lay L) (level (part (bytesIn lay L) k page)) ≡ rowOf (cellsIn lay L) (stripLevels (cellsIn lay L) page k)
 unfolding rowOf countOf stripLevels
 strip-row lay L k page fill = simp (count 0, count 1, count 2, count 3)
   where
-    count : (l : ℕ) → sumOf (cellsIn lay L) (λ c. cond (eqb (level (part (bytesIn lay L) k page) c) l) 1 0) ≡ sumOf (cellsIn lay L) (λ c. cond (eqb (level page (cellsIn lay L * k + c)) l) 1 0)
-    count l = sumOf-same (cellsIn lay L) _ _ (λ c h. ap (λ (x : ℕ). cond (eqb x l) 1 0) (part-level (cellsIn lay L) (bytesIn lay L) fill k page c h))
+    count : (l : ℕ) → sumOf (cellsIn lay L) (λ c. cond (eqb (level (part (bytesIn lay L) k page) c) l) 1 0)
+        ≡ sumOf (cellsIn lay L) (λ c. cond (eqb (level page (cellsIn lay L * k + c)) l) 1 0)
+    count l =
+        sumOf-same
+        (cellsIn lay L) _ _ (λ c h. ap (λ (x : ℕ). cond (eqb x l) 1 0) (part-level (cellsIn lay L) (bytesIn lay L) fill k page c h))
 
 -- THE ROWS. A list with place k stored
-set-listOf : {A : Type 0} (n k : ℕ) (f g : ℕ → A) (x : A) → k < n → x ≡ g k → ((i : ℕ) → (i ≡ k → ⊥) → f i ≡ g i) → set (listOf n f) k x ≡ listOf n g
+set-listOf : {A : Type 0} (n k : ℕ) (f g : ℕ → A) (x : A) → k < n → x ≡ g k → ((i : ℕ) → (i ≡ k → ⊥) → f i ≡ g i)
+    → set (listOf n f) k x ≡ listOf n g
 unfolding listOf
 set-listOf zero k f g x h e d = absurd (not-suc-le-zero h)
 set-listOf {A} (suc n) zero f g x h e d = ap₂ (λ (y : A) (l : List A). y ∷ l) e (listOf-same n _ _ (λ i m. d (suc i) (λ z. omega arith)))
 set-listOf {A} (suc n) (suc k) f g x h e d =
-    ap₂ (λ (y : A) (l : List A). y ∷ l) (d 0 (λ z. omega arith)) (set-listOf n k (λ i. f (suc i)) (λ i. g (suc i)) x (omega arith) e (λ i z. d (suc i) (λ w. z (omega arith))))
+    ap₂ (λ (y : A) (l : List A). y ∷ l) (d 0 (λ z. omega arith))
+    (set-listOf n k (λ i. f (suc i)) (λ i. g (suc i)) x (omega arith) e (λ i z. d (suc i) (λ w. z (omega arith))))
 
 -- away from k the tests against k and k + 1 agree
 same-test : (i k : ℕ) → (i ≡ k → ⊥) → ltb i k ≡ ltb i (k + 1)
@@ -106,9 +112,11 @@ module _ (L S : ℕ) (page : List ℕ) (c : Completion) (e : c ≡ completionOf 
   -- with a refusal
   pub census-refused : {r : Refusal} → c ≡ Refused r → record { answer = c; rows = listOf 64 (λ k. zeroRow) } ≡ censusOf L S page
   unfolding censusOf rowsOf
-  census-refused f = rw (refused-some (shapeGround L S (length page)) (sym e ∙ f)) (ap (λ (x : Completion). record { answer = x; rows = listOf 64 (λ k. zeroRow) }) f)
+  census-refused f = rw (refused-some (shapeGround L S (length page)) (sym e ∙ f))
+      (ap (λ (x : Completion). record { answer = x; rows = listOf 64 (λ k. zeroRow) }) f)
 
   -- with none
-  pub census-done : (rows : List Row) → shapeGround L S (length page) ≡ none → rows ≡ listOf 64 (rowAt oneBit L S page) → record { answer = c; rows = rows } ≡ censusOf L S page
+  pub census-done : (rows : List Row) → shapeGround L S (length page) ≡ none → rows ≡ listOf 64 (rowAt oneBit L S page)
+      → record { answer = c; rows = rows } ≡ censusOf L S page
   unfolding censusOf rowsOf
   census-done rows f g = rw f (ap₂ (λ (x : Completion) (y : List Row). record { answer = x; rows = y }) (e ∙ ap completionOf f) g)

@@ -56,13 +56,16 @@ module _ (code L S : ℕ) (page content : List ℕ) where
   strip-tabled : stripWrite (jobOf house code L S page content) ≡ stripTabled
   unfolding stripWrite stripBytes stripTabled encoderOf
   strip-tabled = fun-ext λ k.
-      sym (write-by-table (encoderOf (numbered code)) (dataBits oneBit (part L k content)) (parity-choice (stepsOf house)) 2 (stagesIn oneBit L) _
-      ∙ oneBit-write (numbered code .memory) (numbered code) (numbered-sound code) (omega arith) house house-dear L (part (bytesIn oneBit L) k page) unmarked (part L k content))
+      sym (write-by-table (encoderOf (numbered code)) (dataBits oneBit (part L k content)) (parity-choice (stepsOf house)) 2
+      (stagesIn oneBit L) _
+      ∙ oneBit-write (numbered code .memory) (numbered code) (numbered-sound code) (omega arith) house house-dear L
+      (part (bytesIn oneBit L) k page) unmarked (part L k content))
 
   -- a call of write, evaluated
   unfoldable pub answerTabled : Answer
   answerTabled =
-      callAnswer (ground code L S (length page) (length content)) (all stripTabled (listOf S (λ k. k))) (first-none stripTabled (listOf S (λ k. k)))
+      callAnswer (ground code L S (length page) (length content)) (all stripTabled (listOf S (λ k. k)))
+      (first-none stripTabled (listOf S (λ k. k)))
 
   unfoldable pub pageTabled : List ℕ
   pageTabled =
@@ -73,7 +76,8 @@ module _ (code L S : ℕ) (page content : List ℕ) where
   pub answer-tabled : answerOf house code L S page content ≡ answerTabled
   unfolding answerOf answerIn answerTabled pageWrite spentStrip
   answer-tabled =
-      ap (λ (w : ℕ → Option Solution). callAnswer (ground code L S (length page) (length content)) (all w (listOf S (λ k. k))) (first-none w (listOf S (λ k. k)))) strip-tabled
+      ap (λ (w : ℕ → Option Solution). callAnswer (ground code L S (length page) (length content)) (all w (listOf S (λ k. k)))
+      (first-none w (listOf S (λ k. k)))) strip-tabled
 
   -- and the page
   pub page-tabled : pageOf house code L S page content ≡ pageTabled
@@ -130,9 +134,11 @@ is-spent (A.Refused r) k e = absurd (false≢true e)
 passes : Case → Expected → Bool
 passes c reads = sameBytes (readPage (numbered (c .code)) (c .L) (c .S) (c .page)) (c .content)
 passes c (done cost after) =
-    isDone (answerTabled (c .code) (c .L) (c .S) (c .page) (c .content)) cost && sameBytes (pageTabled (c .code) (c .L) (c .S) (c .page) (c .content)) after
+    isDone (answerTabled (c .code) (c .L) (c .S) (c .page) (c .content)) cost && sameBytes
+    (pageTabled (c .code) (c .L) (c .S) (c .page) (c .content)) after
 passes c (spent k) =
-    isSpent (answerTabled (c .code) (c .L) (c .S) (c .page) (c .content)) k && sameBytes (pageTabled (c .code) (c .L) (c .S) (c .page) (c .content)) (c .page)
+    isSpent (answerTabled (c .code) (c .L) (c .S) (c .page) (c .content)) k && sameBytes
+    (pageTabled (c .code) (c .L) (c .S) (c .page) (c .content)) (c .page)
 
 -- a row that passes says what it says
 says : (c : Case) (x : Expected) → passes c x ≡ true → Expects answerTabled pageTabled c x
@@ -159,7 +165,8 @@ table-passes = refl
 -- THE THEOREM: the table holds of the answer and the page of a write with the house's weights
 pub cases-hold : Each (Says (answerOf house) (pageOf house)) cases
 cases-hold =
-    subst₂ (λ (a : ℕ → ℕ → ℕ → List ℕ → List ℕ → Answer) (p : ℕ → ℕ → ℕ → List ℕ → List ℕ → List ℕ). Each (Says a p) cases) (sym answers) (sym pages) (all-say cases table-passes)
+    subst₂ (λ (a : ℕ → ℕ → ℕ → List ℕ → List ℕ → Answer) (p : ℕ → ℕ → ℕ → List ℕ → List ℕ → List ℕ). Each (Says a p) cases) (sym answers)
+    (sym pages) (all-say cases table-passes)
   where
     answers : answerOf house ≡ answerTabled
     answers = fun-ext λ code. fun-ext λ L. fun-ext λ S. fun-ext λ page. fun-ext λ content. answer-tabled code L S page content

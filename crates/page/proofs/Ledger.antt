@@ -49,7 +49,8 @@ grows : (before after : List ℕ) → ((c : ℕ) → c < cellsOn before → leve
     → raisesOf (cellsOn before) after ≡ raisesOf (cellsOn before) before + raisesMade before after
 unfolding raisesOf raisesMade
 grows before after h =
-    sumOf-same (cellsOn before) _ _ (λ c l. omega (arith, h c l)) ∙ sumOf-add (cellsOn before) (level before) (λ c. level after c - level before c)
+    sumOf-same (cellsOn before) _ _ (λ c l. omega (arith, h c l))
+    ∙ sumOf-add (cellsOn before) (level before) (λ c. level after c - level before c)
 
 same-cells : (x y : List ℕ) → length x ≡ length y → cellsOn x ≡ cellsOn y
 unfolding cellsOn
@@ -69,7 +70,8 @@ unfolding cellsOn
 all-cells L S page e = omega arith
 
 -- a write lowers no cell and keeps the page's length, whatever its answer
-write-fair : (W : List ℕ) (code L S : ℕ) (before content after : List ℕ) (r : Answer) → Wrote W code L S before content after r → Fair 0 before (raised after)
+write-fair : (W : List ℕ) (code L S : ℕ) (before content after : List ℕ) (r : Answer) → Wrote W code L S before content after r
+    → Fair 0 before (raised after)
 write-fair W code L S before content after r (done e p) =
     let i = in-order code L S (length before) (length content) e in
     let s : length before ≡ 6 * L * S = rw (oneBit-bytes L) at (i .2) in
@@ -89,7 +91,8 @@ call-fair (erase L S tenths) page = go (erasing L S tenths page)
 call-fair look page = fair-look
 
 -- ANY SEQUENCE OF CALLS
-pub ledger-from : (cs : List Call) (page : List ℕ) (n : ℕ) → raisesOf (cellsOn page) page ≡ n → raisesOf (cellsOn (played cs page)) (played cs page) ≡ tallied cs page n
+pub ledger-from : (cs : List Call) (page : List ℕ) (n : ℕ) → raisesOf (cellsOn page) page ≡ n
+    → raisesOf (cellsOn (played cs page)) (played cs page) ≡ tallied cs page n
 unfolding played tallied
 ledger-from [] page n e = e
 ledger-from (c ∷ cs) page n e =

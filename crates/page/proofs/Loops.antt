@@ -58,7 +58,8 @@ unfolding part
 lent L k x = ap (λ (n : ℕ). take n (drop (L * k) x)) (add-sub-cancel-left (L * k) L)
 
 -- in a turn the strip ends within the page
-pub strip-fits : {L S : ℕ} {page content : List ℕ} → Sized oneBit L S page content → {k : ℕ} → k < S → bytesIn oneBit L * k + bytesIn oneBit L ≤ length page
+pub strip-fits : {L S : ℕ} {page content : List ℕ} → Sized oneBit L S page content → {k : ℕ} → k < S
+    → bytesIn oneBit L * k + bytesIn oneBit L ≤ length page
 strip-fits {L} {S} Z {k} h = omega (arith, Z .page-is, within (bytesIn oneBit L) k S h)
 
 -- and its part within the data
@@ -71,11 +72,13 @@ pub record PlannedTo (G : Generators) (W : List ℕ) (L S : ℕ) (page content d
   pub so-far : (j : ℕ) → j < k → Plans G W (stripAt L j page) (part L j content) (part L j digits)
 
 -- at first
-pub planned-none : {G : Generators} {W : List ℕ} {L S : ℕ} {page content digits : List ℕ} → length digits ≡ L * S → PlannedTo G W L S page content digits 0
+pub planned-none : {G : Generators} {W : List ℕ} {L S : ℕ} {page content digits : List ℕ} → length digits ≡ L * S
+    → PlannedTo G W L S page content digits 0
 planned-none e = record { size = e; so-far = λ j h. absurd (not-suc-le-zero h) }
 
 -- TURN k, with the strip x that `strip` gave
-module _ {L S : ℕ} {page content : List ℕ} (Z : Sized oneBit L S page content) {k : ℕ} (h : k < S) {x : List ℕ} (is : x ≡ stripOf L k page) where
+module _ {L S : ℕ} {page content : List ℕ} (Z : Sized oneBit L S page content) {k : ℕ} (h : k < S) {x : List ℕ}
+    (is : x ≡ stripOf L k page) where
   -- it is strip k
   strip-is : x ≡ stripAt L k page
   strip-is = is ∙ strip-there L S k page (Z .bytes-in) (Z .page-is) h
@@ -85,7 +88,8 @@ module _ {L S : ℕ} {page content : List ℕ} (Z : Sized oneBit L S page conten
   data-length = lent-length L k content (part-fits Z h)
 
   -- the strip and the part are in order
-  pub turn-shaped : {G : Generators} {W words : List ℕ} → words ≡ wordsOf G → Dear (stepsOf W) → Shaped G W words x (take (L * k + L - L * k) (drop (L * k) content))
+  pub turn-shaped : {G : Generators} {W words : List ℕ} → words ≡ wordsOf G → Dear (stepsOf W)
+      → Shaped G W words x (take (L * k + L - L * k) (drop (L * k) content))
   turn-shaped w D = record {
     words-are = w;
     size = ap length strip-is ∙ part-length (bytesIn oneBit L) S k page (Z .page-is) h ∙ ap (bytesIn oneBit) (sym data-length);
@@ -95,45 +99,61 @@ module _ {L S : ℕ} {page content : List ℕ} (Z : Sized oneBit L S page conten
 
   -- its outcome is that of the strip's write
   pub turn-outcome : {G : Generators} {W : List ℕ} {o : Outcome} → Suits G W → Dear (stepsOf W)
-      → o ≡ solutionOutcome (writeOf G W x (take (L * k + L - L * k) (drop (L * k) content))) → o ≡ solutionOutcome (stripWrite (plainJob G W L S page content) k)
+      → o ≡ solutionOutcome (writeOf G W x (take (L * k + L - L * k) (drop (L * k) content)))
+      → o ≡ solutionOutcome (stripWrite (plainJob G W L S page content) k)
   turn-outcome {G} {W} K D e =
       (rw (lent L k content, strip-is) at e)
-      ∙ ap solutionOutcome (write-same G W K D L S (one-to-64 L (Z .bytes-in) .1) page content k (ap length (sym (lent L k content)) ∙ data-length))
+      ∙ ap solutionOutcome
+      (write-same G W K D L S (one-to-64 L (Z .bytes-in) .1) page content k (ap length (sym (lent L k content)) ∙ data-length))
 
   -- with its digits the strips before it and it are planned
   pub planned-more : {G : Generators} {W digits ys : List ℕ} → PlannedTo G W L S page content digits k
-      → (length ys ≡ length (take (L * k + L - L * k) (drop (L * k) content))) × Plans G W x (take (L * k + L - L * k) (drop (L * k) content)) ys
+      → (length ys ≡ length (take (L * k + L - L * k) (drop (L * k) content)))
+      × Plans G W x (take (L * k + L - L * k) (drop (L * k) content)) ys
       → PlannedTo G W L S page content (take (L * k) digits ++ (ys ++ drop (L * k + L - L * k) (drop (L * k) digits))) (k + 1)
   planned-more {G} {W} {digits} {ys} p e =
       let fits : L * k + L ≤ length digits = omega (arith, p .size, within L k S h) in
       let long : length ys ≡ L = e .0 ∙ data-length in
       let own : Plans G W (stripAt L k page) (part L k content) ys = rw (lent L k content, strip-is) at (e .1) in
-      record { size = stored-length L k digits ys fits long ∙ p .size; so-far = part-more L k digits ys (λ j. Plans G W (stripAt L j page) (part L j content)) fits long own (p .so-far) }
+      record {
+        size = stored-length L k digits ys fits long ∙ p .size;
+        so-far = part-more L k digits ys (λ j. Plans G W (stripAt L j page) (part L j content)) fits long own (p .so-far);
+      }
 
 -- THE TOTAL after k strips: with the outcomes of the others it comes to the page's answer
 pub record Reached (J : Job) (total : Total) (k : ℕ) : Type 0 where
   pub comes-to : answerFor (totalFrom total (λ i. solutionOutcome (stripWrite J (k + i))) (J .strips - k)) ≡ answerIn none J
 
 -- at first
-pub reached-none : {G : Generators} {W : List ℕ} {L S : ℕ} {page content : List ℕ} → Suits G W → Dear (stepsOf W) → Sized oneBit L S page content → {t : Total}
+pub reached-none : {G : Generators} {W : List ℕ} {L S : ℕ} {page content : List ℕ} → Suits G W → Dear (stepsOf W)
+    → Sized oneBit L S page content → {t : Total}
     → t ≡ noTotal → Reached (plainJob G W L S page content) t 0
 unfolding answerIn
 reached-none {G} {W} {L} {S} {page} {content} K D Z e =
     let J : Job = plainJob G W L S page content in
     record {
-      comes-to = rw (e, sub-zero S) (ap answerFor (total-same noTotal _ (λ i. solutionOutcome (stripWrite J i)) S (λ i h. ap (λ (j : ℕ). solutionOutcome (stripWrite J j)) (omega arith)))
-          ∙ page-answers J (one-to-64 S (Z .strips-in) .1) (λ k h a. strip-below G W K D L S (one-to-64 L (Z .bytes-in) .1) page content k a));
+      comes-to =
+          rw (e, sub-zero S)
+          (ap answerFor
+          (total-same noTotal _ (λ i. solutionOutcome (stripWrite J i)) S
+          (λ i h. ap (λ (j : ℕ). solutionOutcome (stripWrite J j)) (omega arith)))
+          ∙ page-answers J (one-to-64 S (Z .strips-in) .1)
+          (λ k h a. strip-below G W K D L S (one-to-64 L (Z .bytes-in) .1) page content k a));
     }
 
 module _ {J : Job} where
   -- with one more strip
-  pub reached-more : {t u : Total} {k : ℕ} {o : Outcome} → Reached J t k → k < J .strips → o ≡ solutionOutcome (stripWrite J k) → u ≡ added t o → Reached J u (k + 1)
+  pub reached-more : {t u : Total} {k : ℕ} {o : Outcome} → Reached J t k → k < J .strips → o ≡ solutionOutcome (stripWrite J k)
+      → u ≡ added t o → Reached J u (k + 1)
   unfolding totalFrom
   reached-more {t} {u} {k} {o} r h e f =
       let s : J .strips - k ≡ suc (J .strips - (k + 1)) = omega arith in
       let e₀ : o ≡ solutionOutcome (stripWrite J (k + 0)) = e ∙ ap (λ (j : ℕ). solutionOutcome (stripWrite J j)) (omega arith) in
       record {
-        comes-to = ap answerFor (total-same u _ (λ i. solutionOutcome (stripWrite J (k + suc i))) (J .strips - (k + 1)) (λ i l. ap (λ (j : ℕ). solutionOutcome (stripWrite J j)) (omega arith)))
+        comes-to =
+            ap answerFor
+            (total-same u _ (λ i. solutionOutcome (stripWrite J (k + suc i))) (J .strips - (k + 1))
+            (λ i l. ap (λ (j : ℕ). solutionOutcome (stripWrite J j)) (omega arith)))
             ∙ rw (f, e₀) (rw s at (r .comes-to));
       }
 
@@ -157,7 +177,8 @@ module _ {J : Job} where
 pub record CarriedUpTo (G : Generators) (L S : ℕ) (before content digits page : List ℕ) (k : ℕ) : Type 0 where
   pub size : length page ≡ length before
   pub so-far : (j : ℕ) → j < k
-      → stripAt L j page ≡ raisedTo startOf (stripAt L j before) (carriedTo G (stripAt L j before) (part L j content) (bitOf (part L j digits)))
+      → stripAt L j page
+      ≡ raisedTo startOf (stripAt L j before) (carriedTo G (stripAt L j before) (part L j content) (bitOf (part L j digits)))
   pub rest : drop (bytesIn oneBit L * k) page ≡ drop (bytesIn oneBit L * k) before
 
 -- what is left of a list after part k is stored is what was left of the list before
@@ -166,8 +187,15 @@ rest-more : (w k : ℕ) (x y before : List ℕ) → w * k + w ≤ length x → l
 rest-more w k x y before h l e =
     let n : w * (k + 1) ≡ w * k + w = omega arith in
     let m : w * k + w - w * k ≡ w = omega arith in
-    rw (n, m, ← drop-drop w (w * k) (take (w * k) x ++ (y ++ drop w (drop (w * k) x))),
-    drop-at (take (w * k) x) (y ++ drop w (drop (w * k) x)) (w * k) (length-take-le (w * k) x (omega arith)), drop-at y (drop w (drop (w * k) x)) w l, e)
+    rw (
+      n,
+      m,
+      ← drop-drop w (w * k) (take (w * k) x ++ (y ++ drop w (drop (w * k) x))),
+      drop-at (take (w * k) x) (y ++ drop w (drop (w * k) x)) (w * k) (length-take-le (w * k) x (omega arith)),
+      drop-at y
+          (drop w (drop (w * k) x)) w l,
+      e,
+    )
     (drop-drop w (w * k) before)
 
 -- at first
@@ -175,10 +203,12 @@ pub carried-none : {G : Generators} {L S : ℕ} {before content digits : List �
 carried-none = record { size = refl; so-far = λ j h. absurd (not-suc-le-zero h); rest = refl }
 
 -- with one more strip, where b is the bytes of a strip
-pub carried-more : {G : Generators} {L S b : ℕ} {before content digits page ys : List ℕ} {k : ℕ} → CarriedUpTo G L S before content digits page k
+pub carried-more : {G : Generators} {L S b : ℕ} {before content digits page ys : List ℕ} {k : ℕ}
+    → CarriedUpTo G L S before content digits page k
     → b ≡ bytesIn oneBit L → length before ≡ bytesIn oneBit L * S → k < S
     → ys ≡ raisedTo startOf (take (b * k + b - b * k) (drop (b * k) page))
-    (carriedTo G (take (b * k + b - b * k) (drop (b * k) page)) (take (L * k + L - L * k) (drop (L * k) content)) (bitOf (take (L * k + L - L * k) (drop (L * k) digits))))
+    (carriedTo G (take (b * k + b - b * k) (drop (b * k) page)) (take (L * k + L - L * k) (drop (L * k) content))
+    (bitOf (take (L * k + L - L * k) (drop (L * k) digits))))
     → CarriedUpTo G L S before content digits (take (b * k) page ++ (ys ++ drop (b * k + b - b * k) (drop (b * k) page))) (k + 1)
 unfolding part
 carried-more {G} {L} {S} {b} {before} {content} {digits} {page} {ys} {k} p q z h e = rw q (go (rw q at e))
@@ -187,7 +217,8 @@ carried-more {G} {L} {S} {b} {before} {content} {digits} {page} {ys} {k} p q z h
     n = bytesIn oneBit L
 
     go : ys ≡ raisedTo startOf (take (n * k + n - n * k) (drop (n * k) page))
-        (carriedTo G (take (n * k + n - n * k) (drop (n * k) page)) (take (L * k + L - L * k) (drop (L * k) content)) (bitOf (take (L * k + L - L * k) (drop (L * k) digits))))
+        (carriedTo G (take (n * k + n - n * k) (drop (n * k) page)) (take (L * k + L - L * k) (drop (L * k) content))
+        (bitOf (take (L * k + L - L * k) (drop (L * k) digits))))
         → CarriedUpTo G L S before content digits (take (n * k) page ++ (ys ++ drop (n * k + n - n * k) (drop (n * k) page))) (k + 1)
     go e =
         let own = rw (lent n k page, lent L k content, lent L k digits, p .rest) at e in
@@ -195,7 +226,9 @@ carried-more {G} {L} {S} {b} {before} {content} {digits} {page} {ys} {k} p q z h
         let fits : n * k + n ≤ length page = omega (arith, p .size, within n k S h) in
         record {
           size = stored-length n k page ys fits own-length ∙ p .size;
-          so-far = part-more n k page ys (λ j y. y ≡ raisedTo startOf (stripAt L j before) (carriedTo G (stripAt L j before) (part L j content) (bitOf (part L j digits))))
+          so-far = part-more n k page ys
+              (λ j y. y ≡ raisedTo startOf (stripAt L j before)
+              (carriedTo G (stripAt L j before) (part L j content) (bitOf (part L j digits))))
               fits own-length own (p .so-far);
           rest = rest-more n k page ys before fits own-length (p .rest);
         }
@@ -217,7 +250,8 @@ pub front-back : (n : ℕ) (y rest : List ℕ) → length y ≡ n → take (n - 
 front-back n y rest e = rw (sub-zero n) (take-at y rest n e)
 
 -- THE PAGE that a write leaves, by the plans' answer
-module _ {G : Generators} {W : List ℕ} (K : Suits G W) (D : Dear (stepsOf W)) {L S : ℕ} {before content : List ℕ} (Z : Sized oneBit L S before content)
+module _ {G : Generators} {W : List ℕ} (K : Suits G W) (D : Dear (stepsOf W)) {L S : ℕ} {before content : List ℕ}
+    (Z : Sized oneBit L S before content)
     {r : Answer} (e : r ≡ answerIn none (plainJob G W L S before content)) where
   -- the job
   abbrev J : Job
@@ -228,7 +262,8 @@ module _ {G : Generators} {W : List ℕ} (K : Suits G W) (D : Dear (stepsOf W)) 
   raised a = raisedTo (startIn (cellsIn oneBit L)) before (levelAt (a .levels))
 
   -- where it is done, each strip is carried out as it was planned
-  pub done-page : {digits after : List ℕ} {cost : ℕ} → r ≡ A.Done cost → Planned G W L S before content digits → Carried G L S before content digits after
+  pub done-page : {digits after : List ℕ} {cost : ℕ} → r ≡ A.Done cost → Planned G W L S before content digits
+      → Carried G L S before content digits after
       → after ≡ pageIn none (plainJob G W L S before content)
   unfolding pageIn answerIn
   done-page {digits} {after} {cost} f p c = go (pageWrite J) refl
@@ -297,6 +332,7 @@ module _ {code L S : ℕ} {before content : List ℕ} {j : Completion} (J : Judg
   refused-page e = rw (the-ground e)
 
 -- such an answer and such a page keep the promise
-pub kept-by : (code L S : ℕ) (before content : List ℕ) {after : List ℕ} {r : Answer} → Octets content → after ≡ pageOf house code L S before content
+pub kept-by : (code L S : ℕ) (before content : List ℕ) {after : List ℕ} {r : Answer} → Octets content
+    → after ≡ pageOf house code L S before content
     → r ≡ answerOf house code L S before content → Wrote house code L S before content after r
 kept-by code L S before content b p e = rw (p, e) (wrote house code L S before content b)

@@ -39,7 +39,8 @@ use Rattle.page.proofs.Promise.{oneBit-whole}
 
 module _ (G : Generators) (W : List ℕ) (K : Suits G W) (D : Dear (stepsOf W)) (L S : ℕ) (most : L ≤ 64) (before content : List ℕ) where
   -- the write of strip k, as the functions of a strip speak of it
-  pub write-same : (k : ℕ) → length (part L k content) ≡ L → writeOf G W (stripAt L k before) (part L k content) ≡ stripWrite (plainJob G W L S before content) k
+  pub write-same : (k : ℕ) → length (part L k content) ≡ L
+      → writeOf G W (stripAt L k before) (part L k content) ≡ stripWrite (plainJob G W L S before content) k
   unfolding stripWrite stripBytes
   write-same k e = ap (λ (n : ℕ). rewriteOf oneBit G W n (stripAt L k before) unmarked (part L k content)) e
 
@@ -69,11 +70,13 @@ module _ (G : Generators) (W : List ℕ) (K : Suits G W) (D : Dear (stepsOf W)) 
 
   -- THE PAGE AFTER IT, where there is a write
   pub carried-page : length before ≡ bytesIn oneBit L * S → length content ≡ L * S → (digits after : List ℕ) (a : Solution)
-      → pageWrite (plainJob G W L S before content) ≡ some a → Planned G W L S before content digits → Carried G L S before content digits after
+      → pageWrite (plainJob G W L S before content) ≡ some a → Planned G W L S before content digits
+      → Carried G L S before content digits after
       → after ≡ raisedTo (startIn (cellsIn oneBit L)) before (levelAt (a .levels))
   unfolding startIn
   carried-page size fill digits after a e p c =
-      parts-same b S after (raisedTo (startIn n) before (levelAt (a .levels))) (c .same-size ∙ size) (raisedTo-length (startIn n) before _ ∙ size) strip
+      parts-same b S after (raisedTo (startIn n) before (levelAt (a .levels))) (c .same-size ∙ size)
+      (raisedTo-length (startIn n) before _ ∙ size) strip
     where
       n : ℕ
       n = cellsIn oneBit L
@@ -89,14 +92,17 @@ module _ (G : Generators) (W : List ℕ) (K : Suits G W) (D : Dear (stepsOf W)) 
       strip k h =
           c .carried k h
           ∙ raisedTo-same startOf (stripAt L k before) _ (λ i. levelAt (a .levels) (n * k + i)) (λ i l. level-is i (cell k h i l))
-          ∙ raisedTo-start startOf (λ i. startIn n (n * k + i)) (stripAt L k before) _ (λ i l. ap startOf (sym (place-mod n k i (cell k h i l))))
+          ∙ raisedTo-start startOf (λ i. startIn n (n * k + i))
+          (stripAt L k before) _ (λ i l. ap startOf (sym (place-mod n k i (cell k h i l))))
           ∙ sym (part-raised n b (oneBit-whole L .cells-fill) k before (startIn n) (levelAt (a .levels)) S size h)
         where
           long : length (part L k content) ≡ L
           long = part-length L S k content fill h
 
-          level-is : (i : ℕ) → i < n → carriedTo G (stripAt L k before) (part L k content) (bitOf (part L k digits)) i ≡ levelAt (a .levels) (n * k + i)
-          level-is i l = p .planned a e k h .leads (own a e k h .own) (write-same k long ∙ own a e k h .is) i (rw long l) ∙ own-level a e k h i l
+          level-is : (i : ℕ) → i < n → carriedTo G (stripAt L k before) (part L k content) (bitOf (part L k digits)) i
+              ≡ levelAt (a .levels) (n * k + i)
+          level-is i l =
+              p .planned a e k h .leads (own a e k h .own) (write-same k long ∙ own a e k h .is) i (rw long l) ∙ own-level a e k h i l
 
   -- NO CELL RISES BY MORE THAN ONE
   pub page-near : (a : Solution) → pageWrite (plainJob G W L S before content) ≡ some a → (c : ℕ) → c < cellsIn oneBit L * S
@@ -109,5 +115,9 @@ module _ (G : Generators) (W : List ℕ) (K : Suits G W) (D : Dear (stepsOf W)) 
 
       near : (k i : ℕ) → k < S → i < n → levelAt (a .levels) (n * k + i) ≤ suc (level before (n * k + i))
       near k i h l =
-          omega (arith, own-level a e k h i l, part-level n (bytesIn oneBit L) (oneBit-whole L .cells-fill) k before i l,
-          write-near G W K D L most (stripAt L k before) (part L k content) (own a e k h .own) (own a e k h .is) i l)
+          omega (
+            arith,
+            own-level a e k h i l,
+            part-level n (bytesIn oneBit L) (oneBit-whole L .cells-fill) k before i l,
+            write-near G W K D L most (stripAt L k before) (part L k content) (own a e k h .own) (own a e k h .is) i l,
+          )

@@ -41,7 +41,9 @@ pub promise-kept : (g : Option Refusal) (J : Job) → (g ≡ none → InOrder J)
 unfolding pageIn answerIn
 promise-kept g J I = go g refl (pageWrite J) refl
   where
-    go : (h : Option Refusal) → g ≡ h → (w : Option Solution) → pageWrite J ≡ w → Promised g J (callPage h w (λ a. raisedTo (startIn (width J)) (J .page) (levelAt (a .levels))) (J .page)) (callAnswer h w (spentStrip J))
+    go : (h : Option Refusal) → g ≡ h → (w : Option Solution) → pageWrite J ≡ w
+        → Promised g J (callPage h w (λ a. raisedTo (startIn (width J)) (J .page) (levelAt (a .levels))) (J .page))
+        (callAnswer h w (spentStrip J))
     go (some r) e w f = refused e refl
     go none e (some a) f = done e (cheapest J (I e) a f)
     go none e none f = spent e (spent-at J (I e) f) refl
@@ -78,7 +80,8 @@ numbered-suits code W three bytes =
     record { proper = numbered-proper code .0; both = numbered-both code; reach = numbered-proper code .1; three = three; bytes = bytes }
 
 -- A CALL without a ground is in order
-pub job-in-order : (W : List ℕ) (code L S : ℕ) (before content : List ℕ) → Octets content → ground code L S (length before) (length content) ≡ none
+pub job-in-order : (W : List ℕ) (code L S : ℕ) (before content : List ℕ) → Octets content
+    → ground code L S (length before) (length content) ≡ none
     → InOrder (jobOf W code L S before content)
 job-in-order W code L S before content b e =
     let i = in-order code L S (length before) (length content) e in
@@ -89,15 +92,18 @@ pub wrote : (W : List ℕ) (code L S : ℕ) (before content : List ℕ) → Octe
     → Wrote W code L S before content (pageOf W code L S before content) (answerOf W code L S before content)
 unfolding pageOf answerOf
 wrote W code L S before content b =
-    promise-kept (ground code L S (length before) (length content)) (jobOf W code L S before content) (job-in-order W code L S before content b)
+    promise-kept (ground code L S (length before) (length content)) (jobOf W code L S before content)
+    (job-in-order W code L S before content b)
 
 -- SPENT EXACTLY WHEN there is no such page: of a call in order, done and spent exclude each other and there is no third
-pub done-not-spent : {g : Option Refusal} {J : Job} {after : List ℕ} {r : Answer} → Promised g J after r → g ≡ none → ((other : List ℕ) → Could J other → ⊥)
+pub done-not-spent : {g : Option Refusal} {J : Job} {after : List ℕ} {r : Answer} → Promised g J after r → g ≡ none
+    → ((other : List ℕ) → Could J other → ⊥)
     → (k : ℕ) × (r ≡ A.Spent k)
 done-not-spent (done e p) g n = absurd (n _ (p .could))
 done-not-spent (spent {k = k} e p f) g n = (k, refl)
 done-not-spent (refused {r = r} e f) g n = let z : _≡_ {A = ℕ} 0 1 = cc in absurd (omega arith)
 
 -- and where the answer is spent there is no such page
-pub spent-no-page : {g : Option Refusal} {J : Job} {after : List ℕ} {k : ℕ} → Promised g J after (A.Spent k) → (other : List ℕ) → Could J other → ⊥
+pub spent-no-page : {g : Option Refusal} {J : Job} {after : List ℕ} {k : ℕ} → Promised g J after (A.Spent k) → (other : List ℕ)
+    → Could J other → ⊥
 spent-no-page (spent e p f) = p .no-page

@@ -60,8 +60,13 @@ unfolding ground pageGround dataGround
 in-order code L S page content e =
     let p = neither (sizesGround code L S) (first-of (pageGround oneBit L S page) (dataGround L S content)) e in
     let q = neither (pageGround oneBit L S page) (dataGround L S content) (p .1) in
-    let l = limits-in-order L S (sizes-limits code L S (p .0)) in
-    (l .0, l .1, eqb-true page (bytesIn oneBit L * S) (no-ground (eqb page (bytesIn oneBit L * S)) _ (q .0)), eqb-true content (L * S) (no-ground (eqb content (L * S)) _ (q .1)))
+    let l = limits-in-order L S (sizes-limits code L S (p .0)) in (
+      l .0,
+      l .1,
+      eqb-true page (bytesIn oneBit L * S) (no-ground (eqb page (bytesIn oneBit L * S)) _ (q .0)),
+      eqb-true content (L * S)
+          (no-ground (eqb content (L * S)) _ (q .1)),
+    )
 
 -- an answer that is done has no ground
 pub done-none : (g : Option Refusal) → completionOf g ≡ Done → g ≡ none
@@ -74,10 +79,12 @@ refused-some none e = let z : _≡_ {A = ℕ} 0 1 = cc in absurd (omega arith)
 refused-some (some s) e = cc
 
 -- and it is that of whatever is tested after it
-pub refused-first : (g h : Option Refusal) (c : Completion) {r : Refusal} → c ≡ completionOf g → c ≡ Refused r → c ≡ completionOf (first-of g h)
+pub refused-first : (g h : Option Refusal) (c : Completion) {r : Refusal} → c ≡ completionOf g → c ≡ Refused r
+    → c ≡ completionOf (first-of g h)
 refused-first none h c e f = let z : _≡_ {A = ℕ} 0 1 = cc in absurd (omega arith)
 refused-first (some s) h c e f = e
 
 -- where the first ground does not apply, what is tested after it decides
-pub done-next : (g h : Option Refusal) {c d : Completion} → c ≡ completionOf g → c ≡ Done → d ≡ completionOf h → d ≡ completionOf (first-of g h)
+pub done-next : (g h : Option Refusal) {c d : Completion} → c ≡ completionOf g → c ≡ Done → d ≡ completionOf h
+    → d ≡ completionOf (first-of g h)
 done-next g h e f k = rw (done-none g (sym e ∙ f)) k

@@ -68,16 +68,19 @@ module _ (L k : ℕ) (page : List ℕ) where
   pub strip-beyond : oneTo64 L ≡ true → length page / (bytesIn oneBit L) ≤ k → stripOf L k page ≡ []
   unfolding stripOf inPage
   strip-beyond e h =
-      let l : length page < bytesIn oneBit L * suc k = omega (arith, part-beyond (bytesIn oneBit L) k (length page) (omega (arith, one-to-64 L e, oneBit-bytes L)) h) in
+      let l : length page < bytesIn oneBit L * suc k =
+      omega (arith, part-beyond (bytesIn oneBit L) k (length page) (omega (arith, one-to-64 L e, oneBit-bytes L)) h) in
       simp (e, lt-leb _ _ l)
 
   -- the strip where it ends within the page
-  pub strip-inside : oneTo64 L ≡ true → bytesIn oneBit L * k + bytesIn oneBit L ≤ length page → stripOf L k page ≡ part (bytesIn oneBit L) k page
+  pub strip-inside : oneTo64 L ≡ true → bytesIn oneBit L * k + bytesIn oneBit L ≤ length page
+      → stripOf L k page ≡ part (bytesIn oneBit L) k page
   unfolding stripOf inPage
   strip-inside e h = let l : bytesIn oneBit L * suc k ≤ length page = omega arith in simp (e, le-leb _ _ l)
 
 -- each of the S strips of a page lies in it
-pub strip-there : (L S k : ℕ) (page : List ℕ) → oneTo64 L ≡ true → length page ≡ bytesIn oneBit L * S → k < S → stripOf L k page ≡ part (bytesIn oneBit L) k page
+pub strip-there : (L S k : ℕ) (page : List ℕ) → oneTo64 L ≡ true → length page ≡ bytesIn oneBit L * S → k < S
+    → stripOf L k page ≡ part (bytesIn oneBit L) k page
 strip-there L S k page e p h = strip-inside L k page e (omega (arith, within (bytesIn oneBit L) k S h))
 
 -- PARTS STORED ONE BY ONE. Part j of a list is that of its front where it lies there
@@ -93,11 +96,13 @@ pub lent-length : (w k : ℕ) (x : List ℕ) → w * k + w ≤ length x → leng
 lent-length w k x h = rw (add-sub-cancel-left (w * k) w) (length-take-le w (drop (w * k) x) (omega (arith, length-drop (w * k) x)))
 
 -- part k stored: the list is as long as it was
-pub stored-length : (w k : ℕ) (x y : List ℕ) → w * k + w ≤ length x → length y ≡ w → length (take (w * k) x ++ (y ++ drop (w * k + w - w * k) (drop (w * k) x))) ≡ length x
+pub stored-length : (w k : ℕ) (x y : List ℕ) → w * k + w ≤ length x → length y ≡ w
+    → length (take (w * k) x ++ (y ++ drop (w * k + w - w * k) (drop (w * k) x))) ≡ length x
 stored-length w k x y h l = same-len-mid (w * k) (w * k + w - w * k) x y (l ∙ sym (lent-length w k x h))
 
 -- part k stored: what holds of the parts before it, and of it, holds of the parts as a loop has them after turn k
-pub part-more : (w k : ℕ) (x y : List ℕ) (P : ℕ → List ℕ → Type 0) → w * k + w ≤ length x → length y ≡ w → P k y → ((j : ℕ) → j < k → P j (part w j x))
+pub part-more : (w k : ℕ) (x y : List ℕ) (P : ℕ → List ℕ → Type 0) → w * k + w ≤ length x → length y ≡ w → P k y
+    → ((j : ℕ) → j < k → P j (part w j x))
     → (j : ℕ) → j < k + 1 → P j (part w j (take (w * k) x ++ (y ++ drop (w * k + w - w * k) (drop (w * k) x))))
 unfolding part
 part-more w k x y P h l e p = below-more (λ (j : ℕ). P j (part w j (take (w * k) x ++ (y ++ rest)))) k before (subst⁻¹ (P k) here e)
@@ -111,7 +116,8 @@ part-more w k x y P h l e p = below-more (λ (j : ℕ). P j (part w j (take (w *
     same : (j : ℕ) → j < k → part w j (take (w * k) x ++ (y ++ rest)) ≡ part w j x
     same j m =
         let z : w * j + w ≤ length (take (w * k) x) = omega (arith, front, within w j k m) in
-        part-front w j (take (w * k) x) (y ++ rest) z ∙ sym (part-front w j (take (w * k) x) (drop (w * k) x) z) ∙ ap (part w j) (take-append-drop (w * k) x)
+        part-front w j (take (w * k) x) (y ++ rest) z ∙ sym (part-front w j (take (w * k) x) (drop (w * k) x) z)
+        ∙ ap (part w j) (take-append-drop (w * k) x)
 
     before : (j : ℕ) → j < k → P j (part w j (take (w * k) x ++ (y ++ rest)))
     before j m = subst⁻¹ (P j) (same j m) (p j m)

@@ -29,13 +29,15 @@ use Rattle.page.specs.declared.Answer.the-variants as A
 pub total-spent : (t : Total) (f : ℕ → Outcome) (n : ℕ) → t .spent ≡ true → totalFrom t f n ≡ t
 unfolding totalFrom
 total-spent t f zero e = refl
-total-spent t f (suc n) e = let s : added t (f 0) ≡ t = ap (λ (b : Bool). unlessSpent b t (withOutcome t (f 0))) e in ap (λ (u : Total). totalFrom u (λ i. f (suc i)) n) s ∙ total-spent t (λ i. f (suc i)) n e
+total-spent t f (suc n) e = let s : added t (f 0) ≡ t = ap (λ (b : Bool). unlessSpent b t (withOutcome t (f 0))) e in
+    ap (λ (u : Total). totalFrom u (λ i. f (suc i)) n) s ∙ total-spent t (λ i. f (suc i)) n e
 
 -- outcomes that agree make the same total
 pub total-same : (t : Total) (f g : ℕ → Outcome) (n : ℕ) → ((i : ℕ) → i < n → f i ≡ g i) → totalFrom t f n ≡ totalFrom t g n
 unfolding totalFrom
 total-same t f g zero e = refl
-total-same t f g (suc n) e = ap (λ (o : Outcome). totalFrom (added t o) (λ i. f (suc i)) n) (e 0 (omega arith)) ∙ total-same (added t (g 0)) (λ i. f (suc i)) (λ i. g (suc i)) n (λ i h. e (suc i) (omega arith))
+total-same t f g (suc n) e = ap (λ (o : Outcome). totalFrom (added t o) (λ i. f (suc i)) n) (e 0 (omega arith))
+    ∙ total-same (added t (g 0)) (λ i. f (suc i)) (λ i. g (suc i)) n (λ i h. e (suc i) (omega arith))
 
 -- a total that has room for n more strips
 pub record Room (t : Total) (n : ℕ) : Type 0 where
@@ -53,7 +55,8 @@ module _ (w : ℕ → Option Solution) where
   pub Bounded : (ℕ → ℕ) → ℕ → Type 0
   Bounded g n = (j : ℕ) → j < n → (a : Solution) → w (g j) ≡ some a → a .cost < closed
 
-  pub total-answers : (n : ℕ) (g : ℕ → ℕ) (t : Total) → Room t n → Bounded g n → answerFor (totalFrom t (λ j. solutionOutcome (w (g j))) n) ≡ answersAfter t (all w (listOf n g)) (first-none w (listOf n g))
+  pub total-answers : (n : ℕ) (g : ℕ → ℕ) (t : Total) → Room t n → Bounded g n → answerFor (totalFrom t (λ j. solutionOutcome (w (g j))) n)
+      ≡ answersAfter t (all w (listOf n g)) (first-none w (listOf n g))
   unfolding totalFrom all first-none listOf joined solutionOutcome Bounded
   total-answers zero g t r b =
       let e : t .cost % 2 ^ 32 ≡ t .cost = mod-eq-of-lt (omega (arith, r .cost-room)) in
@@ -65,8 +68,10 @@ module _ (w : ℕ → Option Solution) where
       adds o = ap (λ (s : Bool). unlessSpent s t (withOutcome t o)) (r .unspent)
 
       go : (x : Option Solution) → w (g 0) ≡ x → (q : Option Solution)
-          → ((u : Total) → Room u n → ((j : ℕ) → j < n → (a : Solution) → w (g (suc j)) ≡ some a → a .cost < closed) → answerFor (totalFrom u (λ j. solutionOutcome (w (g (suc j)))) n) ≡ answersAfter u q (first-none w (listOf n (λ i. g (suc i)))))
-          → answerFor (totalFrom (added t (solutionOutcome x)) (λ j. solutionOutcome (w (g (suc j)))) n) ≡ answersAfter t (joined x q) (elim x [ none ↦ 0 | some a ↦ suc (first-none w (listOf n (λ i. g (suc i)))) ])
+          → ((u : Total) → Room u n → ((j : ℕ) → j < n → (a : Solution) → w (g (suc j)) ≡ some a → a .cost < closed)
+          → answerFor (totalFrom u (λ j. solutionOutcome (w (g (suc j)))) n) ≡ answersAfter u q (first-none w (listOf n (λ i. g (suc i)))))
+          → answerFor (totalFrom (added t (solutionOutcome x)) (λ j. solutionOutcome (w (g (suc j)))) n)
+          ≡ answersAfter t (joined x q) (elim x [ none ↦ 0 | some a ↦ suc (first-none w (listOf n (λ i. g (suc i)))) ])
       go none e q f =
           rw (adds O.Spent, total-spent (withOutcome t O.Spent) (λ j. solutionOutcome (w (g (suc j)))) n refl) (ap A.Spent (omega arith))
       go (some a) e q f =
@@ -74,11 +79,19 @@ module _ (w : ℕ → Option Solution) where
           let s : (t .cost + a .cost) % 2 ^ 64 ≡ t .cost + a .cost = mod-eq-of-lt (omega (arith, r .cost-room)) in
           let k : (t .strips + 1) % 2 ^ 32 ≡ t .strips + 1 = mod-eq-of-lt (omega (arith, r .strip-room)) in
           let u : Total = record { cost = t .cost + a .cost; strips = t .strips + 1; spent = false } in
-          let v : added t (O.Done (a .cost)) ≡ u = adds (O.Done (a .cost)) ∙ ap₂ (λ (x y : ℕ). record { cost = x; strips = y; spent = false }) s k in
-          let room : Room u n = record { unspent = refl; cost-room = omega (arith, r .cost-room); strip-room = omega (arith, r .strip-room) } in
+          let v : added t (O.Done (a .cost)) ≡ u = adds (O.Done (a .cost))
+          ∙ ap₂ (λ (x y : ℕ). record { cost = x; strips = y; spent = false }) s k in
+          let room : Room u n = record {
+            unspent = refl;
+            cost-room = omega (arith, r .cost-room);
+            strip-room = omega (arith, r .strip-room);
+          } in
           rw v (f u room (λ j h. b (suc j) (omega arith)) ∙ ends q)
         where
-          ends : (q : Option Solution) → answersAfter (record { cost = t .cost + a .cost; strips = t .strips + 1; spent = false }) q (first-none w (listOf n (λ i. g (suc i)))) ≡ answersAfter t (joined (some a) q) (suc (first-none w (listOf n (λ i. g (suc i)))))
+          ends : (q : Option Solution)
+              → answersAfter (record { cost = t .cost + a .cost; strips = t .strips + 1; spent = false }) q
+              (first-none w (listOf n (λ i. g (suc i))))
+              ≡ answersAfter t (joined (some a) q) (suc (first-none w (listOf n (λ i. g (suc i)))))
           ends none = ap A.Spent (omega arith)
           ends (some d) = ap A.Done (omega arith)
 
@@ -87,7 +100,8 @@ pub page-answers : (J : Job) → J .strips ≤ 64 → ((k : ℕ) → k < J .stri
     → answerFor (totalFrom noTotal (λ k. solutionOutcome (stripWrite J k)) (J .strips)) ≡ callAnswer none (pageWrite J) (spentStrip J)
 unfolding pageWrite spentStrip Bounded
 page-answers J h b =
-    total-answers (stripWrite J) (J .strips) (λ k. k) noTotal (record { unspent = refl; cost-room = omega arith; strip-room = omega arith }) b
+    total-answers (stripWrite J) (J .strips) (λ k. k) noTotal
+    (record { unspent = refl; cost-room = omega arith; strip-room = omega arith }) b
     ∙ ends (all (stripWrite J) (listOf (J .strips) (λ k. k)))
   where
     ends : (q : Option Solution) → answersAfter noTotal q (first-none (stripWrite J) (listOf (J .strips) (λ k. k)))

@@ -40,4 +40,5 @@ rowsOf lay (some r) L S page = listOf 64 (λ k. zeroRow)
 
 -- the census, one bit a cell
 unfoldable pub censusOf : ℕ → ℕ → List ℕ → Census
-censusOf L S page = record { answer = completionOf (shapeGround L S (length page)); rows = rowsOf oneBit (shapeGround L S (length page)) L S page }
+censusOf L S page =
+    record { answer = completionOf (shapeGround L S (length page)); rows = rowsOf oneBit (shapeGround L S (length page)) L S page }

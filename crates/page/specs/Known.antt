@@ -31,9 +31,11 @@ module _ (answers : ℕ → ℕ → ℕ → List ℕ → List ℕ → Answer) (p
   abbrev pub Expects : Case → Expected → Type 0
   Expects c reads = readPage (numbered (c .code)) (c .L) (c .S) (c .page) ≡ c .content
   Expects c (done cost after) =
-      (answers (c .code) (c .L) (c .S) (c .page) (c .content) ≡ A.Done cost) × (pages (c .code) (c .L) (c .S) (c .page) (c .content) ≡ after)
+      (answers (c .code) (c .L) (c .S) (c .page) (c .content) ≡ A.Done cost)
+      × (pages (c .code) (c .L) (c .S) (c .page) (c .content) ≡ after)
   Expects c (spent k) =
-      (answers (c .code) (c .L) (c .S) (c .page) (c .content) ≡ A.Spent k) × (pages (c .code) (c .L) (c .S) (c .page) (c .content) ≡ c .page)
+      (answers (c .code) (c .L) (c .S) (c .page) (c .content) ≡ A.Spent k)
+      × (pages (c .code) (c .L) (c .S) (c .page) (c .content) ≡ c .page)
 
   abbrev pub Says : Case → Type 0
   Says c = Expects c (c .expected)

@@ -30,4 +30,5 @@ pub record Planned (G : Generators) (W : List ℕ) (L S : ℕ) (page content dig
 pub record Carried (G : Generators) (L S : ℕ) (before content digits after : List ℕ) : Type 0 where
   pub same-size : length after ≡ length before
   pub carried : (k : ℕ) → k < S
-      → stripAt L k after ≡ raisedTo startOf (stripAt L k before) (carriedTo G (stripAt L k before) (part L k content) (bitOf (part L k digits)))
+      → stripAt L k after
+      ≡ raisedTo startOf (stripAt L k before) (carriedTo G (stripAt L k before) (part L k content) (bitOf (part L k digits)))

@@ -24,4 +24,5 @@ pub data Promised (g : Option Refusal) (J : Job) (after : List ℕ) : Answer →
 
 -- of a write with the weights W
 abbrev pub Wrote : (W : List ℕ) (code L S : ℕ) (before content after : List ℕ) → Answer → Type 0
-Wrote W code L S before content after r = Promised (ground code L S (length before) (length content)) (jobOf W code L S before content) after r
+Wrote W code L S before content after r =
+    Promised (ground code L S (length before) (length content)) (jobOf W code L S before content) after r

@@ -87,7 +87,8 @@ no-worse-trans (cheaper p) (tied q m) = cheaper (omega arith)
 no-worse-trans (tied p l) (cheaper q) = cheaper (omega arith)
 no-worse-trans (tied p l) (tied q m) = tied (p ∙ q) (lex-trans l m)
 
-no-worse-join : {c d e f : ℕ} {x y v w : List ℕ} → length x ≡ length y → NoWorse c x d y → NoWorse e v f w → NoWorse (c + e) (x ++ v) (d + f) (y ++ w)
+no-worse-join : {c d e f : ℕ} {x y v w : List ℕ} → length x ≡ length y → NoWorse c x d y → NoWorse e v f w
+    → NoWorse (c + e) (x ++ v) (d + f) (y ++ w)
 no-worse-join l (cheaper p) (cheaper q) = cheaper (omega arith)
 no-worse-join l (cheaper p) (tied q m) = cheaper (omega arith)
 no-worse-join l (tied p k) (cheaper q) = cheaper (omega arith)
@@ -96,15 +97,18 @@ no-worse-join l (tied p k) (tied q m) = tied (ap₂ (λ (a b : ℕ). a + b) p q)
 beats-true : (a b : Solution) → beats a b ≡ true → NoWorse (a .cost) (a .levels) (b .cost) (b .levels)
 unfolding beats
 beats-true a b e =
-    ⊎-elim (λ p. cheaper p) (λ p. tied (p .0) (lex-true (a .levels) (b .levels) (p .1))) (before-true (a .cost) (b .cost) (lexltb (a .levels) (b .levels)) e)
+    ⊎-elim (λ p. cheaper p) (λ p. tied (p .0) (lex-true (a .levels) (b .levels) (p .1)))
+    (before-true (a .cost) (b .cost) (lexltb (a .levels) (b .levels)) e)
 
 beats-false : (a b : Solution) → beats a b ≡ false → NoWorse (b .cost) (b .levels) (a .cost) (a .levels)
 unfolding beats
 beats-false a b e =
-    ⊎-elim (λ p. cheaper p) (λ p. tied (p .0) (lex-false (a .levels) (b .levels) (p .1))) (before-false (a .cost) (b .cost) (lexltb (a .levels) (b .levels)) e)
+    ⊎-elim (λ p. cheaper p) (λ p. tied (p .0) (lex-false (a .levels) (b .levels) (p .1)))
+    (before-false (a .cost) (b .cost) (lexltb (a .levels) (b .levels)) e)
 
 -- either of two problems
-best-either : (A : Bool → Problem) (a b : Solution) (t : Bool) → beats b a ≡ t → Best (A false) a → Best (A true) b → Best (Either A) (cond t b a)
+best-either : (A : Bool → Problem) (a b : Solution) (t : Bool) → beats b a ≡ t → Best (A false) a → Best (A true) b
+    → Best (Either A) (cond t b a)
 best-either A a b true e p q = record { valid = digit true (q .valid); least = go }
   where
     go : (d : ℕ) (y : List ℕ) → Either A d y → NoWorse (b .cost) (b .levels) d y
@@ -142,7 +146,16 @@ best-product : (k : ℕ) {A B : Problem} {a b : Solution} → Width k A → Best
 best-product k {A} {B} {a} {b} l p q = record { valid = pair; least = go }
   where
     pair : Product A B (a .cost + b .cost) (a .levels ++ b .levels)
-    pair = record { cost₁ = a .cost; levels₁ = a .levels; cost₂ = b .cost; levels₂ = b .levels; valid₁ = p .valid; valid₂ = q .valid; sum = refl; append = refl }
+    pair = record {
+      cost₁ = a .cost;
+      levels₁ = a .levels;
+      cost₂ = b .cost;
+      levels₂ = b .levels;
+      valid₁ = p .valid;
+      valid₂ = q .valid;
+      sum = refl;
+      append = refl;
+    }
 
     go : (d : ℕ) (y : List ℕ) → Product A B d y → NoWorse (a .cost + b .cost) (a .levels ++ b .levels) d y
     go d y w =
@@ -150,7 +163,8 @@ best-product k {A} {B} {a} {b} l p q = record { valid = pair; least = go }
         rw (w .sum, w .append) (no-worse-join e (p .least _ _ (w .valid₁)) (q .least _ _ (w .valid₂)))
 
 -- answers one after the other solve the product
-pub solves-product : (k : ℕ) {A B : Problem} {r s : Option Solution} → Width k A → Solves A r → Solves B s → Solves (Product A B) (joined r s)
+pub solves-product : (k : ℕ) {A B : Problem} {r s : Option Solution} → Width k A → Solves A r → Solves B s
+    → Solves (Product A B) (joined r s)
 unfolding joined
 solves-product k l (nothing p) q = nothing (λ d y w. p (w .cost₁) (w .levels₁) (w .valid₁))
 solves-product k l (just p) (nothing q) = nothing (λ d y w. q (w .cost₂) (w .levels₂) (w .valid₂))
@@ -179,9 +193,19 @@ unfolding joined
 settles-product (closed p) q = closed (λ d y w. p (w .cost₁) (w .levels₁) (w .valid₁))
 settles-product (sole v l) (closed q) = closed (λ d y w. q (w .cost₂) (w .levels₂) (w .valid₂))
 settles-product {A} {B} (sole {a = a} v l) (sole {a = b} v′ l′) =
-    sole (record { cost₁ = a .cost; levels₁ = a .levels; cost₂ = b .cost; levels₂ = b .levels; valid₁ = v; valid₂ = v′; sum = refl; append = refl }) (λ d y w. go d y w (l _ _ (w .valid₁)) (l′ _ _ (w .valid₂)))
+    sole (record {
+      cost₁ = a .cost;
+      levels₁ = a .levels;
+      cost₂ = b .cost;
+      levels₂ = b .levels;
+      valid₁ = v;
+      valid₂ = v′;
+      sum = refl;
+      append = refl;
+    }) (λ d y w. go d y w (l _ _ (w .valid₁)) (l′ _ _ (w .valid₂)))
   where
-    go : (d : ℕ) (y : List ℕ) (w : Product A B d y) → (a .cost < w .cost₁) ⊎ ((a .cost ≡ w .cost₁) × (a .levels ≡ w .levels₁)) → (b .cost < w .cost₂) ⊎ ((b .cost ≡ w .cost₂) × (b .levels ≡ w .levels₂))
+    go : (d : ℕ) (y : List ℕ) (w : Product A B d y) → (a .cost < w .cost₁) ⊎ ((a .cost ≡ w .cost₁) × (a .levels ≡ w .levels₁))
+        → (b .cost < w .cost₂) ⊎ ((b .cost ≡ w .cost₂) × (b .levels ≡ w .levels₂))
         → (a .cost + b .cost < d) ⊎ ((a .cost + b .cost ≡ d) × (a .levels ++ b .levels ≡ y))
     go d y w (inl p) (inl q) = inl (omega (arith, w .sum))
     go d y w (inl p) (inr q) = inl (omega (arith, w .sum))
@@ -209,7 +233,10 @@ width-empty = record { width = go }
 
 -- widths add
 pub width-product : (k m : ℕ) {A B : Problem} → Width k A → Width m B → Width (k + m) (Product A B)
-width-product k m p q = record { width = λ c y w. ap length (w .append) ∙ length-append (w .levels₁) (w .levels₂) ∙ ap₂ (λ (a b : ℕ). a + b) (p .width _ _ (w .valid₁)) (q .width _ _ (w .valid₂)) }
+width-product k m p q = record {
+  width = λ c y w. ap length (w .append) ∙ length-append (w .levels₁) (w .levels₂)
+      ∙ ap₂ (λ (a b : ℕ). a + b) (p .width _ _ (w .valid₁)) (q .width _ _ (w .valid₂));
+}
 
 -- either of two of the same width
 pub width-either : (k : ℕ) {A : Bool → Problem} → ((u : Bool) → Width k (A u)) → Width k (Either A)
@@ -259,7 +286,8 @@ module _ {A : Problem} where
       go (tied h m) = omega arith
 
   -- of those as cheap, the best has the lower level where they first differ
-  pub levels-first : (k : ℕ) {a : Solution} → Width k A → Best A a → (d : ℕ) (y : List ℕ) → A d y → d ≡ a .cost → (a .levels ≡ y → ⊥) → LexLower (a .levels) y
+  pub levels-first : (k : ℕ) {a : Solution} → Width k A → Best A a → (d : ℕ) (y : List ℕ) → A d y → d ≡ a .cost → (a .levels ≡ y → ⊥)
+      → LexLower (a .levels) y
   levels-first k {a} l p d y w e n = go (p .least d y w)
     where
       go : NoWorse (a .cost) (a .levels) d y → LexLower (a .levels) y
@@ -309,4 +337,10 @@ pub joined-both : (r q : Option Solution) (a : Solution) → joined r q ≡ some
 unfolding joined
 joined-both none q a e = absurd (some-none a (sym e))
 joined-both (some b) none a e = absurd (some-none a (sym e))
-joined-both (some b) (some c) a e = record { first = b; second = c; left = refl; right = refl; append = ap (λ (z : Solution). z .levels) (sym (Option·some-injective _ _ e)) }
+joined-both (some b) (some c) a e = record {
+  first = b;
+  second = c;
+  left = refl;
+  right = refl;
+  append = ap (λ (z : Solution). z .levels) (sym (Option·some-injective _ _ e));
+}

@@ -66,8 +66,11 @@ at-solves : (S : Steps) (x : Cell) (to : ℕ) → Solves (At S x to) (toLevel S 
 unfolding toLevel
 at-solves S x to = go (leb (x .level) to) (x .mark) (eqb to (x .level)) refl refl refl
   where
-    here : x .level ≤ to → (x .mark ≡ true → to ≡ x .level) → Solves (At S x to) (some (record { cost = climb (S .weight) (x .level) to; levels = to ∷ [] }))
-    here h k = just (best-strict (record { cost = climb (S .weight) (x .level) to; levels = to ∷ [] }) (record { one = refl; up = h; kept = k; cost = refl })
+    here : x .level ≤ to → (x .mark ≡ true → to ≡ x .level)
+        → Solves (At S x to) (some (record { cost = climb (S .weight) (x .level) to; levels = to ∷ [] }))
+    here h k =
+        just (best-strict (record { cost = climb (S .weight) (x .level) to; levels = to ∷ [] })
+        (record { one = refl; up = h; kept = k; cost = refl })
         (λ d y w. inr (sym (w .cost), sym (w .one))))
 
     go : (p m q : Bool) → leb (x .level) to ≡ p → x .mark ≡ m → eqb to (x .level) ≡ q
@@ -87,7 +90,8 @@ module _ (S : Steps) where
   Split : (List ℕ → Bool) → Cell → List Cell → ℕ → Problem
   Split ok x xs to = Product (At S x to) (Allowed S (λ y. ok (to ∷ y)) xs)
 
-  split-allowed : (ok : List ℕ → Bool) (x : Cell) (xs : List Cell) (c : ℕ) (y : List ℕ) → Any (suc (S .top)) (Split ok x xs) c y ↔ Allowed S ok (x ∷ xs) c y
+  split-allowed : (ok : List ℕ → Bool) (x : Cell) (xs : List Cell) (c : ℕ) (y : List ℕ)
+      → Any (suc (S .top)) (Split ok x xs) c y ↔ Allowed S ok (x ∷ xs) c y
   unfolding Split
   split-allowed ok x xs c y = (λ w. to (w .which) (w .among) (w .valid), λ w. from (w .raised) (w .passes))
     where
@@ -95,7 +99,10 @@ module _ (S : Steps) where
       to v h q =
           let e : y ≡ v ∷ q .levels₂ = q .append ∙ ap (λ (l : List ℕ). l ++ q .levels₂) (q .valid₁ .one) in
           let r : Rise S x v = record { up = q .valid₁ .up; high = omega arith; kept = q .valid₁ .kept } in
-          rw e (record { raised = rise r (q .valid₂ .raised) (q .sum ∙ ap (λ (k : ℕ). k + q .cost₂) (q .valid₁ .cost)); passes = q .valid₂ .passes })
+          rw e (record {
+            raised = rise r (q .valid₂ .raised) (q .sum ∙ ap (λ (k : ℕ). k + q .cost₂) (q .valid₁ .cost));
+            passes = q .valid₂ .passes;
+          })
 
       from : {c : ℕ} {y : List ℕ} → Raised S (x ∷ xs) c y → ok y ≡ true → Any (suc (S .top)) (Split ok x xs) c y
       from (rise {to = v} {k = k} {new = new} p r e) f = record {
@@ -162,5 +169,6 @@ choice-solves S M xs w = solves-iff (λ c y. (to c y, from c y)) (tried-solves S
     from c y g = record { raised = g .raised; passes = ap (λ (v : List Bool). sameWord v w) (g .word) ∙ same-self w }
 
 -- so it is one for the search
-pub choice-chooses : (S : Steps) (M : Meaning) (n : ℕ) → ((y : List ℕ) → length y ≡ M .cells → length (M .means y) ≡ n) → Chooses S M n (choiceOf S M)
+pub choice-chooses : (S : Steps) (M : Meaning) (n : ℕ) → ((y : List ℕ) → length y ≡ M .cells → length (M .means y) ≡ n)
+    → Chooses S M n (choiceOf S M)
 choice-chooses S M n z = record { sized = z; solves = λ xs w e f. choice-solves S M xs w }

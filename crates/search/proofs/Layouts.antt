@@ -44,7 +44,8 @@ unfolding levelAt
 stage-levels k n y e t h =
     let c : t * k ≡ k * t = mul-comm t k in
     rw c
-    (sym (listOf-getD k (take k (drop (k * t) y)) 0 (length-take-le k (drop (k * t) y) (omega (arith, length-drop (k * t) y, within k t n h))))
+    (sym (listOf-getD k (take k (drop (k * t) y)) 0
+    (length-take-le k (drop (k * t) y) (omega (arith, length-drop (k * t) y, within k t n h))))
     ∙ listOf-same k _ _ (λ i l. getD-take k (drop (k * t) y) i 0 l ∙ getD-drop (k * t) y i 0))
 
 -- bit j of the word of stage t
@@ -52,14 +53,16 @@ pub words-code : (lay : Layout) (n : ℕ) (y : List ℕ) → length y ≡ lay .c
     → column j (words (meaningOf lay) n y) t ≡ odd (codeBit lay (levelAt y) j t)
 unfolding column meaningOf codeBit odd
 words-code lay n y e j t h =
-    ap (λ (w : List Bool). getD w j false) (words-at (meaningOf lay) n y t h ∙ ap (λ (l : List ℕ). map odd (lay .shows l)) (stage-levels (lay .cells) n y e t h))
+    ap (λ (w : List Bool). getD w j false) (words-at (meaningOf lay) n y t h
+    ∙ ap (λ (l : List ℕ). map odd (lay .shows l)) (stage-levels (lay .cells) n y e t h))
     ∙ List·getD-map odd (lay .shows (listOf (lay .cells) (λ i. levelAt y (lay .cells * t + i)))) j 0
 
 -- WHAT COULD BE is what the search looks for
 module _ (S : Steps) (lay : Layout) (G : Generators) (Z : Sound lay G) (n : ℕ) (d : ℕ → ℕ) (bits : (b : ℕ) → d b < 2) (old : List Cell)
     (size : length old ≡ lay .cells * n) where
   levels-read : (y : List ℕ) → length y ≡ length old
-      → Reads (encoderOf G) (λ j t. odd (d (lay .bits * t + j))) n (words (meaningOf lay) n y) ↔ ((b : ℕ) → b < lay .bits * n → dataBit lay G (levelAt y) b ≡ d b)
+      → Reads (encoderOf G) (λ j t. odd (d (lay .bits * t + j))) n (words (meaningOf lay) n y) ↔ ((b : ℕ) → b < lay .bits * n
+      → dataBit lay G (levelAt y) b ≡ d b)
   levels-read y e =
       reads-sums lay G (Z .leads) (Z .generators) n (words (meaningOf lay) n y) (levelAt y) d bits
       (λ j h. record { at = λ t l. words-code lay n y (e ∙ size) j t l })
@@ -70,7 +73,8 @@ module _ (S : Steps) (lay : Layout) (G : Generators) (Z : Sound lay G) (n : ℕ)
   could-rewrite y p = record { raised = rises-raised S old y (p .size) (p .rises); reads = levels-read y (p .size) .1 (p .reads) }
 
   -- and a write could be
-  pub rewrite-could : (c : ℕ) (y : List ℕ) → Rewrite S (meaningOf lay) (encoderOf G) (λ j t. odd (d (lay .bits * t + j))) n old c y → CouldBe S lay G n d old y
+  pub rewrite-could : (c : ℕ) (y : List ℕ) → Rewrite S (meaningOf lay) (encoderOf G) (λ j t. odd (d (lay .bits * t + j))) n old c y
+      → CouldBe S lay G n d old y
   rewrite-could c y w = record {
     size = raised-length (w .raised);
     rises = raised-rises S (w .raised);
@@ -78,21 +82,24 @@ module _ (S : Steps) (lay : Layout) (G : Generators) (Z : Sound lay G) (n : ℕ)
   }
 
 -- the words of a stage have a bit for each generator
-sized : (lay : Layout) (G : Generators) → Sound lay G → (y : List ℕ) → length y ≡ meaningOf lay .cells → length (meaningOf lay .means y) ≡ suc (length (encoderOf G .others))
+sized : (lay : Layout) (G : Generators) → Sound lay G → (y : List ℕ) → length y ≡ meaningOf lay .cells
+    → length (meaningOf lay .means y) ≡ suc (length (encoderOf G .others))
 unfolding meaningOf encoderOf
 sized lay G Z y e = length-map (lay .shows y) odd ∙ Z .shown y e ∙ ap suc (sym (length-map (G .others) _ ∙ Z .generators))
 
 -- more memory than a code needs is room enough
 room : (G : Generators) (m : ℕ) → G .memory ≤ m → InMemory (withMemory m (encoderOf G))
 unfolding encoderOf
-room G m h = record { first-fits = omega (arith, encoder-in-memory G .first-fits); others-fit = each-more (encoder-in-memory G .others-fit) }
+room G m h =
+    record { first-fits = omega (arith, encoder-in-memory G .first-fits); others-fit = each-more (encoder-in-memory G .others-fit) }
   where
     memory-is : encoderOf G .memory ≡ G .memory
     memory-is = refl
 
     each-more : {Gs : List (List Bool)} → Each (λ g. length g ≤ suc (encoderOf G .memory)) Gs → Each (λ g. length g ≤ suc m) Gs
     each-more no-more = no-more
-    each-more (and-each {g = g} k ks) = let e : encoderOf G .memory ≡ G .memory = memory-is in let l : length g ≤ suc m = omega arith in and-each l (each-more ks)
+    each-more (and-each {g = g} k ks) = let e : encoderOf G .memory ≡ G .memory = memory-is in let l : length g ≤ suc m = omega arith in
+        and-each l (each-more ks)
 
 -- THE STRIP
 module _ (lay : Layout) (L : ℕ) (strip : List ℕ) (marks : ℕ → Bool) where
@@ -103,16 +110,19 @@ module _ (lay : Layout) (L : ℕ) (strip : List ℕ) (marks : ℕ → Bool) wher
 
   module _ (G : Generators) (Z : Sound lay G) (W content : List ℕ) where
     -- the search solves it
-    pub strip-solves : Solves (Rewrite (stepsOf W) (meaningOf lay) (encoderOf G) (dataBits lay content) (stagesIn lay L) (stripCells lay L strip marks))
+    pub strip-solves : Solves
+        (Rewrite (stepsOf W) (meaningOf lay) (encoderOf G) (dataBits lay content) (stagesIn lay L) (stripCells lay L strip marks))
         (rewriteOf lay G W L strip marks content)
     unfolding rewriteOf cellsIn meaningOf
     strip-solves =
-        write-solves (encoderOf G) (encoder-in-memory G) (dataBits lay content) (stepsOf W) (meaningOf lay) (choiceOf (stepsOf W) (meaningOf lay))
+        write-solves (encoderOf G) (encoder-in-memory G) (dataBits lay content) (stepsOf W) (meaningOf lay)
+        (choiceOf (stepsOf W) (meaningOf lay))
         (choice-chooses (stepsOf W) (meaningOf lay) _ (sized lay G Z)) (stagesIn lay L) (stripCells lay L strip marks)
         (full-length (lay .cells) (stagesIn lay L) (stripCells lay L strip marks) (length-strip ∙ mul-comm (lay .cells) (stagesIn lay L)))
 
     -- and every write of it has a level for each cell
-    pub strip-width : Width (cellsIn lay L) (Rewrite (stepsOf W) (meaningOf lay) (encoderOf G) (dataBits lay content) (stagesIn lay L) (stripCells lay L strip marks))
+    pub strip-width : Width (cellsIn lay L)
+        (Rewrite (stepsOf W) (meaningOf lay) (encoderOf G) (dataBits lay content) (stagesIn lay L) (stripCells lay L strip marks))
     strip-width = record { width = λ c y w. raised-length (w .raised) ∙ length-strip }
 
 -- ONE BIT A CELL. The bits that levels show are their parities
@@ -129,13 +139,18 @@ pub oneBit-sound : (G : Generators) → digit (G .memory) (G .g1) 0 ≡ 1 → le
 oneBit-sound G e f = record { leads = e; generators = f; shown = λ y h. length-map y (λ l. l % 2) ∙ h }
 
 -- THE WRITE with one bit a cell, where no step is free: each cell is kept or raised by one, and states may have room for more digits
-pub oneBit-write : (m : ℕ) (G : Generators) → Sound oneBit G → G .memory ≤ m → (W : List ℕ) → Dear (stepsOf W) → (L : ℕ) (strip : List ℕ) (marks : ℕ → Bool) (content : List ℕ)
-    → write (withMemory m (encoderOf G)) (dataBits oneBit content) (parity-choice (stepsOf W)) 2 (stagesIn oneBit L) (stripCells oneBit L strip marks)
+pub oneBit-write : (m : ℕ) (G : Generators) → Sound oneBit G → G .memory ≤ m → (W : List ℕ) → Dear (stepsOf W)
+    → (L : ℕ) (strip : List ℕ) (marks : ℕ → Bool) (content : List ℕ)
+    → write (withMemory m (encoderOf G)) (dataBits oneBit content) (parity-choice (stepsOf W)) 2 (stagesIn oneBit L)
+    (stripCells oneBit L strip marks)
     ≡ rewriteOf oneBit G W L strip marks content
 unfolding rewriteOf cellsIn meaningOf
 oneBit-write m G Z h W D L strip marks content =
-    ap (λ (c : Choice). write (withMemory m (encoderOf G)) (dataBits oneBit content) c 2 (stagesIn oneBit L) (stripCells oneBit L strip marks))
+    ap (λ (c : Choice). write (withMemory m (encoderOf G)) (dataBits oneBit content) c 2 (stagesIn oneBit L)
+    (stripCells oneBit L strip marks))
     (sym (ap (choiceOf (stepsOf W)) oneBit-parity ∙ parity-chosen (stepsOf W) D 2))
-    ∙ room-same (encoderOf G) m (encoder-in-memory G) (room G m h) (dataBits oneBit content) (stepsOf W) (meaningOf oneBit) (choiceOf (stepsOf W) (meaningOf oneBit))
+    ∙ room-same (encoderOf G) m (encoder-in-memory G) (room G m h) (dataBits oneBit content) (stepsOf W) (meaningOf oneBit)
+    (choiceOf (stepsOf W) (meaningOf oneBit))
     (choice-chooses (stepsOf W) (meaningOf oneBit) _ (sized oneBit G Z)) (stagesIn oneBit L) (stripCells oneBit L strip marks)
-    (full-length 2 (stagesIn oneBit L) (stripCells oneBit L strip marks) (length-strip oneBit L strip marks ∙ mul-comm 2 (stagesIn oneBit L)))
+    (full-length 2 (stagesIn oneBit L) (stripCells oneBit L strip marks) (length-strip oneBit L strip marks
+    ∙ mul-comm 2 (stagesIn oneBit L)))

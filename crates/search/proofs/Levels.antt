@@ -22,13 +22,15 @@ pub length-cells : (n : ℕ) (level : ℕ → ℕ) (mark : ℕ → Bool) → len
 unfolding cellsOf
 length-cells n level mark = length-listOf n _
 
-pub cells-at : (n : ℕ) (level : ℕ → ℕ) (mark : ℕ → Bool) (i : ℕ) → i < n → cellAt (cellsOf n level mark) i ≡ record { level = level i; mark = mark i }
+pub cells-at : (n : ℕ) (level : ℕ → ℕ) (mark : ℕ → Bool) (i : ℕ) → i < n
+    → cellAt (cellsOf n level mark) i ≡ record { level = level i; mark = mark i }
 unfolding cellsOf cellAt
 cells-at n level mark i h = listOf-at n _ i _ h
 
 module _ (S : Steps) where
   -- each cell of a raising rises
-  pub raised-rises : {old : List Cell} {c : ℕ} {y : List ℕ} → Raised S old c y → (i : ℕ) → i < length old → Rise S (cellAt old i) (levelAt y i)
+  pub raised-rises : {old : List Cell} {c : ℕ} {y : List ℕ} → Raised S old c y → (i : ℕ) → i < length old
+      → Rise S (cellAt old i) (levelAt y i)
   unfolding cellAt levelAt
   raised-rises still i h = absurd (not-suc-le-zero h)
   raised-rises (rise p r e) zero h = p
@@ -41,7 +43,8 @@ module _ (S : Steps) where
   raised-pays (rise {x = x} {to = to} p r e) = ap (λ (k : ℕ). climb (S .weight) (x .level) to + k) (raised-pays r) ∙ sym e
 
   -- levels to which each cell rises are a raising
-  pub rises-raised : (old : List Cell) (y : List ℕ) → length y ≡ length old → ((i : ℕ) → i < length old → Rise S (cellAt old i) (levelAt y i)) → Raised S old (pays S old y) y
+  pub rises-raised : (old : List Cell) (y : List ℕ) → length y ≡ length old
+      → ((i : ℕ) → i < length old → Rise S (cellAt old i) (levelAt y i)) → Raised S old (pays S old y) y
   unfolding pays cellAt levelAt sumOf
   rises-raised [] [] e f = still
   rises-raised [] (v ∷ y) e f = let z : suc (length y) ≡ 0 = e in absurd (omega arith)
@@ -64,6 +67,8 @@ getD-map f (x ∷ l) zero d e h = refl
 getD-map f (x ∷ l) (suc j) d e h = getD-map f l j d e (omega arith)
 
 -- the word of stage t
-pub words-at : (M : Meaning) (n : ℕ) (y : List ℕ) (t : ℕ) → t < n → getD (words M n y) t [] ≡ M .means (take (M .cells) (drop (t * M .cells) y))
+pub words-at : (M : Meaning) (n : ℕ) (y : List ℕ) (t : ℕ) → t < n
+    → getD (words M n y) t [] ≡ M .means (take (M .cells) (drop (t * M .cells) y))
 unfolding words
-words-at M n y t h = getD-map (M .means) (groups (M .cells) n y) t [] [] (omega (arith, length-groups (M .cells) n y)) ∙ ap (M .means) (groups-at (M .cells) n y t h)
+words-at M n y t h = getD-map (M .means) (groups (M .cells) n y) t [] [] (omega (arith, length-groups (M .cells) n y))
+    ∙ ap (M .means) (groups-at (M .cells) n y t h)

@@ -10,7 +10,6 @@ pub mod Parity
 pub mod Plan
 pub mod Numbered
 pub mod Plain
-
 pub mod OneBit
 pub mod Table
 pub mod Layouts

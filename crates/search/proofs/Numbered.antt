@@ -32,7 +32,9 @@ module _ {G S R : Type 0} (branch₁ : G → S → Bool → Option Solution) (ne
   best-same [] s = refl
   best-same (g ∷ gs) s = ap₂ better (arm (best-same gs) false) (arm (best-same gs) true)
     where
-      arm : ((s : S) → best branch₂ next₂ gs (φ s) ≡ best branch₁ next₁ gs s) → (u : Bool) → joined (branch₂ g (φ s) u) (best branch₂ next₂ gs (next₂ g (φ s) u)) ≡ joined (branch₁ g s u) (best branch₁ next₁ gs (next₁ g s u))
+      arm : ((s : S) → best branch₂ next₂ gs (φ s) ≡ best branch₁ next₁ gs s) → (u : Bool)
+          → joined (branch₂ g (φ s) u) (best branch₂ next₂ gs (next₂ g (φ s) u))
+          ≡ joined (branch₁ g s u) (best branch₁ next₁ gs (next₁ g s u))
       arm f u = ap₂ joined (same-branch g s u) (ap (best branch₂ next₂ gs) (same-next g s u) ∙ f (next₁ g s u))
 
 -- THE STATES AS NUMBERS. A generator's bit
@@ -54,9 +56,11 @@ unfolding value
 window-value s u = omega arith
 
 -- a branch by the state's number
-pub branch-value : (E : Encoder) (choose : Choice) (g : Stage) (s : List Bool) (u : Bool) → branchN E choose g (value s) u ≡ branch E choose g s u
+pub branch-value : (E : Encoder) (choose : Choice) (g : Stage) (s : List Bool) (u : Bool)
+    → branchN E choose g (value s) u ≡ branch E choose g s u
 unfolding branchN branch
-branch-value E choose g s u = ap (choose (g .cells)) (ap (λ (w : ℕ). wantedN E w (g .adds)) (window-value s u) ∙ wanted-value E (u ∷ s) (g .adds))
+branch-value E choose g s u =
+    ap (choose (g .cells)) (ap (λ (w : ℕ). wantedN E w (g .adds)) (window-value s u) ∙ wanted-value E (u ∷ s) (g .adds))
 
 -- the next state's number
 pub next-value : (E : Encoder) (g : Stage) (s : List Bool) (u : Bool) → nextN E g (value s) u ≡ value (next E g s u)
@@ -69,4 +73,5 @@ pub write-numbers : (E : Encoder) (choose : Choice) (d : ℕ → Bits) (k n : �
 unfolding write
 write-numbers E choose d k n old =
     ap (best (branchN E choose) (nextN E) (stages E d k 0 n old)) (sym (value-zeros (E .memory)))
-    ∙ best-same (branch E choose) (next E) (branchN E choose) (nextN E) value (branch-value E choose) (next-value E) (stages E d k 0 n old) (replicate (E .memory) false)
+    ∙ best-same (branch E choose) (next E) (branchN E choose) (nextN E) value (branch-value E choose) (next-value E) (stages E d k 0 n old)
+    (replicate (E .memory) false)

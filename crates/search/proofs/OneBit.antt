@@ -64,7 +64,8 @@ module _ (m : ℕ) (G : Generators) (K : Both G) where
     -- a branch by the choices of its two cells
     pub branch-cells : (x y : Cell) (a : Bool) (s : ℕ) (u : Bool)
         → branchN (withMemory m (encoderOf G)) (parity-choice S) (record { adds = a ∷ []; cells = x ∷ y ∷ [] }) s u
-        ≡ joined (keep-or-raise S x (firstOf G (2 * s + one-if u))) (joined (keep-or-raise S y (secondOf G (2 * s + one-if u) +₂ a)) (some free))
+        ≡ joined (keep-or-raise S x (firstOf G (2 * s + one-if u)))
+        (joined (keep-or-raise S y (secondOf G (2 * s + one-if u) +₂ a)) (some free))
     unfolding branchN parity-choice
     branch-cells x y a s u = rw (oneBit-wants (2 * s + one-if u) a)
 
@@ -75,7 +76,14 @@ module _ (m : ℕ) (G : Generators) (K : Both G) where
     oneBit-held x y a s u r e =
         let p = joined-both _ _ r (sym (branch-cells x y a s u) ∙ e) in
         let q = joined-both _ _ (p .second) (p .right) in
-        rw (p .append, q .append, keep-held S _ _ (p .first) (p .left), keep-held S _ _ (q .first) (q .left), ← Option·some-injective _ _ (q .right))
+        rw (
+          p .append,
+          q .append,
+          keep-held S _ _ (p .first) (p .left),
+          keep-held S _ _ (q .first)
+              (q .left),
+          ← Option·some-injective _ _ (q .right),
+        )
 
     -- the price of a branch, by the bits that it wants
     pub oneBit-price : (x y : Cell) (a : Bool) (s : ℕ) (u : Bool)
@@ -86,7 +94,8 @@ module _ (m : ℕ) (G : Generators) (K : Both G) where
 
     -- the digit 1 wins a tie where its first bit is the one that the first cell shows
     pub oneBit-tie : (x y : Cell) (a : Bool) (s : ℕ)
-        → tieBy (λ s. wordOf G (2 * s)) (oneBitPrices S (record { adds = a ∷ []; cells = x ∷ y ∷ [] })) s ≡ Bool·beq (odd (x .level)) (firstOf G (2 * s + 1))
+        → tieBy (λ s. wordOf G (2 * s)) (oneBitPrices S (record { adds = a ∷ []; cells = x ∷ y ∷ [] })) s
+        ≡ Bool·beq (odd (x .level)) (firstOf G (2 * s + 1))
     unfolding tieBy oneBitPrices cellAt one-if
     oneBit-tie x y a s = rw (word-by s true, word-odd G (2 * s + 1))
 
@@ -100,10 +109,17 @@ module _ (m : ℕ) (G : Generators) (K : Both G) where
 
     -- THE TIES are decided by the bit that the first cell shows
     tied : (g : Stage) → Pair g → (s : ℕ) (r q : Solution) → branchN (withMemory m (encoderOf G)) (parity-choice S) g s false ≡ some r
-        → branchN (withMemory m (encoderOf G)) (parity-choice S) g s true ≡ some q → Decides (tieBy (λ s. wordOf G (2 * s)) (oneBitPrices S g) s) (r .levels) (q .levels)
+        → branchN (withMemory m (encoderOf G)) (parity-choice S) g s true ≡ some q
+        → Decides (tieBy (λ s. wordOf G (2 * s)) (oneBitPrices S g) s) (r .levels) (q .levels)
     unfolding one-if
     tied g (pair {x = x} {y = y} {a = a}) s r q e f =
-        rw (oneBit-tie x y a s, oneBit-held x y a s false r e, oneBit-held x y a s true q f, parity-flip (G .memory) (G .g1) s (K .g1-leads))
+        rw (
+          oneBit-tie x y a s,
+          oneBit-held x y a s false r e,
+          oneBit-held x y a s true q f,
+          parity-flip (G .memory) (G .g1) s
+              (K .g1-leads),
+        )
         (held-lower x (firstOf G (2 * s + 0)))
 
     -- the two facts

@@ -53,24 +53,44 @@ module _ (S : Steps) (D : Dear S) (x : Cell) (b : Bool) where
   costs-to = climb (S .weight) from
 
   -- a level above `low` costs more than `low`, and no other level is left
-  above : (low : ℕ) → from ≤ low → (d : ℕ) (y : List ℕ) (o : One S x b d y) → (o .to < low → ⊥) → (costs-to low < d) ⊎ ((costs-to low ≡ d) × (low ∷ [] ≡ y))
+  above : (low : ℕ) → from ≤ low → (d : ℕ) (y : List ℕ) (o : One S x b d y) → (o .to < low → ⊥)
+      → (costs-to low < d) ⊎ ((costs-to low ≡ d) × (low ∷ [] ≡ y))
   above low h d y o not-below = go (ltb low (o .to)) refl
     where
       go : (t : Bool) → ltb low (o .to) ≡ t → (costs-to low < d) ⊎ ((costs-to low ≡ d) × (low ∷ [] ≡ y))
-      go true k = inl (omega (arith, o .cost, climb-rises (S .weight) (S .top) (D .dear) from low (o .to) h (ltb-true low (o .to) k) (o .rises .high)))
+      go true k =
+          inl (omega (
+            arith,
+            o .cost,
+            climb-rises (S .weight) (S .top) (D .dear) from low (o .to) h (ltb-true low (o .to) k)
+                (o .rises .high),
+          ))
       go false k =
           let q : low ≡ o .to = omega (arith, ltb-false low (o .to) k, not-below) in
           inr (ap costs-to q ∙ sym (o .cost), ap (λ (l : ℕ). l ∷ []) q ∙ sym (o .one))
 
   stay : from ≤ S .top → Bool·beq (odd from) b ≡ true → Settles (One S x b) (some (record { cost = 0; levels = from ∷ [] }))
   stay h e = sole {a = record { cost = 0; levels = from ∷ [] }}
-      (record { to = from; one = refl; rises = record { up = omega arith; high = h; kept = λ k. refl }; bit = beq-true (odd from) b e; cost = sym (climb-stay (S .weight) from) })
+      (record {
+        to = from;
+        one = refl;
+        rises = record { up = omega arith; high = h; kept = λ k. refl };
+        bit = beq-true (odd from) b e;
+        cost = sym (climb-stay (S .weight) from);
+      })
       (λ d y o. rw (climb-stay (S .weight) from) at (above from (omega arith) d y o (λ l. omega (arith, o .rises .up))))
 
-  raise : from < S .top → x .mark ≡ false → Bool·beq (odd from) b ≡ false → Settles (One S x b) (some (record { cost = S .weight from; levels = suc from ∷ [] }))
+  raise : from < S .top → x .mark ≡ false → Bool·beq (odd from) b ≡ false
+      → Settles (One S x b) (some (record { cost = S .weight from; levels = suc from ∷ [] }))
   unfolding odd
   raise h f e = sole {a = record { cost = S .weight from; levels = suc from ∷ [] }}
-      (record { to = suc from; one = refl; rises = record { up = omega arith; high = h; kept = λ k. absurd (true≢false (sym k ∙ f)) }; bit = beq-false (odd from) b e; cost = sym (climb-step (S .weight) from) })
+      (record {
+        to = suc from;
+        one = refl;
+        rises = record { up = omega arith; high = h; kept = λ k. absurd (true≢false (sym k ∙ f)) };
+        bit = beq-false (odd from) b e;
+        cost = sym (climb-step (S .weight) from);
+      })
       (λ d y o. rw (climb-step (S .weight) from) at (above (suc from) (omega arith) d y o (λ l. other o (omega (arith, o .rises .up)))))
     where
       other : {d : ℕ} {y : List ℕ} (o : One S x b d y) → from ≡ o .to → ⊥
@@ -85,20 +105,28 @@ module _ (S : Steps) (D : Dear S) (x : Cell) (b : Bool) where
       same f w h k = not-self (odd (x .level)) b (beq-false (odd (x .level)) b f) (ap odd k ∙ h)
 
       go : (p q k r : Bool) → ltb (S .top) (x .level) ≡ p → Bool·beq (odd (x .level)) b ≡ q → x .mark ≡ k → ltb (x .level) (S .top) ≡ r
-          → Settles (One S x b) (cond p none (cond q (some (record { cost = 0; levels = x .level ∷ [] })) (cond k none (cond r (some (record { cost = S .weight (x .level); levels = suc (x .level) ∷ [] })) none))))
-      go true q k r e f g h = closed (λ d y w. let a : x .level ≤ w .to = w .rises .up in let c : w .to ≤ S .top = w .rises .high in omega (arith, ltb-true (S .top) (x .level) e))
+          → Settles (One S x b)
+          (cond p none
+          (cond q (some (record { cost = 0; levels = x .level ∷ [] }))
+          (cond k none (cond r (some (record { cost = S .weight (x .level); levels = suc (x .level) ∷ [] })) none))))
+      go true q k r e f g h = closed (λ d y w. let a : x .level ≤ w .to = w .rises .up in let c : w .to ≤ S .top = w .rises .high in
+          omega (arith, ltb-true (S .top) (x .level) e))
       go false true k r e f g h = stay (ltb-false (S .top) (x .level) e) f
       go false false true r e f g h = closed (λ d y w. same f (w .to) (w .bit) (sym (w .rises .kept g)))
       go false false false true e f g h = raise (ltb-true (x .level) (S .top) h) g f
       go false false false false e f g h =
-          closed (λ d y w. let a : x .level ≤ w .to = w .rises .up in let c : w .to ≤ S .top = w .rises .high in same f (w .to) (w .bit) (omega (arith, ltb-false (x .level) (S .top) h)))
+          closed (λ d y w. let a : x .level ≤ w .to = w .rises .up in let c : w .to ≤ S .top = w .rises .high in
+          same f (w .to) (w .bit) (omega (arith, ltb-false (x .level) (S .top) h)))
 
 -- a stage is its first cell and its others
 module _ (S : Steps) (n : ℕ) (x : Cell) (xs : List Cell) (b : Bool) (w : List Bool) where
   together : (c : ℕ) (y : List ℕ) → Product (One S x b) (Group S (parity n) xs w) c y → Group S (parity n) (x ∷ xs) (b ∷ w) c y
   together c y q =
       let e : y ≡ q .valid₁ .to ∷ q .levels₂ = q .append ∙ ap (λ (l : List ℕ). l ++ q .levels₂) (q .valid₁ .one) in
-      rw e (record { raised = rise (q .valid₁ .rises) (q .valid₂ .raised) (q .sum ∙ ap (λ (k : ℕ). k + q .cost₂) (q .valid₁ .cost)); word = ap₂ (λ (a : Bool) (l : List Bool). a ∷ l) (q .valid₁ .bit) (q .valid₂ .word) })
+      rw e (record {
+        raised = rise (q .valid₁ .rises) (q .valid₂ .raised) (q .sum ∙ ap (λ (k : ℕ). k + q .cost₂) (q .valid₁ .cost));
+        word = ap₂ (λ (a : Bool) (l : List Bool). a ∷ l) (q .valid₁ .bit) (q .valid₂ .word);
+      })
 
   split : {c : ℕ} {y : List ℕ} → Raised S (x ∷ xs) c y → map odd y ≡ b ∷ w → Product (One S x b) (Group S (parity n) xs w) c y
   split (rise {to = v} {k = k} {new = new} p r e) f = record {
@@ -159,7 +187,10 @@ module _ (S : Steps) where
   unfolding keep-or-raise held
   keep-held x b a = go (ltb (S .top) (x .level)) (Bool·beq (odd (x .level)) b) (x .mark) (ltb (x .level) (S .top))
     where
-      go : (p q k r : Bool) → cond p none (cond q (some (record { cost = 0; levels = x .level ∷ [] })) (cond k none (cond r (some (record { cost = S .weight (x .level); levels = suc (x .level) ∷ [] })) none))) ≡ some a
+      go : (p q k r : Bool)
+          → cond p none
+          (cond q (some (record { cost = 0; levels = x .level ∷ [] }))
+          (cond k none (cond r (some (record { cost = S .weight (x .level); levels = suc (x .level) ∷ [] })) none))) ≡ some a
           → a .levels ≡ cond q (x .level) (suc (x .level)) ∷ []
       go true q k r e = absurd (some-none a (sym e))
       go false true k r e = ap (λ (z : Solution). z .levels) (sym (Option·some-injective _ _ e))

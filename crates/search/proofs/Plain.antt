@@ -25,10 +25,12 @@ module _ (E : Encoder) (choose : Choice) (words : ℕ → ℕ) (quote : Stage �
 
   -- what state 0 costs before the first stage
   pub plain-cost : costs (λ g. priceBy words (quote g)) (nextN E) gg 0 ≡ cost-of (write E d choose k n old)
-  plain-cost = costs-best (branchN E choose) (nextN E) (λ g. priceBy words (quote g)) Ok (Q .priced) ok 0 ∙ ap cost-of (write-numbers E choose d k n old)
+  plain-cost = costs-best (branchN E choose) (nextN E) (λ g. priceBy words (quote g)) Ok (Q .priced) ok 0
+      ∙ ap cost-of (write-numbers E choose d k n old)
 
   -- the solution of the digits that it takes
-  pub plain-write : play (branchN E choose) (nextN E) gg 0 (plan (λ g. priceBy words (quote g)) (λ g. tieBy words (quote g)) (nextN E) gg 0) ≡ write E d choose k n old
+  pub plain-write : play (branchN E choose) (nextN E) gg 0
+      (plan (λ g. priceBy words (quote g)) (λ g. tieBy words (quote g)) (nextN E) gg 0) ≡ write E d choose k n old
   plain-write =
       plan-best (branchN E choose) (nextN E) (λ g. priceBy words (quote g)) Ok (Q .priced) (λ g. tieBy words (quote g)) (Q .tied) ok 0
       ∙ write-numbers E choose d k n old

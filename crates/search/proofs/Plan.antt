@@ -30,7 +30,8 @@ cost-better none s = refl
 cost-better (some a) none = refl
 cost-better (some a) (some b) = ap some (go (ltb (b .cost) (a .cost)) (eqb (b .cost) (a .cost)) (lexltb (b .levels) (a .levels)) refl refl)
   where
-    go : (t e l : Bool) → ltb (b .cost) (a .cost) ≡ t → eqb (b .cost) (a .cost) ≡ e → (cond (t || e && l) b a) .cost ≡ cond t (b .cost) (a .cost)
+    go : (t e l : Bool) → ltb (b .cost) (a .cost) ≡ t → eqb (b .cost) (a .cost) ≡ e
+        → (cond (t || e && l) b a) .cost ≡ cond t (b .cost) (a .cost)
     go true e l p q = refl
     go false true true p q = eqb-true (b .cost) (a .cost) q
     go false true false p q = refl
@@ -55,7 +56,8 @@ better-turn (some a) (some b) t h = rw (h a b refl refl) (cond-some (before (b .
 -- level lists that a bit decides are in the order that it says, whatever follows them
 lex-decides : {t : Bool} {x y : List ℕ} (v w : List ℕ) → Decides t x y → lexltb (y ++ w) (x ++ v) ≡ t
 unfolding lexltb before
-lex-decides v w (second-lower {x = x} {y = y} {xs = xs} {ys = ys} h) = ap (λ (t : Bool). t || eqb y x && lexltb (ys ++ w) (xs ++ v)) (lt-ltb y x h)
+lex-decides v w (second-lower {x = x} {y = y} {xs = xs} {ys = ys} h) = ap (λ (t : Bool). t || eqb y x && lexltb (ys ++ w) (xs ++ v))
+    (lt-ltb y x h)
 lex-decides v w (first-lower {x = x} {y = y} {xs = xs} {ys = ys} h) =
     ap₂ (λ (t e : Bool). t || e && lexltb (ys ++ w) (xs ++ v)) (le-ltb y x (omega arith)) (ne-eqb y x (λ e. omega arith))
 
@@ -106,7 +108,9 @@ module _ {G S : Type 0} (branch : G → S → Bool → Option Solution) (next : 
   play-shut no-more s us e = absurd (let z : _≡_ {A = ℕ} 0 1 = cc in omega arith)
   play-shut (and-each o os) s [] e = refl
   play-shut (and-each {g = g} {gs = gs} o os) s (u ∷ us) e =
-      go (branch g s u) (costs price next gs (next g s u)) (ap (λ (p : Option ℕ). add p (costs price next gs (next g s u))) (sym (priced g o s u)) ∙ either-shut (way price next g (costs price next gs) s) e u)
+      go (branch g s u) (costs price next gs (next g s u))
+      (ap (λ (p : Option ℕ). add p (costs price next gs (next g s u))) (sym (priced g o s u))
+      ∙ either-shut (way price next g (costs price next gs) s) e u)
       (play-shut os (next g s u) us)
     where
       go : (r : Option Solution) (k : Option ℕ) → add (cost-of r) k ≡ none → (k ≡ none → play branch next gs (next g s u) us ≡ none)
@@ -117,7 +121,8 @@ module _ {G S : Type 0} (branch : G → S → Bool → Option Solution) (next : 
 
   -- THE TIE RULE decides ties: so the solution of the plan is the best
   module _ (tie : G → S → Bool)
-      (tied : (g : G) → Ok g → (s : S) (a b : Solution) → branch g s false ≡ some a → branch g s true ≡ some b → Decides (tie g s) (a .levels) (b .levels)) where
+      (tied : (g : G) → Ok g → (s : S) (a b : Solution) → branch g s false ≡ some a → branch g s true ≡ some b → Decides (tie g s)
+      (a .levels) (b .levels)) where
     pub plan-best : {gs : List G} → Each Ok gs → (s : S) → play branch next gs s (plan price tie next gs s) ≡ best branch next gs s
     unfolding play plan best digit-at
     plan-best no-more s = refl
@@ -132,4 +137,5 @@ module _ {G S : Type 0} (branch : G → S → Bool → Option Solution) (next : 
         X v = joined (branch g s v) (best branch next gs (next g s v))
 
         same-digit : u ≡ turn (cost-of (X false)) (cost-of (X true)) (tie g s)
-        same-digit = ap₂ (λ (x y : Option ℕ). turn x y (tie g s)) (way-best g o gs (costs-best os) s false) (way-best g o gs (costs-best os) s true)
+        same-digit =
+            ap₂ (λ (x y : Option ℕ). turn x y (tie g s)) (way-best g o gs (costs-best os) s false) (way-best g o gs (costs-best os) s true)

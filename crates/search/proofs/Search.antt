@@ -48,11 +48,13 @@ length-sums h (G ∷ Gs) (x ∷ xs) e = let k : length xs ≡ length Gs = omega 
 
 -- the wanted word of the digits in a register is the word of the digits
 module _ (m : ℕ) (gs : List Bool) (u : Bits) (t : ℕ) where
-  sums-rest : {Gs : List (List Bool)} → Each (λ G. length G ≤ suc m) Gs → (d : ℕ → Bits) → sums (u t ∷ take m (hist m t u)) Gs (labels m gs (length Gs) d t) ≡ rest m gs u t Gs d
+  sums-rest : {Gs : List (List Bool)} → Each (λ G. length G ≤ suc m) Gs → (d : ℕ → Bits)
+      → sums (u t ∷ take m (hist m t u)) Gs (labels m gs (length Gs) d t) ≡ rest m gs u t Gs d
   unfolding sums labels rest hist
   sums-rest no-more d = refl
   sums-rest (and-each {g = G} h hs) d =
-      ap₂ (λ (b : Bool) (w : List Bool). (b +₂ quotient m gs (d 0) t) ∷ w) (dot-state m G (u t) (hist m t u) h ∙ sym (conv-dot m G u t)) (sums-rest hs (λ j. d (suc j)))
+      ap₂ (λ (b : Bool) (w : List Bool). (b +₂ quotient m gs (d 0) t) ∷ w) (dot-state m G (u t) (hist m t u) h ∙ sym (conv-dot m G u t))
+      (sums-rest hs (λ j. d (suc j)))
 
 length-labels : (m : ℕ) (gs : List Bool) (r : ℕ) (d : ℕ → Bits) (t : ℕ) → length (labels m gs r d t) ≡ r
 unfolding labels
@@ -61,10 +63,13 @@ length-labels m gs (suc r) d t = ap suc (length-labels m gs r (λ j. d (suc j)) 
 
 -- a code, and the data of a strip
 module _ (E : Encoder) (H : InMemory E) (d : ℕ → Bits) where
-  wanted-word : (u : Bits) (t : ℕ) → wanted E (u t ∷ take (E .memory) (hist (E .memory) t u)) (labels (E .memory) (E .first) (length (E .others)) d t) ≡ codeWord E d u t
+  wanted-word : (u : Bits) (t : ℕ)
+      → wanted E (u t ∷ take (E .memory) (hist (E .memory) t u)) (labels (E .memory) (E .first) (length (E .others)) d t) ≡ codeWord E d u t
   unfolding wanted codeWord hist
   wanted-word u t =
-      ap₂ (λ (b : Bool) (w : List Bool). b ∷ w) (dot-state (E .memory) (true ∷ E .first) (u t) (hist (E .memory) t u) (omega (arith, H .first-fits)) ∙ sym (conv-dot (E .memory) (true ∷ E .first) u t))
+      ap₂ (λ (b : Bool) (w : List Bool). b ∷ w)
+      (dot-state (E .memory) (true ∷ E .first) (u t) (hist (E .memory) t u) (omega (arith, H .first-fits))
+      ∙ sym (conv-dot (E .memory) (true ∷ E .first) u t))
       (sums-rest (E .memory) (E .first) u t (H .others-fit) d)
 
   -- the words from stage t on are those of the digits u
@@ -81,11 +86,16 @@ module _ (E : Encoder) (H : InMemory E) (d : ℕ → Bits) where
   spells-from : (u : Bits) (t : ℕ) (W : List (List Bool)) → ((i : ℕ) → i < length W → getD W i [] ≡ codeWord E d u (i + t)) → Spells u t W
   unfolding Spells
   spells-from u t [] f = tt
-  spells-from u t (w ∷ W) f = (f 0 (omega arith) ∙ ap (codeWord E d u) (omega arith), spells-from u (suc t) W (λ i h. f (suc i) (omega arith) ∙ ap (codeWord E d u) (omega arith)))
+  spells-from u t (w ∷ W) f = (
+    f 0 (omega arith)
+        ∙ ap (codeWord E d u) (omega arith),
+    spells-from u (suc t) W (λ i h. f (suc i) (omega arith) ∙ ap (codeWord E d u) (omega arith)),
+  )
 
   module _ (S : Steps) (M : Meaning) where
     -- what the digits u write is valid
-    complete : (u : Bits) {n : ℕ} {old : List Cell} → Full (M .cells) n old → (t : ℕ) {c : ℕ} {y : List ℕ} → Raised S old c y → Spells u t (words M n y)
+    complete : (u : Bits) {n : ℕ} {old : List Cell} → Full (M .cells) n old → (t : ℕ) {c : ℕ} {y : List ℕ} → Raised S old c y
+        → Spells u t (words M n y)
         → Valid (admit E S M) (next E) (stages E d (M .cells) t n old) (take (E .memory) (hist (E .memory) t u)) c y
     unfolding Valid stages admit next words groups Spells hist
     complete u done t still s = empty
@@ -111,7 +121,9 @@ module _ (E : Encoder) (H : InMemory E) (d : ℕ → Bits) where
 
     -- one stage more, before those found
     module _ (u : Bits) (b : Bool) (n t : ℕ) (old : List Cell) (e : length (take (M .cells) old) ≡ M .cells) where
-      found : (k : ℕ) (z : List ℕ) → Group S M (take (M .cells) old) (wanted E (b ∷ take (E .memory) (hist (E .memory) t u)) (labels (E .memory) (E .first) (length (E .others)) d t)) k z
+      found : (k : ℕ) (z : List ℕ)
+          → Group S M (take (M .cells) old)
+          (wanted E (b ∷ take (E .memory) (hist (E .memory) t u)) (labels (E .memory) (E .first) (length (E .others)) d t)) k z
           → (j : ℕ) (x : List ℕ) → Found (upd u t b) n (suc t) (drop (M .cells) old) j x → Found u (suc n) t old (k + j) (z ++ x)
       unfolding words groups Spells
       found k z q j x r = record {
@@ -120,7 +132,9 @@ module _ (E : Encoder) (H : InMemory E) (d : ℕ → Bits) where
         raised = rw (take-append-drop (M .cells) old) at (raised-append (q .raised) (r .raised));
         spells = (
           ap (M .means) (take-at z x (M .cells) len) ∙ q .word
-              ∙ ap₂ (λ (a : Bool) (h : List Bool). wanted E (a ∷ take (E .memory) h) (labels (E .memory) (E .first) (length (E .others)) d t)) (sym (r .past .at t (omega arith) ∙ upd-at u t b)) (sym (hist-agree (E .memory) t past))
+              ∙ ap₂ (λ (a : Bool) (h : List Bool). wanted E (a ∷ take (E .memory) h)
+              (labels (E .memory) (E .first) (length (E .others)) d t)) (sym (r .past .at t (omega arith) ∙ upd-at u t b))
+              (sym (hist-agree (E .memory) t past))
               ∙ wanted-word (r .by) t,
           rw (drop-at z x (M .cells) len) (r .spells),
         );
@@ -132,11 +146,13 @@ module _ (E : Encoder) (H : InMemory E) (d : ℕ → Bits) where
           past : Agree t (r .by) u
           past = agree-trans (agree-down (r .past)) (upd-below u t b)
 
-    state : (u : Bits) (t : ℕ) (b : Bool) → push (E .memory) b (take (E .memory) (hist (E .memory) t u)) ≡ take (E .memory) (hist (E .memory) (suc t) (upd u t b))
+    state : (u : Bits) (t : ℕ) (b : Bool) → push (E .memory) b (take (E .memory) (hist (E .memory) t u))
+        ≡ take (E .memory) (hist (E .memory) (suc t) (upd u t b))
     unfolding hist
     state u t b =
         push-state (E .memory) b (hist (E .memory) t u)
-        ∙ ap₂ (λ (a : Bool) (h : List Bool). take (E .memory) (a ∷ h)) (sym (upd-at u t b)) (sym (hist-agree (E .memory) t (upd-below u t b)))
+        ∙ ap₂ (λ (a : Bool) (h : List Bool). take (E .memory) (a ∷ h)) (sym (upd-at u t b))
+        (sym (hist-agree (E .memory) t (upd-below u t b)))
 
     sound : (u : Bits) {n : ℕ} {old : List Cell} → Full (M .cells) n old → (t : ℕ) (c : ℕ) (y : List ℕ)
         → Valid (admit E S M) (next E) (stages E d (M .cells) t n old) (take (E .memory) (hist (E .memory) t u)) c y → Found u n t old c y
@@ -164,32 +180,50 @@ module _ (E : Encoder) (H : InMemory E) (d : ℕ → Bits) where
       stages-ok (more e f) t = and-each (e, length-labels (E .memory) (E .first) (length (E .others)) d t) (stages-ok f (suc t))
 
       -- THE STRIP: write finds the best of all that is written, or nothing can be written
-      pub write-solves : (n : ℕ) (old : List Cell) → Full (M .cells) n old → Solves (Rewrite S M E d n old) (write E d choose (M .cells) n old)
+      pub write-solves : (n : ℕ) (old : List Cell) → Full (M .cells) n old
+          → Solves (Rewrite S M E d n old) (write E d choose (M .cells) n old)
       unfolding write admit
       write-solves n old p =
           solves-iff (λ c y. (to c y, from c y))
-          (best-solves (branch E choose) (next E) (admit E S M) (λ g. length (g .cells)) Ok branch-law (λ g s u. group-width S M (g .cells) _) (stages-ok p 0) (replicate (E .memory) false))
+          (best-solves (branch E choose) (next E) (admit E S M) (λ g. length (g .cells)) Ok branch-law
+          (λ g s u. group-width S M (g .cells) _) (stages-ok p 0) (replicate (E .memory) false))
         where
-          to : (c : ℕ) (y : List ℕ) → Valid (admit E S M) (next E) (stages E d (M .cells) 0 n old) (replicate (E .memory) false) c y → Rewrite S M E d n old c y
+          to : (c : ℕ) (y : List ℕ) → Valid (admit E S M) (next E) (stages E d (M .cells) 0 n old) (replicate (E .memory) false) c y
+              → Rewrite S M E d n old c y
           to c y w =
               let f : Found zeros n 0 old c y = sound zeros p 0 c y (rw (← (hist-zero (E .memory) zeros)) at w) in
               record {
                 raised = f .raised;
-                reads = written-reads E H d n (words M n y) (f .by) (record { at = λ t h. spells-at (f .by) 0 (words M n y) (f .spells) t (rw (length-words M n y) h) ∙ ap (codeWord E d (f .by)) (omega arith) });
+                reads = written-reads E H d n (words M n y) (f .by)
+                    (record {
+                      at = λ t h. spells-at (f .by) 0 (words M n y) (f .spells) t (rw (length-words M n y) h)
+                          ∙ ap (codeWord E d (f .by)) (omega arith);
+                    });
               }
 
-          from : (c : ℕ) (y : List ℕ) → Rewrite S M E d n old c y → Valid (admit E S M) (next E) (stages E d (M .cells) 0 n old) (replicate (E .memory) false) c y
+          from : (c : ℕ) (y : List ℕ) → Rewrite S M E d n old c y
+              → Valid (admit E S M) (next E) (stages E d (M .cells) 0 n old) (replicate (E .memory) false) c y
           from c y w =
               let u : Bits = quotient (E .memory) (E .first) (column 0 (words M n y)) in
-              let s : Written E d u n (words M n y) = reads-written E H d n (words M n y) (words-sized M _ (K .sized) (full-raised (M .cells) p (w .raised))) (w .reads) in
+              let s : Written E d u n (words M n y) =
+              reads-written E H d n (words M n y) (words-sized M _ (K .sized) (full-raised (M .cells) p (w .raised))) (w .reads) in
               rw (hist-zero (E .memory) u) at
-              (complete u p 0 (w .raised) (spells-from u 0 (words M n y) (λ i h. s .at i (rw (length-words M n y) at h) ∙ ap (codeWord E d u) (omega arith))))
+              (complete u p 0 (w .raised)
+              (spells-from u 0 (words M n y) (λ i h. s .at i (rw (length-words M n y) at h) ∙ ap (codeWord E d u) (omega arith))))
 
 -- ROOM in the state beyond what the generators reach changes no write
 pub room-same : (E : Encoder) (m : ℕ) → InMemory E → InMemory (withMemory m E)
-    → (d : ℕ → Bits) (S : Steps) (M : Meaning) (choose : Choice) → Chooses S M (suc (length (E .others))) choose → (n : ℕ) (old : List Cell) → Full (M .cells) n old
+    → (d : ℕ → Bits) (S : Steps) (M : Meaning) (choose : Choice) → Chooses S M (suc (length (E .others))) choose
+    → (n : ℕ) (old : List Cell) → Full (M .cells) n old
     → write (withMemory m E) d choose (M .cells) n old ≡ write E d choose (M .cells) n old
 room-same E m H K d S M choose C n old p =
     let same : Solves (Rewrite S M E d n old) (write (withMemory m E) d choose (M .cells) n old) =
-    solves-iff (λ c y. (λ w. record { raised = w .raised; reads = record { each = w .reads .each } }, λ w. record { raised = w .raised; reads = record { each = w .reads .each } })) (write-solves (withMemory m E) K d S M choose C n old p) in
+    solves-iff
+    (λ c y. (
+      λ w. record { raised = w .raised; reads = record { each = w .reads .each } },
+      λ w. record {
+        raised = w .raised;
+        reads = record { each = w .reads .each };
+      },
+    )) (write-solves (withMemory m E) K d S M choose C n old p) in
     solves-unique same (write-solves E H d S M choose C n old p)

@@ -18,7 +18,8 @@ module _ {S : Steps} where
   raised-length (rise p r e) = ap suc (raised-length r)
 
   -- two raisings, one after the other
-  pub raised-append : {old old′ : List Cell} {c c′ : ℕ} {y y′ : List ℕ} → Raised S old c y → Raised S old′ c′ y′ → Raised S (old ++ old′) (c + c′) (y ++ y′)
+  pub raised-append : {old old′ : List Cell} {c c′ : ℕ} {y y′ : List ℕ} → Raised S old c y → Raised S old′ c′ y′
+      → Raised S (old ++ old′) (c + c′) (y ++ y′)
   raised-append {c′ = c′} still q = let e : 0 + c′ ≡ c′ = omega arith in rw e q
   raised-append {c′ = c′} (rise {x = x} {to = w} {c = c} {k = k} p r e) q =
       let f : c + c′ ≡ climb (S .weight) (x .level) w + (k + c′) = omega arith in
@@ -38,7 +39,13 @@ raised-split zero {c = c} r = record { cost₁ = 0; cost₂ = c; raised₁ = sti
 raised-split (suc k) still = record { cost₁ = 0; cost₂ = 0; raised₁ = still; raised₂ = still; sum = refl }
 raised-split {S} (suc k) (rise {x = x} {to = w} {old = old} {new = new} p r e) =
     let q : Split S k old _ new = raised-split k r in
-    record { cost₁ = climb (S .weight) (x .level) w + q .cost₁; cost₂ = q .cost₂; raised₁ = rise p (q .raised₁) refl; raised₂ = q .raised₂; sum = omega arith }
+    record {
+      cost₁ = climb (S .weight) (x .level) w + q .cost₁;
+      cost₂ = q .cost₂;
+      raised₁ = rise p (q .raised₁) refl;
+      raised₂ = q .raised₂;
+      sum = omega arith;
+    }
 
 -- a stage's levels are as many as its cells
 pub group-width : (S : Steps) (M : Meaning) (xs : List Cell) (w : List Bool) → Width (length xs) (Group S M xs w)
@@ -71,7 +78,8 @@ unfolding words
 length-words M n y = length-map (groups (M .cells) n y) (M .means) ∙ length-groups (M .cells) n y
 
 -- each of b bits
-pub words-sized : (M : Meaning) (b : ℕ) → ((y : List ℕ) → length y ≡ M .cells → length (M .means y) ≡ b) → {n : ℕ} {y : List ℕ} → Full (M .cells) n y → BitsEach b n (words M n y)
+pub words-sized : (M : Meaning) (b : ℕ) → ((y : List ℕ) → length y ≡ M .cells → length (M .means y) ≡ b) → {n : ℕ} {y : List ℕ}
+    → Full (M .cells) n y → BitsEach b n (words M n y)
 unfolding words groups
 words-sized M b f done = record { size = λ i h. absurd (not-suc-le-zero h) }
 words-sized M b f (more {n = n} {l = l} e q) = record { size = go (words-sized M b f q) }

@@ -36,10 +36,12 @@ module _ {G : Type 0} (m : ℕ) (branch : G → List Bool → Bool → Option So
       (table-best gs (next g s false) (stays g s false l)) (table-best gs (next g s true) (stays g s true l))
 
 -- the write of a strip
-pub write-by-table : (E : Encoder) (d : ℕ → Bits) (choose : Choice) (k n : ℕ) (old : List Cell) → write-table E d choose k n old ≡ write E d choose k n old
+pub write-by-table : (E : Encoder) (d : ℕ → Bits) (choose : Choice) (k n : ℕ) (old : List Cell)
+    → write-table E d choose k n old ≡ write E d choose k n old
 unfolding write-table write next push
 write-by-table E d choose k n old =
-    table-best (E .memory) (branch E choose) (next E) stays (stages E d k 0 n old) (replicate (E .memory) false) (length-replicate (E .memory) false)
+    table-best (E .memory) (branch E choose) (next E) stays (stages E d k 0 n old) (replicate (E .memory) false)
+    (length-replicate (E .memory) false)
   where
     stays : (g : Stage) (s : List Bool) (u : Bool) → length s ≡ E .memory → length (next E g s u) ≡ E .memory
     stays g s u l = omega (arith, length-take (E .memory) (u ∷ s))

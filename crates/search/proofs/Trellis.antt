@@ -26,7 +26,8 @@ module _ {G S : Type 0} (branch : G → S → Bool → Option Solution) (next : 
   pub width-valid : (gs : List G) (s : S) → Width (total width gs) (Valid admit next gs s)
   unfolding Valid total
   width-valid [] s = width-empty
-  width-valid (g ∷ gs) s = width-either (width g + total width gs) (λ u. width-product (width g) (total width gs) (wide g s u) (width-valid gs (next g s u)))
+  width-valid (g ∷ gs) s =
+      width-either (width g + total width gs) (λ u. width-product (width g) (total width gs) (wide g s u) (width-valid gs (next g s u)))
 
 -- THE PARTS: all solves them, and where there is no answer first-none is the first part that has none
 module _ {I : Type 0} (answer : I → Option Solution) (problem : I → Problem) (width : I → ℕ)
@@ -43,7 +44,8 @@ module _ {I : Type 0} (answer : I → Option Solution) (problem : I → Problem)
   none-first no-more e = absurd (some-none free e)
   none-first (and-each {g = i} {gs = is} o os) e = go (answer i) (law i o) (all answer is) (none-first os) e
     where
-      go : (r : Option Solution) → Solves (problem i) r → (q : Option Solution) → (q ≡ none → FirstClosed problem is (first-none answer is)) → joined r q ≡ none
+      go : (r : Option Solution) → Solves (problem i) r → (q : Option Solution)
+          → (q ≡ none → FirstClosed problem is (first-none answer is)) → joined r q ≡ none
           → FirstClosed problem (i ∷ is) (elim r [ none ↦ 0 | some a ↦ suc (first-none answer is) ])
       go none (nothing p) q f e = here p
       go (some a) (just p) none f e = later (a .cost) (a .levels) (p .valid) (f refl)

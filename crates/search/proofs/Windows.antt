@@ -36,18 +36,21 @@ unfolding parityOf
 parity-number taps w = sym (one-if-odd _ (mod-lt _ (zero-lt-suc 1)))
 
 -- the parity of a window with the newest digit b: the generator's digit 0 times b, and the older digits' sum
-parity-newest : (m g s b : ℕ) → b < 2 → parityOf (tapsOf m g) (2 * s + b) ≡ (digit m g 0 * b + sumOf m (λ i. digit m g (suc i) * (s / 2 ^ i % 2))) % 2
+parity-newest : (m g s b : ℕ) → b < 2
+    → parityOf (tapsOf m g) (2 * s + b) ≡ (digit m g 0 * b + sumOf m (λ i. digit m g (suc i) * (s / 2 ^ i % 2))) % 2
 unfolding sumOf
 parity-newest m g s b h =
     let p : (2 * s + b) / 1 % 2 ≡ b = omega arith in
     let q : (2 * s + b) / 2 ≡ s = omega arith in
     parity-digits m g (2 * s + b)
-    ∙ ap₂ (λ (x y : ℕ). (digit m g 0 * x + y) % 2) p (sumOf-same m _ _ (λ i l. ap (λ (y : ℕ). digit m g (suc i) * (y % 2)) (half-power (2 * s + b) i ∙ ap (λ (y : ℕ). y / 2 ^ i) q)))
+    ∙ ap₂ (λ (x y : ℕ). (digit m g 0 * x + y) % 2) p
+    (sumOf-same m _ _ (λ i l. ap (λ (y : ℕ). digit m g (suc i) * (y % 2)) (half-power (2 * s + b) i ∙ ap (λ (y : ℕ). y / 2 ^ i) q)))
 
 -- so where digit 0 is 1, the two newest digits give two bits
 pub parity-flip : (m g s : ℕ) → digit m g 0 ≡ 1 → odd (parityOf (tapsOf m g) (2 * s + 1)) ≡ not (odd (parityOf (tapsOf m g) (2 * s + 0)))
 unfolding odd
-parity-flip m g s e = rw (parity-newest m g s 0 (omega arith), parity-newest m g s 1 (omega arith), e) (flip (sumOf m (λ i. digit m g (suc i) * (s / 2 ^ i % 2))))
+parity-flip m g s e = rw (parity-newest m g s 0 (omega arith), parity-newest m g s 1 (omega arith), e)
+    (flip (sumOf m (λ i. digit m g (suc i) * (s / 2 ^ i % 2))))
   where
     flip : (r : ℕ) → odd ((1 * 1 + r) % 2) ≡ not (odd ((1 * 0 + r) % 2))
     flip r =
@@ -84,7 +87,8 @@ pub word-half : (G : Generators) (w : ℕ) → odd (wordOf G w / 2) ≡ secondOf
 word-half G w = ap odd (word-second G w) ∙ odd-one-if (secondOf G w)
 
 -- where both generators begin with 1, the word of the newest digit 1 has the other bits than that of the digit 0
-pub word-flip : (G : Generators) (s : ℕ) → digit (G .memory) (G .g1) 0 ≡ 1 → digit (G .memory) (g2 G) 0 ≡ 1 → 3 - wordOf G (2 * s) ≡ wordOf G (2 * s + 1)
+pub word-flip : (G : Generators) (s : ℕ) → digit (G .memory) (G .g1) 0 ≡ 1 → digit (G .memory) (g2 G) 0 ≡ 1
+    → 3 - wordOf G (2 * s) ≡ wordOf G (2 * s + 1)
 unfolding one-if
 word-flip G s e f =
     let z : 2 * s ≡ 2 * s + 0 = omega arith in

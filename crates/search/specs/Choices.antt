@@ -23,7 +23,8 @@ least (suc n) f = better (least n f) (f n)
 -- a cell raised to a level: not lower, and the same where it is marked
 unfoldable pub toLevel : Steps → Cell → ℕ → Option Solution
 toLevel S x to =
-    cond (leb (x .level) to && (not (x .mark) || eqb to (x .level))) (some (record { cost = climb (S .weight) (x .level) to; levels = to ∷ [] })) none
+    cond (leb (x .level) to && (not (x .mark) || eqb to (x .level)))
+    (some (record { cost = climb (S .weight) (x .level) to; levels = to ∷ [] })) none
 
 -- every level of every cell
 unfoldable pub tried : Steps → (List ℕ → Bool) → List Cell → Option Solution

@@ -45,7 +45,8 @@ stagesOf lay E L strip marks content = stages E (dataBits lay content) (lay .cel
 -- THE WRITE of a strip: the best of all levels that read as the data, with no level lowered and marked cells kept
 unfoldable pub rewriteOf : Layout → Generators → List ℕ → ℕ → List ℕ → (ℕ → Bool) → List ℕ → Option Solution
 rewriteOf lay G W L strip marks content =
-    write (encoderOf G) (dataBits lay content) (choiceOf (stepsOf W) (meaningOf lay)) (lay .cells) (stagesIn lay L) (stripCells lay L strip marks)
+    write (encoderOf G) (dataBits lay content) (choiceOf (stepsOf W) (meaningOf lay)) (lay .cells) (stagesIn lay L)
+    (stripCells lay L strip marks)
 
 -- a code bit for each generator, by the levels of a stage; and G1 begins with 1, so that data can be divided by it
 pub record Sound (lay : Layout) (G : Generators) : Type 0 where

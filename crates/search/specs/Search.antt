@@ -61,7 +61,8 @@ next E g s u = push (E .memory) u s
 -- n stages of k cells from stage t on
 unfoldable pub stages : Encoder → (ℕ → Bits) → ℕ → ℕ → ℕ → List Cell → List Stage
 stages E d k t zero old = []
-stages E d k t (suc n) old = record { adds = labels (E .memory) (E .first) (length (E .others)) d t; cells = take k old } ∷ stages E d k (suc t) n (drop k old)
+stages E d k t (suc n) old =
+    record { adds = labels (E .memory) (E .first) (length (E .others)) d t; cells = take k old } ∷ stages E d k (suc t) n (drop k old)
 
 -- the write of a strip of n stages of k cells
 unfoldable pub write : Encoder → (ℕ → Bits) → Choice → ℕ → ℕ → List Cell → Option Solution

@@ -49,7 +49,8 @@ pub record Rise (S : Steps) (x : Cell) (to : ℕ) : Type 0 where
 -- the cells become these levels, at the sum of their climbs
 pub data Raised (S : Steps) : List Cell → ℕ → List ℕ → Type 0 where
   still : Raised S [] 0 []
-  rise : {x : Cell} {to c k : ℕ} {old : List Cell} {new : List ℕ} → Rise S x to → Raised S old k new → c ≡ climb (S .weight) (x .level) to + k → Raised S (x ∷ old) c (to ∷ new)
+  rise : {x : Cell} {to c k : ℕ} {old : List Cell} {new : List ℕ} → Rise S x to → Raised S old k new
+      → c ≡ climb (S .weight) (x .level) to + k → Raised S (x ∷ old) c (to ∷ new)
 
 -- n groups of k, one after the other: the cells of n stages
 unfoldable pub groups : {A : Type 0} → ℕ → ℕ → List A → List (List A)

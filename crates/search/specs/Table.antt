@@ -36,7 +36,9 @@ module _ {A : Type 0} where
 module _ {G : Type 0} (m : ℕ) (branch : G → List Bool → Bool → Option Solution) (next : G → List Bool → Bool → List Bool) where
   -- one stage before a table
   unfoldable pub step : G → Tree (Option Solution) → Tree (Option Solution)
-  step g T = grow m (λ s. better (joined (branch g s false) (look none T (next g s false))) (joined (branch g s true) (look none T (next g s true))))
+  step g T =
+      grow m (λ s. better (joined (branch g s false) (look none T (next g s false)))
+      (joined (branch g s true) (look none T (next g s true))))
 
   -- the table of a list of stages
   unfoldable pub table : List G → Tree (Option Solution)
@@ -45,4 +47,5 @@ module _ {G : Type 0} (m : ℕ) (branch : G → List Bool → Bool → Option So
 
 -- the write of a strip of n stages of k cells, by tables
 unfoldable pub write-table : Encoder → (ℕ → Bits) → Choice → ℕ → ℕ → List Cell → Option Solution
-write-table E d choose k n old = look none (table (E .memory) (branch E choose) (next E) (stages E d k 0 n old)) (replicate (E .memory) false)
+write-table E d choose k n old =
+    look none (table (E .memory) (branch E choose) (next E) (stages E d k 0 n old)) (replicate (E .memory) false)

@@ -41,7 +41,8 @@ unfolding followed
 followed-digit dec t s e = ap (λ (s : ℕ). (dec t / 2 ^ s) % 2) e
 
 -- the state a stage later
-pub followed-next : (dec : ℕ → ℕ) (k i s : ℕ) → s ≡ followedState dec (k + i) → (2 * s + (dec (k + i) / 2 ^ s) % 2) % 64 ≡ followedState dec (k + (i + 1))
+pub followed-next : (dec : ℕ → ℕ) (k i s : ℕ) → s ≡ followedState dec (k + i)
+    → (2 * s + (dec (k + i) / 2 ^ s) % 2) % 64 ≡ followedState dec (k + (i + 1))
 unfolding followedState
 followed-next dec k i s e =
     let n : suc (k + i) ≡ k + (i + 1) = omega arith in
@@ -60,11 +61,14 @@ module _ (n : ℕ) (dec dec′ : ℕ → ℕ) (agree : (t : ℕ) → t < n → d
   followed-same t h = ap₂ (λ (s d : ℕ). (d / 2 ^ s) % 2) (states-same t (omega arith)) (agree t h)
 
 -- and to the same bytes of digits
-pub followed-agree : (n m : ℕ) (dec dec′ : ℕ → ℕ) (bytes : List ℕ) → m ≡ n → ((t : ℕ) → t < 8 * n → dec t ≡ dec′ t) → bytes ≡ bytesOf m (followed dec) → bytes ≡ bytesOf n (followed dec′)
-followed-agree n m dec dec′ bytes e agree f = f ∙ ap (λ (k : ℕ). bytesOf k (followed dec)) e ∙ bytesOf-same n _ _ (followed-same (8 * n) dec dec′ agree)
+pub followed-agree : (n m : ℕ) (dec dec′ : ℕ → ℕ) (bytes : List ℕ) → m ≡ n → ((t : ℕ) → t < 8 * n → dec t ≡ dec′ t)
+    → bytes ≡ bytesOf m (followed dec) → bytes ≡ bytesOf n (followed dec′)
+followed-agree n m dec dec′ bytes e agree f =
+    f ∙ ap (λ (k : ℕ). bytesOf k (followed dec)) e ∙ bytesOf-same n _ _ (followed-same (8 * n) dec dec′ agree)
 
 -- n numbers that are each a byte of these bits are their bytes
-pub followed-bytes : (n : ℕ) (f : ℕ → ℕ) (bytes : List ℕ) → length bytes ≡ n → ((k : ℕ) → k < n → getD bytes k 0 ≡ number 8 (λ i. f (8 * k + i))) → bytes ≡ bytesOf n f
+pub followed-bytes : (n : ℕ) (f : ℕ → ℕ) (bytes : List ℕ) → length bytes ≡ n
+    → ((k : ℕ) → k < n → getD bytes k 0 ≡ number 8 (λ i. f (8 * k + i))) → bytes ≡ bytesOf n f
 unfolding bytesOf
 followed-bytes n f bytes e b = sym (listOf-getD n bytes 0 e) ∙ listOf-same n _ _ b
 
@@ -74,17 +78,20 @@ unfolding shown
 shown-same page c w e = ap (λ (b : Bool). cond b page (cond (canRise page c) (raisedCell startOf page c) page)) (eq-eqb _ _ e)
 
 -- one that does not is raised where it can rise
-shown-other : (page : List ℕ) (c w : ℕ) → (level page c % 2 ≡ w → ⊥) → shown page c w ≡ cond (canRise page c) (raisedCell startOf page c) page
+shown-other : (page : List ℕ) (c w : ℕ) → (level page c % 2 ≡ w → ⊥)
+    → shown page c w ≡ cond (canRise page c) (raisedCell startOf page c) page
 unfolding shown
 shown-other page c w n = ap (λ (b : Bool). cond b page (cond (canRise page c) (raisedCell startOf page c) page)) (ne-eqb _ _ n)
 
 -- what `raise` leaves of it
-pub shown-raised : (page after : List ℕ) (c w l : ℕ) (r : Bool) → l ≡ level page c → (l % 2 ≡ w → ⊥) → r ≡ canRise page c → after ≡ cond r (raisedCell startOf page c) page → after ≡ shown page c w
+pub shown-raised : (page after : List ℕ) (c w l : ℕ) (r : Bool) → l ≡ level page c → (l % 2 ≡ w → ⊥) → r ≡ canRise page c
+    → after ≡ cond r (raisedCell startOf page c) page → after ≡ shown page c w
 shown-raised page after c w l r e n f g =
     g ∙ ap (λ (b : Bool). cond b (raisedCell startOf page c) page) f ∙ sym (shown-other page c w (λ h. n (ap (λ (x : ℕ). x % 2) e ∙ h)))
 
 -- one cell more: it comes one higher where it does not show the bit that is wanted, and a full cell stays
-pub shown-more : (page : List ℕ) (to to′ : ℕ → ℕ) (c w : ℕ) → 3 * c + 2 < 8 * length page → w ≤ 1 → to c ≡ level page c → ((e : ℕ) → (e ≡ c → ⊥) → to′ e ≡ to e)
+pub shown-more : (page : List ℕ) (to to′ : ℕ → ℕ) (c w : ℕ) → 3 * c + 2 < 8 * length page → w ≤ 1 → to c ≡ level page c
+    → ((e : ℕ) → (e ≡ c → ⊥) → to′ e ≡ to e)
     → to′ c ≡ level page c + (level page c + w) % 2 → shown (raisedTo startOf page to) c w ≡ raisedTo startOf page to′
 shown-more page to to′ c w inside b still others m =
     let q = raisedTo startOf page to in
@@ -100,10 +107,12 @@ shown-more page to to′ c w inside b still others m =
     ⊎-elim
     (λ f.
     let f′ : level q c ≡ 3 = omega arith in
-    ap (λ (r : Bool). cond r (raisedCell startOf q c) q) (canRise-full q c f′) ∙ raisedTo-full startOf page to c inside still to′ others f m′)
+    ap (λ (r : Bool). cond r (raisedCell startOf q c) q) (canRise-full q c f′)
+    ∙ raisedTo-full startOf page to c inside still to′ others f m′)
     (λ f.
     let f′ : level q c < 3 = ne-cases (level page c) 3 (level q c < 3) f (λ x. omega arith) (λ x. omega (arith, level-bound page c)) in
-    ap (λ (r : Bool). cond r (raisedCell startOf q c) q) (canRise-yes q c (omega arith) f′) ∙ raisedTo-more startOf page to c inside still to′ others m′)
+    ap (λ (r : Bool). cond r (raisedCell startOf q c) q) (canRise-yes q c (omega arith) f′)
+    ∙ raisedTo-more startOf page to c inside still to′ others m′)
     (same? (level page c) 3))
     (same? (level q c % 2) w)
 
@@ -125,10 +134,12 @@ module _ (G : Generators) (strip content : List ℕ) (u : ℕ → ℕ) where
 
   -- before the first cell the strip is as it was
   pub carried-none : Octets strip → strip ≡ raisedTo startOf strip (carriedBelow 0)
-  carried-none o = sym (raisedTo-same startOf strip (carriedBelow 0) (level strip) (λ c h. below-left 0 c (omega arith)) ∙ raisedTo-none startOf strip o)
+  carried-none o =
+      sym (raisedTo-same startOf strip (carriedBelow 0) (level strip) (λ c h. below-left 0 c (omega arith)) ∙ raisedTo-none startOf strip o)
 
   -- a cell more
-  carried-more : (n w : ℕ) → 3 * n + 2 < 8 * length strip → w ≤ 1 → w ≡ wantedOf G content u n → shown (raisedTo startOf strip (carriedBelow n)) n w ≡ raisedTo startOf strip (carriedBelow (suc n))
+  carried-more : (n w : ℕ) → 3 * n + 2 < 8 * length strip → w ≤ 1 → w ≡ wantedOf G content u n
+      → shown (raisedTo startOf strip (carriedBelow n)) n w ≡ raisedTo startOf strip (carriedBelow (suc n))
   unfolding carriedTo
   carried-more n w h b e =
       shown-more strip (carriedBelow n) (carriedBelow (suc n)) n w h b (below-left n n (omega arith))
@@ -138,7 +149,8 @@ module _ (G : Generators) (strip content : List ℕ) (u : ℕ → ℕ) where
       (below-done (suc n) n (omega arith) ∙ ap (λ (w : ℕ). level strip n + (level strip n + w) % 2) (sym e))
 
   -- past the last cell all are carried out
-  pub carried-all : (n : ℕ) → 8 * length strip ≤ 3 * n → raisedTo startOf strip (carriedBelow n) ≡ raisedTo startOf strip (carriedTo G strip content u)
+  pub carried-all : (n : ℕ) → 8 * length strip ≤ 3 * n
+      → raisedTo startOf strip (carriedBelow n) ≡ raisedTo startOf strip (carriedTo G strip content u)
   carried-all n h = raisedTo-same startOf strip (carriedBelow n) _ (λ c l. below-done n c (omega arith))
 
   -- STAGE t. The first cell's bit
@@ -158,14 +170,18 @@ module _ (G : Generators) (strip content : List ℕ) (u : ℕ → ℕ) where
       rw (x, y)
 
   -- both cells
-  pub carried-stage : (t a b : ℕ) (s s₁ s₂ : List ℕ) → 6 * t + 5 < 8 * length strip → a ≤ 1 → b ≤ 1 → a ≡ wantedFirst G u t → b ≡ wantedSecond G content u t
-      → s ≡ raisedTo startOf strip (carriedBelow (2 * t)) → s₁ ≡ shown s (2 * t) a → s₂ ≡ shown s₁ (2 * t + 1) b → s₂ ≡ raisedTo startOf strip (carriedBelow (2 * (t + 1)))
+  pub carried-stage : (t a b : ℕ) (s s₁ s₂ : List ℕ) → 6 * t + 5 < 8 * length strip → a ≤ 1 → b ≤ 1 → a ≡ wantedFirst G u t
+      → b ≡ wantedSecond G content u t
+      → s ≡ raisedTo startOf strip (carriedBelow (2 * t)) → s₁ ≡ shown s (2 * t) a → s₂ ≡ shown s₁ (2 * t + 1) b
+      → s₂ ≡ raisedTo startOf strip (carriedBelow (2 * (t + 1)))
   carried-stage t a b s s₁ s₂ h la lb ea eb e e₁ e₂ =
       let p : suc (2 * t) ≡ 2 * t + 1 = omega arith in
       let q : suc (2 * t + 1) ≡ 2 * (t + 1) = omega arith in
       let one : s₁ ≡ raisedTo startOf strip (carriedBelow (2 * t + 1)) =
-      e₁ ∙ ap (λ (l : List ℕ). shown l (2 * t) a) e ∙ carried-more (2 * t) a (omega arith) la (ea ∙ sym (wanted-even t)) ∙ ap (λ (n : ℕ). raisedTo startOf strip (carriedBelow n)) p in
-      e₂ ∙ ap (λ (l : List ℕ). shown l (2 * t + 1) b) one ∙ carried-more (2 * t + 1) b (omega arith) lb (eb ∙ sym (wanted-odd t)) ∙ ap (λ (n : ℕ). raisedTo startOf strip (carriedBelow n)) q
+      e₁ ∙ ap (λ (l : List ℕ). shown l (2 * t) a) e ∙ carried-more (2 * t) a (omega arith) la (ea ∙ sym (wanted-even t))
+      ∙ ap (λ (n : ℕ). raisedTo startOf strip (carriedBelow n)) p in
+      e₂ ∙ ap (λ (l : List ℕ). shown l (2 * t + 1) b) one ∙ carried-more (2 * t + 1) b (omega arith) lb (eb ∙ sym (wanted-odd t))
+      ∙ ap (λ (n : ℕ). raisedTo startOf strip (carriedBelow n)) q
 
 -- the state a stage later
 pub state-next : (u : ℕ → ℕ) (t s d : ℕ) → s ≡ stateAt u t → d ≡ u t → (2 * s + d) % 64 ≡ stateAt u (t + 1)
@@ -173,18 +189,21 @@ unfolding stateAt
 state-next u t s d e f = ap₂ (λ (s d : ℕ). (2 * s + d) % 64) e f ∙ ap (stateAt u) (sym (add-one t))
 
 -- the register a stage later
-pub register-next : (G : Generators) (content : List ℕ) (t first r d x : ℕ) → first ≡ tapsOf (G .memory) (G .g1) → r ≡ registerAt G content t → d ≡ bitOf content t
+pub register-next : (G : Generators) (content : List ℕ) (t first r d x : ℕ) → first ≡ tapsOf (G .memory) (G .g1)
+    → r ≡ registerAt G content t → d ≡ bitOf content t
     → x ≡ forthOf (G .memory) first r d → x ≡ registerAt G content (t + 1)
 unfolding registerAt
 register-next G content t first r d x f e g h = rw (add-one, ← f, ← e, ← g) h
 
 -- the first bit that is wanted
-pub first-wanted : (G : Generators) (u : ℕ → ℕ) (t first s d a : ℕ) → first ≡ tapsOf (G .memory) (G .g1) → s ≡ stateAt u t → d ≡ u t → a ≡ parityOf first (2 * s + d) → a ≡ wantedFirst G u t
+pub first-wanted : (G : Generators) (u : ℕ → ℕ) (t first s d a : ℕ) → first ≡ tapsOf (G .memory) (G .g1) → s ≡ stateAt u t → d ≡ u t
+    → a ≡ parityOf first (2 * s + d) → a ≡ wantedFirst G u t
 unfolding wantedFirst
 first-wanted G u t first s d a f e g h = rw (← f, ← e, ← g) h
 
 -- the second, by the register after the stage
-pub second-wanted : (G : Generators) (content : List ℕ) (u : ℕ → ℕ) (t second s d b r : ℕ) → second ≡ tapsOf (G .memory) (g2 G) → s ≡ stateAt u t → d ≡ u t → b ≡ parityOf second (2 * s + d)
+pub second-wanted : (G : Generators) (content : List ℕ) (u : ℕ → ℕ) (t second s d b r : ℕ) → second ≡ tapsOf (G .memory) (g2 G)
+    → s ≡ stateAt u t → d ≡ u t → b ≡ parityOf second (2 * s + d)
     → r ≡ registerAt G content (t + 1) → (b + r % 2) % 2 ≡ wantedSecond G content u t
 unfolding wantedSecond labelAt
 second-wanted G content u t second s d b r f e g h k =

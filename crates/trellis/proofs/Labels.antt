@@ -27,7 +27,9 @@ module _ (G : Generators) (p : Proper G) where
   -- and the last
   last-tap : getD (true ∷ encoderOf G .first) (G .memory) false ≡ true
   unfolding odd
-  last-tap = rw (first-digits G (p .leads)) (listOf-at (suc (G .memory)) (λ i. odd (digit (G .memory) (G .g1) i)) (G .memory) false (omega arith) ∙ ap odd (p .ends))
+  last-tap =
+      rw (first-digits G (p .leads)) (listOf-at (suc (G .memory)) (λ i. odd (digit (G .memory) (G .g1) i)) (G .memory) false (omega arith)
+      ∙ ap odd (p .ends))
 
   -- its digits after the first are as many as the memory
   first-length : length (encoderOf G .first) ≡ G .memory
@@ -48,19 +50,23 @@ module _ (G : Generators) (p : Proper G) (content : List ℕ) where
       (ap (forthOf (G .memory) _ _) (sym (data-bit t)) ∙ register-forth (G .memory) (encoderOf G .first) (λ t. odd (bitOf content t)) t)
 
   -- it steps back by the data bit of the stage before
-  pub register-back : (t : ℕ) → backOf (G .memory) (tapsOf (G .memory) (G .g1)) (registerAt G content (suc t)) (bitOf content t) ≡ registerAt G content t
+  pub register-back : (t : ℕ) → backOf (G .memory) (tapsOf (G .memory) (G .g1)) (registerAt G content (suc t)) (bitOf content t)
+      ≡ registerAt G content t
   register-back t =
       rw (first-taps G p, register-value (suc t), register-value t)
       (ap (backOf (G .memory) _ _) (sym (data-bit t))
-      ∙ register-stepped-back (G .memory) (encoderOf G .first) (λ t. odd (bitOf content t)) t (p .some-memory) (first-length G p) (last-tap G p))
+      ∙ register-stepped-back (G .memory) (encoderOf G .first) (λ t. odd (bitOf content t)) t (p .some-memory) (first-length G p)
+      (last-tap G p))
 
   -- LABELS. A label is the quotient's bit
   pub label-quotient : (t : ℕ) → labelAt G content t ≡ one-if (quotient (G .memory) (encoderOf G .first) (λ t. odd (bitOf content t)) t)
   unfolding labelAt
-  label-quotient t = ap (λ (r : ℕ). r % 2) (register-value (suc t)) ∙ register-label (G .memory) (encoderOf G .first) (λ t. odd (bitOf content t)) t (p .some-memory)
+  label-quotient t = ap (λ (r : ℕ). r % 2) (register-value (suc t))
+      ∙ register-label (G .memory) (encoderOf G .first) (λ t. odd (bitOf content t)) t (p .some-memory)
 
 -- what the loop over the data steps forth to
-pub register-more : (G : Generators) (content : List ℕ) (t : ℕ) {taps r d x : ℕ} → taps ≡ tapsOf (G .memory) (G .g1) → r ≡ registerAt G content t → d ≡ bitOf content t
+pub register-more : (G : Generators) (content : List ℕ) (t : ℕ) {taps r d x : ℕ} → taps ≡ tapsOf (G .memory) (G .g1)
+    → r ≡ registerAt G content t → d ≡ bitOf content t
     → x ≡ forthOf (G .memory) taps r d → x ≡ registerAt G content (t + 1)
 unfolding registerAt
 register-more G content t p q e f = rw (add-one, f, p, q, e)

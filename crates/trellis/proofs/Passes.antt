@@ -61,7 +61,8 @@ unfolding costsBefore
 length-before steps strip t x words after = length-stage 64 after words _ _ _ _
 
 -- and none of them is more than the bound of those after it and two steps
-before-le : (bound cap : ℕ) (steps strip : List ℕ) (t x : ℕ) (words after : List ℕ) → ((i : ℕ) → getD steps i 0 ≤ cap) → ((i : ℕ) → getD after i 0 ≤ bound)
+before-le : (bound cap : ℕ) (steps strip : List ℕ) (t x : ℕ) (words after : List ℕ) → ((i : ℕ) → getD steps i 0 ≤ cap)
+    → ((i : ℕ) → getD after i 0 ≤ bound)
     → (i : ℕ) → getD (costsBefore steps strip t x words after) i 0 ≤ bound + 2 * cap
 unfolding costsBefore firstPrice secondPrice
 before-le bound cap steps strip t x words after s a =
@@ -75,7 +76,8 @@ before-le bound cap steps strip t x words after s a =
 
 -- a stage by the prices of its two cells is the stage before: the second cell shows the code's bit with the label added
 module _ (steps strip : List ℕ) (t x : ℕ) (words after : List ℕ) {first second a0 a1 b0 b1 : ℕ} (h : x ≤ 1)
-    (e : first ≡ level strip (2 * t)) (f : second ≡ level strip (2 * t + 1)) (p : a0 ≡ priceFor steps first 0) (q : a1 ≡ priceFor steps first 1)
+    (e : first ≡ level strip (2 * t)) (f : second ≡ level strip (2 * t + 1)) (p : a0 ≡ priceFor steps first 0)
+    (q : a1 ≡ priceFor steps first 1)
     (r : b0 ≡ priceFor steps second x) (s : b1 ≡ priceFor steps second (1 - x)) where
   -- the costs of the states
   pub is-before : {before : List ℕ} → before ≡ stageOf 64 after words a0 a1 b0 b1 → before ≡ costsBefore steps strip t x words after
@@ -110,11 +112,17 @@ module _ (G : Generators) (W strip content : List ℕ) (n : ℕ) where
   pub over-le : ((i : ℕ) → getD W i 0 ≤ 255) → (k i : ℕ) → getD (costsOver G W strip content n k) i 0 ≤ k * (2 * closed)
   unfolding costsOver
   over-le h zero i = zeros-le 64 i
-  over-le h (suc k) i = omega (arith, before-le (k * (2 * closed)) closed (stepList W) strip (n - suc k) (labelAt G content (n - suc k)) (wordsOf G) (costsOver G W strip content n k) (steps-le W h) (over-le h k) i)
+  over-le h (suc k) i =
+      omega (
+        arith,
+        before-le (k * (2 * closed)) closed (stepList W) strip (n - suc k) (labelAt G content (n - suc k)) (wordsOf G)
+            (costsOver G W strip content n k) (steps-le W h) (over-le h k) i,
+      )
 
   -- the stage t before the costs of those after it
   pub over-more : (t : ℕ) → t < n
-      → costsBefore (stepList W) strip t (labelAt G content t) (wordsOf G) (costsOver G W strip content n (n - suc t)) ≡ costsOver G W strip content n (n - t)
+      → costsBefore (stepList W) strip t (labelAt G content t) (wordsOf G) (costsOver G W strip content n (n - suc t))
+      ≡ costsOver G W strip content n (n - t)
   unfolding costsOver
   over-more t h =
       let e : n - t ≡ suc (n - suc t) = omega arith in
@@ -144,7 +152,8 @@ module _ (G : Generators) (steps strip content : List ℕ) (n : ℕ) where
   held-last e = let z : n - n ≡ 0 = omega arith in record { within = omega arith; register-is = e; costs-are = λ W s. rw z }
 
   -- and before the first the costs are those over all stages
-  pub held-first : {t r : ℕ} {costs : List ℕ} → t ≡ 0 → Held G steps strip content n t r costs → (W : List ℕ) → steps ≡ stepList W → costs ≡ costsOver G W strip content n n
+  pub held-first : {t r : ℕ} {costs : List ℕ} → t ≡ 0 → Held G steps strip content n t r costs → (W : List ℕ) → steps ≡ stepList W
+      → costs ≡ costsOver G W strip content n n
   held-first {t} e h W s = let z : n - t ≡ n = omega arith in h .costs-are W s ∙ ap (costsOver G W strip content n) z
 
   -- A TURN goes from stage t to stage u, the one before it
@@ -161,7 +170,8 @@ module _ (G : Generators) (steps strip content : List ℕ) (n : ℕ) where
 
     module _ {words : List ℕ} (w : words ≡ wordsOf G) where
       -- what it gives: the register and the costs a stage earlier
-      pub held-more : Proper G → {taps d x : ℕ} {before : List ℕ} → taps ≡ tapsOf (G .memory) (G .g1) → d ≡ bitOf content u → x ≡ backOf (G .memory) taps r d
+      pub held-more : Proper G → {taps d x : ℕ} {before : List ℕ} → taps ≡ tapsOf (G .memory) (G .g1) → d ≡ bitOf content u
+          → x ≡ backOf (G .memory) taps r d
           → before ≡ costsBefore steps strip u (r % 2) words costs → Held G steps strip content n u x before
       unfolding labelAt
       held-more p f g k m = record {
@@ -171,6 +181,7 @@ module _ (G : Generators) (steps strip content : List ℕ) (n : ℕ) where
       }
 
       -- and the digits that the states take
-      pub held-digits : {y : ℕ} → y ≡ digitsBefore steps strip u (r % 2) words costs → (W : List ℕ) → steps ≡ stepList W → y ≡ decisionAt G W strip content n u
+      pub held-digits : {y : ℕ} → y ≡ digitsBefore steps strip u (r % 2) words costs → (W : List ℕ) → steps ≡ stepList W
+          → y ≡ decisionAt G W strip content n u
       unfolding labelAt decisionAt
       held-digits m W s = rw (m, h .costs-are W s, h .register-is, w, s, e)

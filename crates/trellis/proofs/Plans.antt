@@ -54,7 +54,8 @@ unfolding stateAt followed followedState
 state-followed dec zero = refl
 state-followed dec (suc t) = ap (λ (s : ℕ). (2 * s + dec t / 2 ^ followedState dec t % 2) % 64) (state-followed dec t)
 
-module _ (G : Generators) (W : List ℕ) (K : Suits G W) (strip content : List ℕ) (u : ℕ → ℕ) (t s : ℕ) (d : Bool) (e : stateAt u t ≡ s) (f : u t ≡ one-if d) where
+module _ (G : Generators) (W : List ℕ) (K : Suits G W) (strip content : List ℕ) (u : ℕ → ℕ) (t s : ℕ) (d : Bool) (e : stateAt u t ≡ s)
+    (f : u t ≡ one-if d) where
   -- the first cell of a stage comes to the level that the branch of its state and digit holds
   carried-first : carriedTo G strip content u (2 * t) ≡ held (cellFor strip (2 * t)) (firstOf G (2 * s + one-if d))
   unfolding carriedTo wantedOf wantedFirst
@@ -62,10 +63,12 @@ module _ (G : Generators) (W : List ℕ) (K : Suits G W) (strip content : List �
       let p : 2 * t % 2 ≡ 0 = omega arith in
       let q : 2 * t / 2 ≡ t = omega arith in
       rw (p, q, e, f)
-      (ap (λ (v : ℕ). level strip (2 * t) + (level strip (2 * t) + v) % 2) (parity-number _ (2 * s + one-if d)) ∙ raised-held (cellFor strip (2 * t)) (firstOf G (2 * s + one-if d)))
+      (ap (λ (v : ℕ). level strip (2 * t) + (level strip (2 * t) + v) % 2) (parity-number _ (2 * s + one-if d))
+      ∙ raised-held (cellFor strip (2 * t)) (firstOf G (2 * s + one-if d)))
 
   -- and so does the second
-  carried-second : carriedTo G strip content u (2 * t + 1) ≡ held (cellFor strip (2 * t + 1)) (secondOf G (2 * s + one-if d) +₂ labelFor G content t)
+  carried-second : carriedTo G strip content u (2 * t + 1)
+      ≡ held (cellFor strip (2 * t + 1)) (secondOf G (2 * s + one-if d) +₂ labelFor G content t)
   unfolding carriedTo wantedOf wantedSecond
   carried-second =
       let p : (2 * t + 1) % 2 ≡ 1 = omega arith in
@@ -96,7 +99,8 @@ module _ (G : Generators) (W strip content : List ℕ) where
 record Onward (G : Generators) (W strip content : List ℕ) (dec : ℕ → ℕ) (t k : ℕ) (a : Solution) : Type 0 where
   rest : Solution
   further : onward G W strip content (followedState dec (suc t)) (suc t) k ≡ some rest
-  carried : a .levels ≡ carriedTo G strip content (followed dec) (2 * t) ∷ carriedTo G strip content (followed dec) (2 * t + 1) ∷ rest .levels
+  carried : a .levels
+      ≡ carriedTo G strip content (followed dec) (2 * t) ∷ carriedTo G strip content (followed dec) (2 * t + 1) ∷ rest .levels
 
 module _ (G : Generators) (W : List ℕ) (K : Suits G W) (L : ℕ) (most : L ≤ 64) (strip content : List ℕ) where
   -- the decisions of the program
@@ -110,9 +114,11 @@ module _ (G : Generators) (W : List ℕ) (K : Suits G W) (L : ℕ) (most : L ≤
   followed-planned t k e a p =
       let z : 8 * L - suc t ≡ k = omega arith in
       rw z
-      (digit-told G W K strip content t (costsOver G W strip content (8 * L) k) _ (k * 510) (costs-from G W K L most strip content k (suc t) (omega arith)) (omega arith)
+      (digit-told G W K strip content t (costsOver G W strip content (8 * L) k) _ (k * 510)
+      (costs-from G W K L most strip content k (suc t) (omega arith)) (omega arith)
       (followedState decided t) (followed-less decided t) (λ f.
-      some-none a (sym p ∙ play-shut (branchFor G W strip content) (nextN (wideFor G)) (pricesFor G W) Pair (oneBit-quotes 6 G (K .both) (stepsOf W) .priced)
+      some-none a (sym p
+      ∙ play-shut (branchFor G W strip content) (nextN (wideFor G)) (pricesFor G W) Pair (oneBit-quotes 6 G (K .both) (stepsOf W) .priced)
       (stages-pairs G strip content t (suc k)) (followedState decided t) _ f)))
 
   -- so a stage is carried out as planned
@@ -131,7 +137,8 @@ module _ (G : Generators) (W : List ℕ) (K : Suits G W) (L : ℕ) (most : L ≤
         rest = b .second;
         further = ap (λ (z : ℕ). onward G W strip content z (suc t) k) n ∙ b .right;
         carried = rw (c, g) (b .append ∙ ap (λ (l : List ℕ). l ++ b .second .levels)
-            (oneBit-held 6 G (K .both) (stepsOf W) (cellFor strip (2 * t)) (cellFor strip (2 * t + 1)) (labelFor G content t) s d (b .first) (b .left)));
+            (oneBit-held 6 G (K .both) (stepsOf W) (cellFor strip (2 * t)) (cellFor strip (2 * t + 1)) (labelFor G content t) s d
+            (b .first) (b .left)));
       }
 
   -- and so are all
@@ -152,7 +159,8 @@ module _ (G : Generators) (W : List ℕ) (K : Suits G W) (L : ℕ) (most : L ≤
     unfolding stagesOf
     onward-write =
         rw (← (stages-are G strip content (K .both) L))
-        (plain-write (wideFor G) (parity-choice (stepsOf W)) (λ s. wordOf G (2 * s)) (oneBitPrices (stepsOf W)) Pair (oneBit-quotes 6 G (K .both) (stepsOf W))
+        (plain-write (wideFor G) (parity-choice (stepsOf W)) (λ s. wordOf G (2 * s)) (oneBitPrices (stepsOf W)) Pair
+        (oneBit-quotes 6 G (K .both) (stepsOf W))
         (dataBits oneBit content) 2 (stagesIn oneBit L) (stripCells oneBit L strip unmarked)
         (rw (stages-are G strip content (K .both) L) (stages-pairs G strip content 0 (8 * L)))
         ∙ oneBit-write 6 G (suits-sound K) (K .reach) W D L strip unmarked content)
@@ -161,7 +169,8 @@ module _ (G : Generators) (W : List ℕ) (K : Suits G W) (L : ℕ) (most : L ≤
     pub carried-is : (a : Solution) → rewriteOf oneBit G W L strip unmarked content ≡ some a
         → (c : ℕ) → c < 16 * L → carriedTo G strip content (followed (decisionAt G W strip content (8 * L))) c ≡ levelAt (a .levels) c
     unfolding followedState
-    carried-is a e c h = let z : 2 * 0 + c ≡ c = omega arith in rw z at (onward-carried (8 * L) 0 (omega arith) a (onward-write ∙ e) c (omega arith))
+    carried-is a e c h =
+        let z : 2 * 0 + c ≡ c = omega arith in rw z at (onward-carried (8 * L) 0 (omega arith) a (onward-write ∙ e) c (omega arith))
 
 -- THE DIGITS. The state before a stage depends on the digits before it alone
 state-same : (u v : ℕ → ℕ) (n : ℕ) → ((t : ℕ) → t < n → u t ≡ v t) → (t : ℕ) → t ≤ n → stateAt u t ≡ stateAt v t
@@ -202,17 +211,22 @@ done-below v c = go (ltb v closed) refl
     go false e f = absurd (let z : _≡_ {A = ℕ} 0 1 = cc in omega arith)
 
 -- WHAT A WRITE CANNOT DO: raise a cell by more than one
-module _ (G : Generators) (W : List ℕ) (K : Suits G W) (D : Dear (stepsOf W)) (L : ℕ) (most : L ≤ 64) (strip content : List ℕ) (a : Solution)
+module _ (G : Generators) (W : List ℕ) (K : Suits G W) (D : Dear (stepsOf W)) (L : ℕ) (most : L ≤ 64) (strip content : List ℕ)
+    (a : Solution)
     (e : rewriteOf oneBit G W L strip unmarked content ≡ some a) where
   pub write-near : (c : ℕ) → c < cellsIn oneBit L → levelAt (a .levels) c ≤ suc (level strip c)
   unfolding carriedTo
   write-near c h =
       let l : c < 16 * L = rw (oneBit-cells L) at h in
-      omega (arith, carried-is G W K L most strip content D a e c l,
-      mod-lt (level strip c + wantedOf G content (followed (decisionAt G W strip content (8 * L))) c) (zero-lt-suc 1))
+      omega (
+        arith,
+        carried-is G W K L most strip content D a e c l,
+        mod-lt (level strip c + wantedOf G content (followed (decisionAt G W strip content (8 * L))) c) (zero-lt-suc 1),
+      )
 
   -- or cost as much as closed
   pub write-below : a .cost < closed
   unfolding solutionOutcome
   write-below =
-      done-below (getD (costsOver G W strip content (8 * L) (8 * L)) 0 0) (a .cost) (outcome-is G W K L most strip content D ∙ ap solutionOutcome e)
+      done-below (getD (costsOver G W strip content (8 * L) (8 * L)) 0 0) (a .cost) (outcome-is G W K L most strip content D
+      ∙ ap solutionOutcome e)

@@ -130,12 +130,14 @@ turn-told tie l (shut h) (shut k) n = absurd (n refl)
 
 module _ (G : Generators) (W : List ℕ) (K : Suits G W) where
   -- the price of a bit tells the price of the plain search
-  price-told : (l : ℕ) (b : Bool) → l ≤ 3 → Tells closed 255 (priceFor (stepList W) l (one-if b)) (bitPrice (stepsOf W) (record { level = l; mark = false }) b)
+  price-told : (l : ℕ) (b : Bool) → l ≤ 3
+      → Tells closed 255 (priceFor (stepList W) l (one-if b)) (bitPrice (stepsOf W) (record { level = l; mark = false }) b)
   unfolding priceFor bitPrice keep-or-raise cost-of stepList weightOf
   price-told l b h = rw (shows l b, le-ltb 3 l h) (go (Bool·beq (odd l) b) (ltb l 3) refl)
     where
       go : (q r : Bool) → ltb l 3 ≡ r → Tells closed 255 (cond q 0 (getD (W ++ (closed ∷ [])) l 0))
-          (cost-of (cond q (some (record { cost = 0; levels = l ∷ [] })) (cond r (some (record { cost = getD W l 0; levels = suc l ∷ [] })) none)))
+          (cost-of (cond q (some (record { cost = 0; levels = l ∷ [] }))
+          (cond r (some (record { cost = getD W l 0; levels = suc l ∷ [] })) none)))
       go true r e = open-at {c = 0} (omega arith)
       go false true e = rw (List·getD-append W (closed ∷ []) 0 l (omega (arith, ltb-true))) (open-at {c = getD W l 0} (K .bytes l))
       go false false e = rw (getD-at W closed [] 0 l (omega (arith, ltb-false))) (shut {v = closed} (omega arith))
@@ -143,7 +145,8 @@ module _ (G : Generators) (W : List ℕ) (K : Suits G W) where
   -- THE LABEL of a stage is the quotient's bit, with room for six digits as with the code's memory
   pub label-told : (content : List ℕ) (t : ℕ) → labelAt G content t ≡ one-if (labelFor G content t)
   unfolding encoderOf
-  label-told content t = label-quotient G (K .proper) content t ∙ ap (λ (x : Bits). one-if (x t)) (same ∙ ap (quotient 6 gs) (sym (data-bits content)))
+  label-told content t =
+      label-quotient G (K .proper) content t ∙ ap (λ (x : Bits). one-if (x t)) (same ∙ ap (quotient 6 gs) (sym (data-bits content)))
     where
       gs : List Bool
       gs = encoderOf G .first
@@ -168,7 +171,15 @@ module _ (G : Generators) (W : List ℕ) (K : Suits G W) where
   unfolding by0 branchCost
   by-first after f g s h =
       let z : 2 * s % 64 ≡ (2 * s + 0) % 64 = omega arith in
-      rw (words-at s h, word-first G (2 * s + 0), word-second G (2 * s + 0), pick-bit f (firstOf G (2 * s + 0)), pick-bit g (secondOf G (2 * s + 0)), z)
+      rw (
+        words-at s h,
+        word-first G (2 * s + 0),
+        word-second G (2 * s + 0),
+        pick-bit f (firstOf G (2 * s + 0)),
+        pick-bit g
+            (secondOf G (2 * s + 0)),
+        z,
+      )
 
   -- and by the digit 1
   by-second : (after : List ℕ) (f g : ℕ → ℕ) (s : ℕ) → s < 64 → by1 64 after (wordsOf G) (f 0) (f 1) (g 0) (g 1) s
@@ -190,7 +201,8 @@ module _ (G : Generators) (W : List ℕ) (K : Suits G W) where
   -- the tie: whether the bit by the digit 1 is the one that a first cell at level l shows
   tie-is : (l s : ℕ) → s < 64 → pick (getD (wordsOf G) s 0 % 2) (l % 2) (1 - l % 2) ≡ one-if (Bool·beq (odd l) (firstOf G (2 * s + 1)))
   unfolding one-if
-  tie-is l s h = rw (words-at s h, word-first G (2 * s + 0), mod-odd l, parity-flip (G .memory) (G .g1) s (K .both .g1-leads)) (go (odd l) (firstOf G (2 * s + 0)))
+  tie-is l s h = rw (words-at s h, word-first G (2 * s + 0), mod-odd l, parity-flip (G .memory) (G .g1) s (K .both .g1-leads))
+      (go (odd l) (firstOf G (2 * s + 0)))
     where
       go : (x b : Bool) → pick (one-if b) (one-if x) (1 - one-if x) ≡ one-if (Bool·beq x (not b))
       go true true = refl
@@ -203,12 +215,18 @@ module _ (G : Generators) (W : List ℕ) (K : Suits G W) where
       (told : (s : ℕ) → s < 64 → Tells closed m (getD after s 0) (cost s)) where
     -- the number of a branch tells its cost
     way-told : (s : ℕ) (u : Bool) → Tells closed (510 + m)
-        (firstFor G W strip content t (one-if (firstOf G (2 * s + one-if u))) + secondFor G W strip content t (one-if (secondOf G (2 * s + one-if u)))
+        (firstFor G W strip content t (one-if (firstOf G (2 * s + one-if u))) + secondFor G W strip content t
+        (one-if (secondOf G (2 * s + one-if u)))
         + getD after ((2 * s + one-if u) % 64) 0)
         (wayFor G W strip content t cost s u)
     unfolding firstPrice secondPrice nextN way
     way-told s u =
-        rw (oneBit-price 6 G (K .both) (stepsOf W) (cellFor strip (2 * t)) (cellFor strip (2 * t + 1)) (labelFor G content t) s u, label-told content t, sum-bits)
+        rw (
+          oneBit-price 6 G (K .both) (stepsOf W) (cellFor strip (2 * t)) (cellFor strip (2 * t + 1))
+              (labelFor G content t) s u,
+          label-told content t,
+          sum-bits,
+        )
         (tells-add closed
         (tells-add closed (price-told _ (firstOf G (2 * s + one-if u)) (level-bound strip (2 * t)))
         (price-told _ (secondOf G (2 * s + one-if u) +₂ labelFor G content t) (level-bound strip (2 * t + 1))))
@@ -225,18 +243,22 @@ module _ (G : Generators) (W : List ℕ) (K : Suits G W) where
     one-told s h = rw (by-second after (firstFor G W strip content t) (secondFor G W strip content t) s h) (way-told s true)
 
     -- what it costs is the lesser
-    pub stage-told : 510 + m < closed → (s : ℕ) → s < 64 → Tells closed (510 + m) (getD (costsBefore (stepList W) strip t (labelAt G content t) (wordsOf G) after) s 0)
+    pub stage-told : 510 + m < closed → (s : ℕ) → s < 64
+        → Tells closed (510 + m) (getD (costsBefore (stepList W) strip t (labelAt G content t) (wordsOf G) after) s 0)
         (lesser (wayFor G W strip content t cost s false) (wayFor G W strip content t cost s true))
     unfolding costsBefore lesserOf
     stage-told l s h = rw (stage-at 64 after (wordsOf G) _ _ _ _ s h) (tells-lesser closed l (zero-told s h) (one-told s h))
 
     -- the bit of the program's digits for an open state is its digit
-    pub digit-told : 510 + m < closed → (s : ℕ) → s < 64 → (lesser (wayFor G W strip content t cost s false) (wayFor G W strip content t cost s true) ≡ none → ⊥)
+    pub digit-told : 510 + m < closed → (s : ℕ) → s < 64
+        → (lesser (wayFor G W strip content t cost s false) (wayFor G W strip content t cost s true) ≡ none → ⊥)
         → digitsBefore (stepList W) strip t (labelAt G content t) (wordsOf G) after / 2 ^ s % 2
         ≡ one-if (digit-at (pricesFor G W) (tiesFor G W) (nextN (wideFor G)) (stageFor G strip content t) cost s)
     unfolding digitsBefore digitOf digit-at
     digit-told l s h some-way =
         digits-bit 64 after (wordsOf G) _ _ _ _ (level strip (2 * t) % 2) s h
         ∙ ap (λ (x : ℕ). below (byOne G W strip content t after s) (byZero G W strip content t after s + x))
-        (tie-is (level strip (2 * t)) s h ∙ ap one-if (sym (oneBit-tie 6 G (K .both) (stepsOf W) (cellFor strip (2 * t)) (cellFor strip (2 * t + 1)) (labelFor G content t) s)))
+        (tie-is (level strip (2 * t)) s h
+        ∙ ap one-if
+        (sym (oneBit-tie 6 G (K .both) (stepsOf W) (cellFor strip (2 * t)) (cellFor strip (2 * t + 1)) (labelFor G content t) s)))
         ∙ turn-told _ l (zero-told s h) (one-told s h) some-way

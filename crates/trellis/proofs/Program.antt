@@ -55,7 +55,8 @@ module _ (G : Generators) (strip content : List ℕ) where
     one-other = length-map (G .others) _ ∙ ap length (K .two)
 
     -- they are those of the search
-    stages-from : (t k : ℕ) → stages (wideFor G) (dataBits oneBit content) 2 t k (listOf (k * 2) (λ c. cellFor strip (2 * t + c))) ≡ stagesFrom t k
+    stages-from : (t k : ℕ) → stages (wideFor G) (dataBits oneBit content) 2 t k (listOf (k * 2) (λ c. cellFor strip (2 * t + c)))
+        ≡ stagesFrom t k
     unfolding stages stagesFrom labels listOf
     stages-from t zero = refl
     stages-from t (suc k) =
@@ -64,7 +65,8 @@ module _ (G : Generators) (strip content : List ℕ) where
         let f : (i : ℕ) → 2 * t + suc (suc i) ≡ 2 * suc t + i = omega arith in
         rw (e, z, one-other)
         (ap (λ (l : List Stage). stageFor G strip content t ∷ l)
-        (ap (stages (wideFor G) (dataBits oneBit content) 2 (suc t) k) (listOf-same (k * 2) _ _ (λ i h. ap (cellFor strip) (f i))) ∙ stages-from (suc t) k))
+        (ap (stages (wideFor G) (dataBits oneBit content) 2 (suc t) k) (listOf-same (k * 2) _ _ (λ i h. ap (cellFor strip) (f i)))
+        ∙ stages-from (suc t) k))
 
     -- all stages of a strip for L bytes of data
     pub stages-are : (L : ℕ) → stagesOf oneBit (wideFor G) L strip unmarked content ≡ stagesFrom 0 (8 * L)
@@ -74,7 +76,8 @@ module _ (G : Generators) (strip content : List ℕ) where
         let f : (i : ℕ) → i ≡ 2 * 0 + i = omega arith in
         rw (oneBit-stages L, oneBit-cells L)
         (ap (stages (wideFor G) (dataBits oneBit content) 2 0 (8 * L))
-        (ap (λ (n : ℕ). listOf n (cellFor strip)) e ∙ listOf-same (8 * L * 2) _ _ (λ i h. ap (cellFor strip) (f i))) ∙ stages-from 0 (8 * L))
+        (ap (λ (n : ℕ). listOf n (cellFor strip)) e ∙ listOf-same (8 * L * 2) _ _ (λ i h. ap (cellFor strip) (f i)))
+        ∙ stages-from 0 (8 * L))
 
 -- the number that tells the cost of a solution tells its outcome
 outcome-told : (m v : ℕ) (r : Option Solution) → m < closed → Tells closed m v (cost-of r) → toldOutcome v ≡ solutionOutcome r
@@ -99,7 +102,8 @@ suits-sound {G} K = oneBit-sound G (K .both .g1-leads) (ap length (K .both .two)
 module _ (G : Generators) (W : List ℕ) (K : Suits G W) (L : ℕ) (most : L ≤ 64) (strip content : List ℕ) where
   -- THE COSTS. The number of each state tells its least cost over the last k stages, which begin at stage t
   pub costs-from : (k t : ℕ) → t + k ≡ 8 * L → (s : ℕ) → s < 64
-      → Tells closed (k * 510) (getD (costsOver G W strip content (8 * L) k) s 0) (costs (pricesFor G W) (nextN (wideFor G)) (stagesFrom G strip content t k) s)
+      → Tells closed (k * 510) (getD (costsOver G W strip content (8 * L) k) s 0)
+      (costs (pricesFor G W) (nextN (wideFor G)) (stagesFrom G strip content t k) s)
   unfolding costsOver costs stagesFrom
   costs-from zero t e s h = rw (getD-replicate {A = ℕ} 64 s 0 0 h) (open-at {c = 0} (omega arith))
   costs-from (suc k) t e s h =
@@ -109,16 +113,20 @@ module _ (G : Generators) (W : List ℕ) (K : Suits G W) (L : ℕ) (most : L ≤
 
   module _ (D : Dear (stepsOf W)) where
     -- THE OUTCOME. State 0 before the first stage costs what the write costs
-    cost-start : costs (pricesFor G W) (nextN (wideFor G)) (stagesFrom G strip content 0 (8 * L)) 0 ≡ cost-of (rewriteOf oneBit G W L strip unmarked content)
+    cost-start : costs (pricesFor G W) (nextN (wideFor G)) (stagesFrom G strip content 0 (8 * L)) 0
+        ≡ cost-of (rewriteOf oneBit G W L strip unmarked content)
     unfolding stagesOf
     cost-start =
         rw (← (stages-are G strip content (K .both) L))
-        (plain-cost (wideFor G) (parity-choice (stepsOf W)) (λ s. wordOf G (2 * s)) (oneBitPrices (stepsOf W)) Pair (oneBit-quotes 6 G (K .both) (stepsOf W))
+        (plain-cost (wideFor G) (parity-choice (stepsOf W)) (λ s. wordOf G (2 * s)) (oneBitPrices (stepsOf W)) Pair
+        (oneBit-quotes 6 G (K .both) (stepsOf W))
         (dataBits oneBit content) 2 (stagesIn oneBit L) (stripCells oneBit L strip unmarked)
         (rw (stages-are G strip content (K .both) L) (stages-pairs G strip content 0 (8 * L)))
         ∙ ap cost-of (oneBit-write 6 G (suits-sound K) (K .reach) W D L strip unmarked content))
 
     -- so its number tells the outcome
-    pub outcome-is : toldOutcome (getD (costsOver G W strip content (8 * L) (8 * L)) 0 0) ≡ solutionOutcome (rewriteOf oneBit G W L strip unmarked content)
+    pub outcome-is : toldOutcome (getD (costsOver G W strip content (8 * L) (8 * L)) 0 0)
+        ≡ solutionOutcome (rewriteOf oneBit G W L strip unmarked content)
     outcome-is =
-        outcome-told (8 * L * 510) _ (rewriteOf oneBit G W L strip unmarked content) (omega arith) (rw cost-start at (costs-from (8 * L) 0 (omega arith) 0 (omega arith)))
+        outcome-told (8 * L * 510) _ (rewriteOf oneBit G W L strip unmarked content) (omega arith)
+        (rw cost-start at (costs-from (8 * L) 0 (omega arith) 0 (omega arith)))

@@ -113,7 +113,8 @@ module _ (n : ℕ) (after words : List ℕ) (a0 a1 b0 b1 : ℕ) where
   pub is-stage : (r : List ℕ) → length r ≡ n
       → ((k : ℕ) → k < n → getD r k 0 ≡ lesserOf n after words a0 a1 b0 b1 k) → r ≡ stageOf n after words a0 a1 b0 b1
   is-stage r e p =
-      ext-getD 0 r (stageOf n after words a0 a1 b0 b1) (e ∙ sym length-stage) (λ k l. let h : k < n = omega arith in p k h ∙ sym (stage-at k h))
+      ext-getD 0 r (stageOf n after words a0 a1 b0 b1) (e ∙ sym length-stage) (λ k l. let h : k < n = omega arith in
+      p k h ∙ sym (stage-at k h))
 
 module _ (after words : List ℕ) (at a0 a1 b0 b1 stay : ℕ) where
   -- the digits of a half, with that of the state at + i added at bit i
@@ -140,5 +141,6 @@ pub stage-le : (n bound cap : ℕ) (after words : List ℕ) (a0 a1 b0 b1 : ℕ) 
 unfolding stageOf lesserOf by0
 stage-le n bound cap after words a0 a1 b0 b1 h =
     listed-le n _ (bound + 2 * cap) (λ i.
-    le-trans (min-le-left _ (by1 n after words a0 a1 b0 b1 i)) (branch-le bound cap _ _ a0 a1 b0 b1 (h .costs _) (h .a0-le) (h .a1-le) (h .b0-le) (h .b1-le))
+    le-trans (min-le-left _ (by1 n after words a0 a1 b0 b1 i))
+    (branch-le bound cap _ _ a0 a1 b0 b1 (h .costs _) (h .a0-le) (h .a1-le) (h .b0-le) (h .b1-le))
     )

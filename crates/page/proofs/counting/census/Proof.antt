@@ -27,7 +27,8 @@ abbrev μ-loop : tie.MeasureT-loop
 μ-loop bytes strips page rows₀ judged k₀ rows k = strips - k
 
 -- past the match the shape is in order
-shape-none : (c : tie.After-enum-told Inv-loop μ-loop) → let a = c .before .before .before .before .args in shapeGround (a .bytes) (a .strips) (length (a .page .now)) ≡ none
+shape-none : (c : tie.After-enum-told Inv-loop μ-loop)
+    → let a = c .before .before .before .before .args in shapeGround (a .bytes) (a .strips) (length (a .page .now)) ≡ none
 shape-none c = done-none _ (sym (c .before .before .judge-shape .ensures) ∙ c .enum-told .given .1)
 
 -- and L and S are at most 64
@@ -55,7 +56,8 @@ returns c =
 
 loop-holds : tie.Need-loop-holds Inv-loop μ-loop
 unfolding listOf
-loop-holds c = (omega arith, rows-none oneBit (c .before .before .before .before .args .bytes) (c .before .before .before .before .args .page .now))
+loop-holds c =
+    (omega arith, rows-none oneBit (c .before .before .before .before .args .bytes) (c .before .before .before .before .args .page .now))
 
 strip-requires : tie.Need-strip-requires Inv-loop μ-loop
 strip-requires c κs = search needs
@@ -87,8 +89,11 @@ loop-again c =
     let r =
     c .row-of .ensures ∙ ap (λ (x : List ℕ). rowOf (16 * a .bytes) (level x)) (c .before .strip .ensures ∙ t)
     ∙ ap (λ (n : ℕ). rowOf n (level (part (bytesIn oneBit (a .bytes)) (l .loop .k) (a .page .now)))) (sym (oneBit-cells (a .bytes)))
-    ∙ strip-row oneBit (a .bytes) (l .loop .k) (a .page .now) (oneBit-whole (a .bytes) .cells-fill) in
-    (omega arith, rw (l .loop .inv .1) (rows-more oneBit (a .bytes) (l .loop .k) (a .page .now) (c .row-of .result) (omega (arith, small (l .before))) r))
+    ∙ strip-row oneBit (a .bytes) (l .loop .k) (a .page .now) (oneBit-whole (a .bytes) .cells-fill) in (
+      omega arith,
+      rw (l .loop .inv .1)
+          (rows-more oneBit (a .bytes) (l .loop .k) (a .page .now) (c .row-of .result) (omega (arith, small (l .before))) r),
+    )
 
 returns-2 : tie.Need-returns-2 Inv-loop μ-loop
 returns-2 c =

@@ -35,7 +35,10 @@ array-read-counts c = search needs
 add-counts : tie.Need-add-counts Inv-loop μ-loop
 add-counts c =
     let l = c .before .before in
-    record { fits = rw (l .loop .inv .1) (omega (arith, row-le (l .loop .c) (level (l .before .before .args .strip .now)) (c .level .result) (c .level .ensures .1))) }
+    record {
+      fits = rw (l .loop .inv .1)
+          (omega (arith, row-le (l .loop .c) (level (l .before .before .args .strip .now)) (c .level .result) (c .level .ensures .1)));
+    }
 
 mul-counts-2 : tie.Need-mul-counts-2 Inv-loop μ-loop
 mul-counts-2 c = search needs

@@ -11,7 +11,8 @@ use Rattle.page.proofs.erasing.erase.Statement.{statement}
 use Rattle.page.proofs.erasing.erase.Tie as tie
 
 -- the judge's answer, by the temperature itself
-judged : (c : tie.After-judge-erase) → let a = c .before .before .args in c .judge-erase .result ≡ completionOf (first-of (shapeGround (a .bytes) (a .strips) (length (a .page .now))) (eraseGround (a .tenths)))
+judged : (c : tie.After-judge-erase) → let a = c .before .before .args in c .judge-erase .result
+    ≡ completionOf (first-of (shapeGround (a .bytes) (a .strips) (length (a .page .now))) (eraseGround (a .tenths)))
 judged c =
     let s = c .before .before in
     rw (toZ-ofZ w16 (s .args .tenths) (s .fits .tenths)) at (c .judge-erase .ensures)
@@ -36,14 +37,16 @@ returns c =
     let t = c .before .before .before .before in
     let j = t .before .before in
     let a = j .before .before .args in
-    let e = done-none (first-of (shapeGround (a .bytes) (a .strips) (length (a .page .now))) (eraseGround (a .tenths))) (sym (judged j) ∙ t .enum-told .given .1) in
+    let e = done-none (first-of (shapeGround (a .bytes) (a .strips) (length (a .page .now))) (eraseGround (a .tenths))) (sym (judged j)
+    ∙ t .enum-told .given .1) in
     (judged j, rw e (c .before .before .clear .ensures))
 
 returns-2 : tie.Need-returns-2
 returns-2 c =
     let j = c .before .before in
     let a = j .before .before .args in
-    let e = refused-some (first-of (shapeGround (a .bytes) (a .strips) (length (a .page .now))) (eraseGround (a .tenths))) (sym (judged j) ∙ c .enum-told2 .given .1) in
+    let e = refused-some (first-of (shapeGround (a .bytes) (a .strips) (length (a .page .now))) (eraseGround (a .tenths))) (sym (judged j)
+    ∙ c .enum-told2 .given .1) in
     (judged j, rw e)
 
 pub erase-spec : {M : Type 1} → statement M

@@ -35,7 +35,8 @@ returns : tie.Need-returns
 returns c =
     let j = c .before .before in
     let a = j .before .args in
-    refused-first (shapeGround (a .bytes) (a .strips) (a .page)) (eraseGround (a .tenths)) (j .judge-shape .result) (j .judge-shape .ensures) (c .enum-told2 .given .1)
+    refused-first (shapeGround (a .bytes) (a .strips) (a .page)) (eraseGround (a .tenths)) (j .judge-shape .result)
+    (j .judge-shape .ensures) (c .enum-told2 .given .1)
 
 returns-2 : tie.Need-returns-2
 unfolding eraseGround

@@ -9,7 +9,9 @@ use Rattle.page.proofs.reading.read.Statement.{statement}
 use Rattle.page.proofs.reading.read.Tie as tie
 
 -- where the answer is done, the call has no ground
-ground-none : (c : tie.After-enum-told) → let a = c .before .before .before .before .before .args in ground (a .code) (a .bytes) (a .strips) (length (a .page .now)) (length (a .«data» .now)) ≡ none
+ground-none : (c : tie.After-enum-told)
+    → let a = c .before .before .before .before .before .args in
+    ground (a .code) (a .bytes) (a .strips) (length (a .page .now)) (length (a .«data» .now)) ≡ none
 ground-none c = done-none _ (sym (c .before .before .judge .ensures) ∙ c .enum-told .given .1)
 
 judge-requires : tie.Need-judge-requires
@@ -34,14 +36,18 @@ same-length c = search needs
 
 returns : tie.Need-returns
 returns c =
-    let t = c .before .before .before .before .before in
-    (t .before .before .judge .ensures, rw (ground-none t, ← c .before .before .before .before .code-of .ensures) (c .before .before .read-strips .ensures))
+    let t = c .before .before .before .before .before in (
+      t .before .before .judge .ensures,
+      rw (ground-none t, ← c .before .before .before .before .code-of .ensures)
+          (c .before .before .read-strips .ensures),
+    )
 
 returns-2 : tie.Need-returns-2
 returns-2 c =
     let j = c .before .before in
     let a = j .before .before .before .args in
-    let e = refused-some (ground (a .code) (a .bytes) (a .strips) (length (a .page .now)) (length (a .«data» .now))) (rw (j .judge .ensures) at (c .enum-told2 .given .1)) in
+    let e = refused-some (ground (a .code) (a .bytes) (a .strips) (length (a .page .now)) (length (a .«data» .now)))
+    (rw (j .judge .ensures) at (c .enum-told2 .given .1)) in
     (j .judge .ensures, rw e)
 
 pub read-spec : {M : Type 1} → statement M

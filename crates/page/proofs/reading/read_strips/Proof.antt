@@ -29,7 +29,8 @@ abbrev μ-loop : tie.MeasureT-loop
 
 -- in a turn part k ends within the buffer
 fit : (c : tie.In-loop Inv-loop μ-loop)
-    → c .before .before .before .before .args .bytes * c .before .loop .k + c .before .before .before .before .args .bytes ≤ length (c .before .loop .«data»)
+    → c .before .before .before .before .args .bytes * c .before .loop .k + c .before .before .before .before .args .bytes ≤ length
+    (c .before .loop .«data»)
 fit c =
     let s = c .before .before .before .before in
     omega (arith, s .pre .data-is, within (s .args .bytes) (c .before .loop .k) (s .args .strips) (c .loop-test .taken))
@@ -76,10 +77,13 @@ loop-again c =
     let m = lent-length (a .bytes) (l .k) (l .«data») (fit t) in
     let n = r .kept .1 .1 .0 ∙ m in
     let y : r .last .1 .1 .0 ≡ readStrip oneBit (generatorsOf (a .code)) (a .bytes) (stripAt (a .bytes) (l .k) (a .page .now)) =
-    r .ensures ∙ ap₂ (readStrip oneBit (generatorsOf (a .code))) m (c .before .before .before .before .strip .ensures ∙ strip-there (a .bytes) (a .strips) (l .k) (a .page .now) (s .pre .bytes-in) (s .pre .page-is) (t .loop-test .taken)) in (
+    r .ensures
+    ∙ ap₂ (readStrip oneBit (generatorsOf (a .code))) m (c .before .before .before .before .strip .ensures
+    ∙ strip-there (a .bytes) (a .strips) (l .k) (a .page .now) (s .pre .bytes-in) (s .pre .page-is) (t .loop-test .taken)) in (
       stored-length (a .bytes) (l .k) (l .«data») (r .last .1 .1 .0) (fit t) n ∙ l .inv .0,
       omega arith,
-      part-more (a .bytes) (l .k) (l .«data») (r .last .1 .1 .0) (λ j z. z ≡ readStrip oneBit (generatorsOf (a .code)) (a .bytes) (stripAt (a .bytes) j (a .page .now))) (fit t) n y (l .inv .2),
+      part-more (a .bytes) (l .k) (l .«data») (r .last .1 .1 .0)
+          (λ j z. z ≡ readStrip oneBit (generatorsOf (a .code)) (a .bytes) (stripAt (a .bytes) j (a .page .now))) (fit t) n y (l .inv .2),
     )
 
 same-length : tie.Need-same-length Inv-loop μ-loop
@@ -91,7 +95,8 @@ returns c =
     let s = c .before .before .before .before in
     let l = c .before .loop in
     let e : l .k ≡ s .args .strips = omega arith in
-    parts-read oneBit _ (s .args .bytes) (s .args .strips) (s .args .page .now) (oneBit-whole (s .args .bytes)) (l .«data») (l .inv .0 ∙ s .pre .data-is) (λ j h. l .inv .2 j (omega arith))
+    parts-read oneBit _ (s .args .bytes) (s .args .strips) (s .args .page .now) (oneBit-whole (s .args .bytes)) (l .«data») (l .inv .0
+    ∙ s .pre .data-is) (λ j h. l .inv .2 j (omega arith))
 
 pub read-strips-spec : {M : Type 1} → statement M
 read-strips-spec =

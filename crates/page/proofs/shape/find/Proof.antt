@@ -33,7 +33,11 @@ div-whole : tie.Need-div-whole
 div-whole c = search needs
 
 returns-3 : tie.Need-returns-3
-returns-3 c = ((omega arith, omega arith), λ page e. sym (strip-beyond _ _ page (bytes-in (c .before)) (rw (e, oneBit-bytes (c .before .before .before .args .bytes)) (c .if3 .taken))))
+returns-3 c = (
+  (omega arith, omega arith),
+  λ page e. sym
+      (strip-beyond _ _ page (bytes-in (c .before)) (rw (e, oneBit-bytes (c .before .before .before .args .bytes)) (c .if3 .taken))),
+)
 
 mul-a : tie.Need-mul-a
 mul-a c = omega (arith, fit c)
@@ -47,7 +51,12 @@ returns-4 c =
     let a = c .before .before .before .args in (
       (omega arith, fit c),
       λ page e.
-          rw (add-sub-cancel-left (6 * a .bytes * a .k) (6 * a .bytes), strip-inside (a .bytes) (a .k) page (bytes-in (c .before)) (rw (e, oneBit-bytes (a .bytes)) (fit c)), oneBit-bytes (a .bytes)),
+          rw (
+            add-sub-cancel-left (6 * a .bytes * a .k) (6 * a .bytes),
+            strip-inside (a .bytes) (a .k) page (bytes-in (c .before))
+                (rw (e, oneBit-bytes (a .bytes)) (fit c)),
+            oneBit-bytes (a .bytes),
+          ),
     )
 
 pub find-spec : {M : Type 1} → statement M

@@ -29,7 +29,8 @@ unfolding ground
 returns c =
     let j = c .before .before in
     let a = j .before .args in
-    refused-first (sizesGround (a .code) (a .bytes) (a .strips)) (first-of (pageGround oneBit (a .bytes) (a .strips) (a .page)) (dataGround (a .bytes) (a .strips) (a .«data»)))
+    refused-first (sizesGround (a .code) (a .bytes) (a .strips))
+    (first-of (pageGround oneBit (a .bytes) (a .strips) (a .page)) (dataGround (a .bytes) (a .strips) (a .«data»)))
     (j .judge-sizes .result) (j .judge-sizes .ensures) (c .enum-told2 .given .1)
 
 judge-page-requires : tie.Need-judge-page-requires
@@ -48,9 +49,11 @@ returns-2 c =
     let n = j .before in
     let s = n .before .before in
     let a = s .before .args in
-    done-next (sizesGround (a .code) (a .bytes) (a .strips)) (first-of (pageGround oneBit (a .bytes) (a .strips) (a .page)) (dataGround (a .bytes) (a .strips) (a .«data»)))
+    done-next (sizesGround (a .code) (a .bytes) (a .strips))
+    (first-of (pageGround oneBit (a .bytes) (a .strips) (a .page)) (dataGround (a .bytes) (a .strips) (a .«data»)))
     (s .judge-sizes .ensures) (n .enum-told .given .1)
-    (refused-first (pageGround oneBit (a .bytes) (a .strips) (a .page)) (dataGround (a .bytes) (a .strips) (a .«data»)) (j .judge-page .result) (j .judge-page .ensures) (c .enum-told4 .given .1))
+    (refused-first (pageGround oneBit (a .bytes) (a .strips) (a .page)) (dataGround (a .bytes) (a .strips) (a .«data»))
+    (j .judge-page .result) (j .judge-page .ensures) (c .enum-told4 .given .1))
 
 judge-data-requires : tie.Need-judge-data-requires
 judge-data-requires c κs = limits-none (c .before .before .before)

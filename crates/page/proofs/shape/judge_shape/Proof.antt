@@ -21,7 +21,8 @@ unfolding shapeGround
 returns c =
     let j = c .before .before in
     let a = j .before .args in
-    refused-first (limitsGround (a .bytes) (a .strips)) (pageGround oneBit (a .bytes) (a .strips) (a .page)) (j .judge-limits .result) (j .judge-limits .ensures) (c .enum-told2 .given .1)
+    refused-first (limitsGround (a .bytes) (a .strips)) (pageGround oneBit (a .bytes) (a .strips) (a .page)) (j .judge-limits .result)
+    (j .judge-limits .ensures) (c .enum-told2 .given .1)
 
 judge-page-requires : tie.Need-judge-page-requires
 judge-page-requires c κs = let j = c .before .before in done-none _ (sym (j .judge-limits .ensures) ∙ c .enum-told .given .1)
@@ -31,7 +32,8 @@ unfolding shapeGround
 returns-2 c =
     let j = c .before .before .before in
     let a = j .before .args in
-    done-next (limitsGround (a .bytes) (a .strips)) (pageGround oneBit (a .bytes) (a .strips) (a .page)) (j .judge-limits .ensures) (c .before .enum-told .given .1) (c .judge-page .ensures)
+    done-next (limitsGround (a .bytes) (a .strips)) (pageGround oneBit (a .bytes) (a .strips) (a .page)) (j .judge-limits .ensures)
+    (c .before .enum-told .given .1) (c .judge-page .ensures)
 
 pub judge-shape-spec : {M : Type 1} → statement M
 judge-shape-spec = tie.close (tie.spec judge-limits-requires enum-told enum-told-2 returns judge-page-requires returns-2)

@@ -19,17 +19,21 @@ abbrev μ-loop : tie.MeasureT-loop
 μ-loop code bytes strips page₀ «data» digits n k₀ page k = strips - k
 
 -- in a turn the strip ends within the page
-fit : (c : tie.In-loop Inv-loop μ-loop) → let a = c .before .before .before .before .before .args in 6 * a .bytes * c .before .loop .k + 6 * a .bytes ≤ length (c .before .loop .page)
+fit : (c : tie.In-loop Inv-loop μ-loop)
+    → let a = c .before .before .before .before .before .args in
+    6 * a .bytes * c .before .loop .k + 6 * a .bytes ≤ length (c .before .loop .page)
 fit c =
     let s = c .before .before .before .before .before in
     omega (arith, rw (oneBit-bytes (s .args .bytes)) at (strip-fits (s .pre .0) (c .loop-test .taken)), c .before .loop .inv .size)
 
 -- and its part within the data
-fit-data : (c : tie.In-loop Inv-loop μ-loop) → let a = c .before .before .before .before .before .args in a .bytes * c .before .loop .k + a .bytes ≤ length (a .«data» .now)
+fit-data : (c : tie.In-loop Inv-loop μ-loop)
+    → let a = c .before .before .before .before .before .args in a .bytes * c .before .loop .k + a .bytes ≤ length (a .«data» .now)
 fit-data c = part-fits (c .before .before .before .before .before .pre .0) (c .loop-test .taken)
 
 -- and within the digits
-fit-digits : (c : tie.In-loop Inv-loop μ-loop) → let a = c .before .before .before .before .before .args in a .bytes * c .before .loop .k + a .bytes ≤ length (a .digits .now)
+fit-digits : (c : tie.In-loop Inv-loop μ-loop)
+    → let a = c .before .before .before .before .before .args in a .bytes * c .before .loop .k + a .bytes ≤ length (a .digits .now)
 fit-digits c = let s = c .before .before .before .before .before in omega (arith, fit-data c, s .pre .0 .data-is, s .pre .1)
 
 mul-n : tie.Need-mul-n Inv-loop μ-loop
@@ -104,7 +108,8 @@ loop-less c = search needs
 loop-again : tie.Need-loop-again Inv-loop μ-loop
 loop-again c =
     let t = c .before .before .before .before .before .before in
-    carried-more (t .before .loop .inv) (sym (oneBit-bytes (t .before .before .before .before .before .args .bytes))) (t .before .before .before .before .before .pre .0 .page-is) (t .loop-test .taken) (c .before .before .carry-strip .ensures)
+    carried-more (t .before .loop .inv) (sym (oneBit-bytes (t .before .before .before .before .before .args .bytes)))
+    (t .before .before .before .before .before .pre .0 .page-is) (t .loop-test .taken) (c .before .before .carry-strip .ensures)
 
 same-length : tie.Need-same-length Inv-loop μ-loop
 same-length c = c .before .loop .inv .size

@@ -16,32 +16,42 @@ use Rattle.page.proofs.writing.plan_strips.Tie as tie
 
 abbrev Inv-loop : tie.InvT-loop
 Inv-loop code weights bytes strips page «data» digits₀ words total₀ k₀ digits total k =
-    (Reached (plainJob (generatorsOf code) weights bytes strips page «data») total k) × (PlannedTo (generatorsOf code) weights bytes strips page «data» digits k)
+    (Reached (plainJob (generatorsOf code) weights bytes strips page «data») total k)
+    × (PlannedTo (generatorsOf code) weights bytes strips page «data» digits k)
 
 abbrev μ-loop : tie.MeasureT-loop
 μ-loop code weights bytes strips page «data» digits₀ words total₀ k₀ digits total k = strips - k
 
 -- the code suits the weights
 suited : (c : tie.Start Inv-loop μ-loop) → Suits (generatorsOf (c .args .code)) (c .args .weights)
-suited c = suits (c .args .code) (c .args .weights) (c .good .1 .0 .1 .0 .1) (λ i. let h = elem-fits w8 w8 (c .args .weights) _ i (c .good .1 .0 .1 .1) tt .fits in omega arith)
+suited c = suits (c .args .code) (c .args .weights) (c .good .1 .0 .1 .0 .1)
+    (λ i. let h = elem-fits w8 w8 (c .args .weights) _ i (c .good .1 .0 .1 .1) tt .fits in omega arith)
 
 -- in a turn the part ends within the data
-fit : (c : tie.In-loop Inv-loop μ-loop) → let a = c .before .before .before .before .before .before .before .args in a .bytes * c .before .loop .k + a .bytes ≤ length (a .«data» .now)
+fit : (c : tie.In-loop Inv-loop μ-loop)
+    → let a = c .before .before .before .before .before .before .before .args in
+    a .bytes * c .before .loop .k + a .bytes ≤ length (a .«data» .now)
 fit c = part-fits (c .before .before .before .before .before .before .before .pre .0) (c .loop-test .taken)
 
 -- and within the digits
-fit-digits : (c : tie.In-loop Inv-loop μ-loop) → let a = c .before .before .before .before .before .before .before .args in a .bytes * c .before .loop .k + a .bytes ≤ length (c .before .loop .digits)
-fit-digits c = omega (arith, fit c, c .before .loop .inv .1 .size, c .before .before .before .before .before .before .before .pre .0 .data-is)
+fit-digits : (c : tie.In-loop Inv-loop μ-loop)
+    → let a = c .before .before .before .before .before .before .before .args in
+    a .bytes * c .before .loop .k + a .bytes ≤ length (c .before .loop .digits)
+fit-digits c =
+    omega (arith, fit c, c .before .loop .inv .1 .size, c .before .before .before .before .before .before .before .pre .0 .data-is)
 
 -- after a turn the total has one more strip
 one-more : (c : tie.After-add Inv-loop μ-loop) → let l = c .before .before .before .before .before .before .before .before .before in
     let a = l .before .before .before .before .before .before .args in
-    Reached (plainJob (generatorsOf (a .code)) (a .weights) (a .bytes) (a .strips) (a .page .now) (a .«data» .now)) (c .add .result) (l .loop .k + 1)
+    Reached (plainJob (generatorsOf (a .code)) (a .weights) (a .bytes) (a .strips) (a .page .now) (a .«data» .now)) (c .add .result)
+    (l .loop .k + 1)
 one-more c =
     let t = c .before .before .before .before .before .before .before .before in
     let s = t .before .before .before .before .before .before .before in
     let is = c .before .before .before .before .before .before .strip .ensures in
-    reached-more (t .before .loop .inv .0) (t .loop-test .taken) (turn-outcome (s .pre .0) (t .loop-test .taken) is (suited s) (s .pre .1 .0) (c .before .before .before .plan-strip .ensures .0)) (c .add .ensures)
+    reached-more (t .before .loop .inv .0) (t .loop-test .taken)
+    (turn-outcome (s .pre .0) (t .loop-test .taken) is (suited s) (s .pre .1 .0) (c .before .before .before .plan-strip .ensures .0))
+    (c .add .ensures)
 
 words-of-requires : tie.Need-words-of-requires Inv-loop μ-loop
 words-of-requires c κs = search needs
@@ -120,8 +130,11 @@ loop-again : tie.Need-loop-again Inv-loop μ-loop
 loop-again c =
     let t = c .before .before .before .before .before .before .before .before .before in
     let s = t .before .before .before .before .before .before .before in
-    let is = c .before .before .before .before .before .before .before .strip .ensures in
-    (one-more (c .before), planned-more (s .pre .0) (t .loop-test .taken) is (t .before .loop .inv .1) (c .before .before .before .before .plan-strip .ensures .1))
+    let is = c .before .before .before .before .before .before .before .strip .ensures in (
+      one-more (c .before),
+      planned-more (s .pre .0) (t .loop-test .taken) is (t .before .loop .inv .1)
+          (c .before .before .before .before .plan-strip .ensures .1),
+    )
 
 answer-requires-2 : tie.Need-answer-requires-2 Inv-loop μ-loop
 answer-requires-2 c κs = search needs
@@ -131,8 +144,11 @@ same-length-2 c = search needs
 
 returns-2 : tie.Need-returns-2 Inv-loop μ-loop
 returns-2 c =
-    let l = c .before .before .loop in
-    (reached-all (l .inv .0) (c .before .loop-test .left) (c .answer2 .ensures), record { planned = λ a e j h. l .inv .1 .so-far j (omega (arith, c .before .loop-test .left)) })
+    let l = c .before .before .loop in (
+      reached-all (l .inv .0) (c .before .loop-test .left)
+          (c .answer2 .ensures),
+      record { planned = λ a e j h. l .inv .1 .so-far j (omega (arith, c .before .loop-test .left)) },
+    )
 
 pub plan-strips-spec : {M : Type 1} → statement M
 plan-strips-spec =

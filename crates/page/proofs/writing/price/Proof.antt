@@ -9,7 +9,8 @@ use Rattle.page.proofs.writing.price.Statement.{statement}
 use Rattle.page.proofs.writing.price.Tie as tie
 
 -- what was judged
-judged : (c : tie.After-judge) → let a = c .before .before .before .args in Judged (a .code) (a .bytes) (a .strips) (a .page .now) (a .«data» .now) (c .judge .result)
+judged : (c : tie.After-judge)
+    → let a = c .before .before .before .args in Judged (a .code) (a .bytes) (a .strips) (a .page .now) (a .«data» .now) (c .judge .result)
 judged c = record { by = c .judge .ensures }
 
 -- the data is bytes
@@ -40,7 +41,8 @@ returns : tie.Need-returns
 returns c =
     let n = c .before .before .before in
     let j = n .before .before in
-    let e = in-order-answer (judged j) (n .enum-told .given .1) (c .before .before .code-of .ensures) (c .before .house-weights .ensures) (c .price-strips .ensures) in
+    let e = in-order-answer (judged j) (n .enum-told .given .1) (c .before .before .code-of .ensures) (c .before .house-weights .ensures)
+    (c .price-strips .ensures) in
     (e, kept-by _ _ _ _ _ (octets (j .before)) refl e)
 
 returns-2 : tie.Need-returns-2

@@ -13,26 +13,33 @@ use Rattle.page.proofs.writing.price_strips.Statement.{statement}
 use Rattle.page.proofs.writing.price_strips.Tie as tie
 
 abbrev Inv-loop : tie.InvT-loop
-Inv-loop code weights bytes strips page «data» words total₀ k₀ total k = Reached (plainJob (generatorsOf code) weights bytes strips page «data») total k
+Inv-loop code weights bytes strips page «data» words total₀ k₀ total k =
+    Reached (plainJob (generatorsOf code) weights bytes strips page «data») total k
 
 abbrev μ-loop : tie.MeasureT-loop
 μ-loop code weights bytes strips page «data» words total₀ k₀ total k = strips - k
 
 -- the code suits the weights
 suited : (c : tie.Start Inv-loop μ-loop) → Suits (generatorsOf (c .args .code)) (c .args .weights)
-suited c = suits (c .args .code) (c .args .weights) (c .good .1 .0 .1 .0 .1) (λ i. let h = elem-fits w8 w8 (c .args .weights) _ i (c .good .1 .0 .1 .1) tt .fits in omega arith)
+suited c = suits (c .args .code) (c .args .weights) (c .good .1 .0 .1 .0 .1)
+    (λ i. let h = elem-fits w8 w8 (c .args .weights) _ i (c .good .1 .0 .1 .1) tt .fits in omega arith)
 
 -- in a turn the part ends within the data
-fit : (c : tie.In-loop Inv-loop μ-loop) → let a = c .before .before .before .before .before .before .args in a .bytes * c .before .loop .k + a .bytes ≤ length (a .«data» .now)
+fit : (c : tie.In-loop Inv-loop μ-loop)
+    → let a = c .before .before .before .before .before .before .args in a .bytes * c .before .loop .k + a .bytes ≤ length (a .«data» .now)
 fit c = part-fits (c .before .before .before .before .before .before .pre .0) (c .loop-test .taken)
 
 -- after a turn the total has one more strip
-one-more : (c : tie.After-add Inv-loop μ-loop) → let l = c .before .before .before .before .before .before in let a = l .before .before .before .before .before .args in
-    Reached (plainJob (generatorsOf (a .code)) (a .weights) (a .bytes) (a .strips) (a .page .now) (a .«data» .now)) (c .add .result) (l .loop .k + 1)
+one-more : (c : tie.After-add Inv-loop μ-loop)
+    → let l = c .before .before .before .before .before .before in let a = l .before .before .before .before .before .args in
+    Reached (plainJob (generatorsOf (a .code)) (a .weights) (a .bytes) (a .strips) (a .page .now) (a .«data» .now)) (c .add .result)
+    (l .loop .k + 1)
 one-more c =
     let t = c .before .before .before .before .before in
     let s = t .before .before .before .before .before .before in
-    reached-more (t .before .loop .inv) (t .loop-test .taken) (turn-outcome (s .pre .0) (t .loop-test .taken) (c .before .before .before .strip .ensures) (suited s) (s .pre .1) (c .before .price-strip .ensures)) (c .add .ensures)
+    reached-more (t .before .loop .inv) (t .loop-test .taken)
+    (turn-outcome (s .pre .0) (t .loop-test .taken) (c .before .before .before .strip .ensures) (suited s) (s .pre .1)
+    (c .before .price-strip .ensures)) (c .add .ensures)
 
 words-of-requires : tie.Need-words-of-requires Inv-loop μ-loop
 words-of-requires c κs = search needs

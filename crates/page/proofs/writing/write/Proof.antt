@@ -8,7 +8,8 @@ use Rattle.page.proofs.writing.write.Statement.{statement}
 use Rattle.page.proofs.writing.write.Tie as tie
 
 -- what was judged
-judged : (c : tie.After-judge) → let a = c .before .before .before .args in Judged (a .code) (a .bytes) (a .strips) (a .page .now) (a .«data» .now) (c .judge .result)
+judged : (c : tie.After-judge)
+    → let a = c .before .before .before .args in Judged (a .code) (a .bytes) (a .strips) (a .page .now) (a .«data» .now) (c .judge .result)
 judged c = record { by = c .judge .ensures }
 
 -- the data is bytes
@@ -28,7 +29,8 @@ house-weights-requires : tie.Need-house-weights-requires
 house-weights-requires c κs = search needs
 
 write-strips-requires : tie.Need-write-strips-requires
-write-strips-requires c κs = let n = c .before .before .before in (sized-by (judged (n .before .before)) (n .enum-told .given .1), rw (c .before .house-weights .ensures) house-dear)
+write-strips-requires c κs = let n = c .before .before .before in
+    (sized-by (judged (n .before .before)) (n .enum-told .given .1), rw (c .before .house-weights .ensures) house-dear)
 
 enum-known-judged : tie.Need-enum-known-judged
 enum-known-judged c = search needs

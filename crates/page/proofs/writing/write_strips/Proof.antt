@@ -15,7 +15,8 @@ use Rattle.page.proofs.writing.write_strips.Tie as tie
 
 -- the code suits the weights
 suited : (c : tie.Start) → Suits (generatorsOf (c .args .code)) (c .args .weights)
-suited c = suits (c .args .code) (c .args .weights) (c .good .1 .0 .1 .0 .1) (λ i. let h = elem-fits w8 w8 (c .args .weights) _ i (c .good .1 .0 .1 .1) tt .fits in omega arith)
+suited c = suits (c .args .code) (c .args .weights) (c .good .1 .0 .1 .0 .1)
+    (λ i. let h = elem-fits w8 w8 (c .args .weights) _ i (c .good .1 .0 .1 .1) tt .fits in omega arith)
 
 -- the digits that the plans leave at the front of the array
 abbrev planned : tie.After-plan-strips → List ℕ
@@ -26,8 +27,10 @@ abbrev behind : tie.After-plan-strips → List ℕ
 behind c = let a = c .before .before .before .before .before .args in drop (a .bytes * a .strips - 0) (replicate 4096 0)
 
 -- they come back with their length
-digits-length : (c : tie.After-plan-strips) → let a = c .before .before .before .before .before .args in length (planned c) ≡ a .bytes * a .strips
-digits-length c = c .plan-strips .kept .1 .1 .1 .1 .1 .1 .0 ∙ front-length _ _ (whole-most (c .before .before .before .before .before .pre .0))
+digits-length : (c : tie.After-plan-strips) → let a = c .before .before .before .before .before .args in length (planned c)
+    ≡ a .bytes * a .strips
+digits-length c =
+    c .plan-strips .kept .1 .1 .1 .1 .1 .1 .0 ∙ front-length _ _ (whole-most (c .before .before .before .before .before .pre .0))
 
 mul-whole : tie.Need-mul-whole
 mul-whole c = search needs
@@ -62,8 +65,11 @@ part-carry-strips-end c =
 
 carry-strips-requires : tie.Need-carry-strips-requires
 carry-strips-requires c κs =
-    let p = c .before .before .before .before .before .before in
-    (p .before .before .before .before .before .pre .0, front-length _ (planned p ++ behind p) (front-fits _ (planned p) (behind p) (digits-length p)))
+    let p = c .before .before .before .before .before .before in (
+      p .before .before .before .before .before .pre .0,
+      front-length _ (planned p ++ behind p)
+          (front-fits _ (planned p) (behind p) (digits-length p)),
+    )
 
 enum-told-2 : tie.Need-enum-told-2
 enum-told-2 c = search needs
@@ -79,8 +85,11 @@ returns c =
     let p = c .before .before .before .before .before .before .before .before .before in
     let s = p .before .before .before .before .before in
     let e = p .plan-strips .ensures .0 in
-    let carried = rw (front-back _ (planned p) (behind p) (digits-length p)) at (c .before .before .carry-strips .ensures) in
-    (e, done-page (suited s) (s .pre .1) (s .pre .0) e (c .before .before .before .before .before .before .enum-told .given .1) (p .plan-strips .ensures .1) carried)
+    let carried = rw (front-back _ (planned p) (behind p) (digits-length p)) at (c .before .before .carry-strips .ensures) in (
+      e,
+      done-page (suited s) (s .pre .1) (s .pre .0) e (c .before .before .before .before .before .before .enum-told .given .1)
+          (p .plan-strips .ensures .1) carried,
+    )
 
 same-length-2 : tie.Need-same-length-2
 same-length-2 c = search needs

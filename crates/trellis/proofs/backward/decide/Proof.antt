@@ -20,7 +20,8 @@ abbrev Inv-loop : tie.InvT-loop
 Inv-loop code words strip «data» decisions₀ taps steps register₀ costs₀ t₀ decisions register costs t =
     (Held (generatorsOf code) steps strip «data» (8 * length «data») t register costs)
     × (length decisions ≡ 512)
-    × ((W : List ℕ) → steps ≡ stepList W → (k : ℕ) → t ≤ k → k < 8 * length «data» → getD decisions k 0 ≡ decisionAt (generatorsOf code) W strip «data» (8 * length «data») k)
+    × ((W : List ℕ) → steps ≡ stepList W → (k : ℕ) → t ≤ k → k < 8 * length «data» → getD decisions k 0
+    ≡ decisionAt (generatorsOf code) W strip «data» (8 * length «data») k)
 
 abbrev μ-loop : tie.MeasureT-loop
 μ-loop code words strip «data» decisions₀ taps steps register₀ costs₀ t₀ decisions register costs t = t
@@ -47,7 +48,8 @@ loop-holds : tie.Need-loop-holds Inv-loop μ-loop
 loop-holds c =
     let s = c .before .before .before .before .before in
     let a = s .args in (
-      held-last (generatorsOf (a .code)) (c .before .steps-of .result) (a .strip .now) (a .«data» .now) (8 * length (a .«data» .now)) (c .last-register .ensures),
+      held-last (generatorsOf (a .code)) (c .before .steps-of .result) (a .strip .now) (a .«data» .now) (8 * length (a .«data» .now))
+          (c .last-register .ensures),
       s .pre .1,
       λ W e k l m. absurd (let z : ⊥ = omega arith in z),
     )
@@ -77,7 +79,8 @@ stage-before-requires c κs =
     let a = s .args in
     let l = c .before .before .before .before .loop in
     let e : l .t ≡ suc (l .t - 1) = omega (arith, c .before .before .before .loop-test .taken) in
-    held-asks (generatorsOf (a .code)) (d .steps-of .result) (a .strip .now) (a .«data» .now) _ (l .inv .0) e (a .weights) (d .steps-of .ensures) (suited s .bytes) (omega (arith, s .pre .0 .most))
+    held-asks (generatorsOf (a .code)) (d .steps-of .result) (a .strip .now) (a .«data» .now) _ (l .inv .0) e (a .weights)
+    (d .steps-of .ensures) (suited s .bytes) (omega (arith, s .pre .0 .most))
 
 mul-decisions : tie.Need-mul-decisions Inv-loop μ-loop
 mul-decisions c = search needs
@@ -95,11 +98,14 @@ loop-again c =
     let a = s .args in
     let l = c .before .before .before .before .before .loop in
     let e : l .t ≡ suc (l .t - 1) = omega (arith, c .before .before .before .before .loop-test .taken) in
-    let digits = held-digits (generatorsOf (a .code)) (d .steps-of .result) (a .strip .now) (a .«data» .now) _ (l .inv .0) e (s .pre .0 .words-are) (c .stage-before .ensures .0) in (
+    let digits = held-digits (generatorsOf (a .code)) (d .steps-of .result) (a .strip .now) (a .«data» .now) _ (l .inv .0) e
+    (s .pre .0 .words-are) (c .stage-before .ensures .0) in (
       held-more (generatorsOf (a .code)) (d .steps-of .result) (a .strip .now) (a .«data» .now) _ (l .inv .0) e (s .pre .0 .words-are)
-          (proper (a .code)) (d .before .g1-taps .ensures .0) (c .before .before .before .bit .ensures) (c .before .before .back .ensures) (c .stage-before .ensures .1),
+          (proper (a .code)) (d .before .g1-taps .ensures .0) (c .before .before .before .bit .ensures) (c .before .before .back .ensures)
+          (c .stage-before .ensures .1),
       simp length-set (l .inv .1),
-      λ W q. store-back (l .decisions) _ (l .t - 1) (c .stage-before .result) _ (omega (arith, l .inv .0 .within, s .pre .0 .most)) (digits W q) (λ k h. l .inv .2 W q k (omega arith)),
+      λ W q. store-back (l .decisions) _ (l .t - 1) (c .stage-before .result) _ (omega (arith, l .inv .0 .within, s .pre .0 .most))
+          (digits W q) (λ k h. l .inv .2 W q k (omega arith)),
     )
 
 array-read-outcome : tie.Need-array-read-outcome Inv-loop μ-loop
@@ -115,10 +121,13 @@ returns c =
     let a = s .args in
     let l = c .before .before .loop in
     let e : l .t ≡ 0 = omega arith in
-    let over = held-first (generatorsOf (a .code)) (d .steps-of .result) (a .strip .now) (a .«data» .now) _ e (l .inv .0) (a .weights) (d .steps-of .ensures) in
-    (c .outcome .ensures ∙ ap (λ (v : List ℕ). toldOutcome (getD v 0 0)) over
-    ∙ outcome-is (generatorsOf (a .code)) (a .weights) (suited s) (length (a .«data» .now)) (s .pre .0 .most) (a .strip .now) (a .«data» .now) (s .pre .0 .dear),
-    record { at = λ k h. l .inv .2 (a .weights) (d .steps-of .ensures) k (omega arith) h })
+    let over = held-first (generatorsOf (a .code)) (d .steps-of .result) (a .strip .now) (a .«data» .now) _ e (l .inv .0) (a .weights)
+    (d .steps-of .ensures) in (
+      c .outcome .ensures ∙ ap (λ (v : List ℕ). toldOutcome (getD v 0 0)) over
+          ∙ outcome-is (generatorsOf (a .code)) (a .weights) (suited s) (length (a .«data» .now)) (s .pre .0 .most) (a .strip .now)
+          (a .«data» .now) (s .pre .0 .dear),
+      record { at = λ k h. l .inv .2 (a .weights) (d .steps-of .ensures) k (omega arith) h },
+    )
 
 pub decide-spec : {M : Type 1} → statement M
 decide-spec =

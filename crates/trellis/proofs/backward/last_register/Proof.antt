@@ -41,8 +41,11 @@ loop-less c = search needs
 loop-again : tie.Need-loop-again Inv-loop μ-loop
 loop-again c =
     let s = c .before .before .before .before .before in
-    let l = c .before .before .before .loop in
-    (search needs, register-more (generatorsOf (s .args .code)) (s .args .«data» .now) (l .t) (s .pre .0) (l .inv .1) (c .before .bit .ensures) (c .forth .ensures))
+    let l = c .before .before .before .loop in (
+      search needs,
+      register-more (generatorsOf (s .args .code)) (s .args .«data» .now) (l .t) (s .pre .0) (l .inv .1)
+          (c .before .bit .ensures) (c .forth .ensures),
+    )
 
 returns : tie.Need-returns Inv-loop μ-loop
 returns c =

@@ -16,7 +16,8 @@ use Rattle.trellis.proofs.backward.price_strip.Statement.{statement}
 use Rattle.trellis.proofs.backward.price_strip.Tie as tie
 
 abbrev Inv-loop : tie.InvT-loop
-Inv-loop code words strip «data» taps steps register₀ costs₀ t₀ register costs t = Held (generatorsOf code) steps strip «data» (8 * length «data») t register costs
+Inv-loop code words strip «data» taps steps register₀ costs₀ t₀ register costs t =
+    Held (generatorsOf code) steps strip «data» (8 * length «data») t register costs
 
 abbrev μ-loop : tie.MeasureT-loop
 μ-loop code words strip «data» taps steps register₀ costs₀ t₀ register costs t = t
@@ -42,7 +43,8 @@ mul-t c = search needs
 loop-holds : tie.Need-loop-holds Inv-loop μ-loop
 loop-holds c =
     let a = c .before .before .before .before .before .args in
-    held-last (generatorsOf (a .code)) (c .before .steps-of .result) (a .strip .now) (a .«data» .now) (8 * length (a .«data» .now)) (c .last-register .ensures)
+    held-last (generatorsOf (a .code)) (c .before .steps-of .result) (a .strip .now) (a .«data» .now) (8 * length (a .«data» .now))
+    (c .last-register .ensures)
 
 sub-t : tie.Need-sub-t Inv-loop μ-loop
 sub-t c = search needs
@@ -69,7 +71,8 @@ stage-before-requires c κs =
     let a = s .args in
     let l = c .before .before .before .before .loop in
     let e : l .t ≡ suc (l .t - 1) = omega (arith, c .before .before .before .loop-test .taken) in
-    held-asks (generatorsOf (a .code)) (d .steps-of .result) (a .strip .now) (a .«data» .now) _ (l .inv) e (a .weights) (d .steps-of .ensures) (suited s .bytes) (omega (arith, s .pre .most))
+    held-asks (generatorsOf (a .code)) (d .steps-of .result) (a .strip .now) (a .«data» .now) _ (l .inv) e (a .weights)
+    (d .steps-of .ensures) (suited s .bytes) (omega (arith, s .pre .most))
 
 loop-less : tie.Need-loop-less Inv-loop μ-loop
 loop-less c = search needs
@@ -82,7 +85,8 @@ loop-again c =
     let l = c .before .before .before .before .before .loop in
     let e : l .t ≡ suc (l .t - 1) = omega (arith, c .before .before .before .before .loop-test .taken) in
     held-more (generatorsOf (a .code)) (d .steps-of .result) (a .strip .now) (a .«data» .now) _ (l .inv) e (s .pre .words-are)
-    (proper (a .code)) (d .before .g1-taps .ensures .0) (c .before .before .before .bit .ensures) (c .before .before .back .ensures) (c .stage-before .ensures .1)
+    (proper (a .code)) (d .before .g1-taps .ensures .0) (c .before .before .before .bit .ensures) (c .before .before .back .ensures)
+    (c .stage-before .ensures .1)
 
 array-read-outcome : tie.Need-array-read-outcome Inv-loop μ-loop
 array-read-outcome c = search needs
@@ -98,8 +102,10 @@ returns c =
     let l = c .before .before .loop in
     let e : l .t ≡ 0 = omega arith in
     c .outcome .ensures ∙ ap (λ (v : List ℕ). toldOutcome (getD v 0 0))
-    (held-first (generatorsOf (a .code)) (d .steps-of .result) (a .strip .now) (a .«data» .now) _ e (l .inv) (a .weights) (d .steps-of .ensures))
-    ∙ outcome-is (generatorsOf (a .code)) (a .weights) (suited s) (length (a .«data» .now)) (s .pre .most) (a .strip .now) (a .«data» .now) (s .pre .dear)
+    (held-first (generatorsOf (a .code)) (d .steps-of .result) (a .strip .now) (a .«data» .now) _ e (l .inv) (a .weights)
+    (d .steps-of .ensures))
+    ∙ outcome-is (generatorsOf (a .code)) (a .weights) (suited s) (length (a .«data» .now)) (s .pre .most) (a .strip .now) (a .«data» .now)
+    (s .pre .dear)
 
 pub price-strip-spec : {M : Type 1} → statement M
 price-strip-spec =

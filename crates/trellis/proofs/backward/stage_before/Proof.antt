@@ -61,8 +61,10 @@ returns c =
     let q = c .before .before .before .price-for2 .ensures .0 in
     let u = c .before .before .price-for3 .ensures .0 in
     let v = c .before .price-for4 .ensures .0 in (
-      is-digits (a .steps) (a .strip .now) (a .t) (a .label) (a .words .now) (a .costs .now) (s .pre .label-le) x y p q u v (c .stage .ensures .0),
-      is-before (a .steps) (a .strip .now) (a .t) (a .label) (a .words .now) (a .costs .now) (s .pre .label-le) x y p q u v (c .stage .ensures .1),
+      is-digits (a .steps) (a .strip .now) (a .t) (a .label) (a .words .now) (a .costs .now) (s .pre .label-le) x y p q u v
+          (c .stage .ensures .0),
+      is-before (a .steps) (a .strip .now) (a .t) (a .label) (a .words .now) (a .costs .now) (s .pre .label-le) x y p q u v
+          (c .stage .ensures .1),
     )
 
 pub stage-before-spec : {M : Type 1} → statement M

@@ -44,7 +44,8 @@ loop-again c =
     let e : 2 * l .s + 0 % 2 ≡ 2 * l .s = omega arith in (
       search needs,
       simp length-set (omega arith),
-      store-more (l .words) (l .s) (c .word .result) _ (omega arith) (c .word .ensures .0 ∙ ap (wordOf (generatorsOf (c .before .before .before .args .code))) e) (l .inv .2),
+      store-more (l .words) (l .s) (c .word .result) _ (omega arith) (c .word .ensures .0
+          ∙ ap (wordOf (generatorsOf (c .before .before .before .args .code))) e) (l .inv .2),
     )
 
 returns : tie.Need-returns Inv-loop μ-loop

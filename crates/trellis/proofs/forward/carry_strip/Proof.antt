@@ -109,12 +109,15 @@ loop-again c =
     let u = bitOf (a .digits .now) in
     let first = s .before .g1-taps .ensures .0 in
     let d = p .before .before .before .before .bit .ensures in
-    let r = register-next G (a .«data» .now) (l .t) _ _ _ _ first (l .inv .3) (p .before .before .before .bit2 .ensures) (p .before .before .forth .ensures) in (
+    let r = register-next G (a .«data» .now) (l .t) _ _ _ _ first (l .inv .3) (p .before .before .before .bit2 .ensures)
+    (p .before .before .forth .ensures) in (
       omega arith,
       omega arith,
       state-next u (l .t) _ _ (l .inv .2) d,
       r,
-      carried-stage G (a .strip .now) (a .«data» .now) u (l .t) _ _ _ _ _ (omega (arith, oneBit-bytes (length (a .«data» .now)), s .before .before .before .before .before .pre .size)) (omega arith) (omega arith)
+      carried-stage G (a .strip .now) (a .«data» .now) u
+          (l .t) _ _ _ _ _ (omega (arith, oneBit-bytes (length (a .«data» .now)), s .before .before .before .before .before .pre .size))
+          (omega arith) (omega arith)
           (first-wanted G u (l .t) _ _ _ _ first (l .inv .2) d (p .before .parity .ensures .0))
           (second-wanted G (a .«data» .now) u (l .t) _ _ _ _ _ (s .g2-taps .ensures .0) (l .inv .2) d (p .parity2 .ensures .0) r)
           (l .inv .4) (c .before .before .before .before .before .before .raise-if .ensures) (c .before .before .raise-if2 .ensures),
@@ -124,7 +127,14 @@ same-length : tie.Need-same-length Inv-loop μ-loop
 same-length c = ap length (c .before .loop .inv .4) ∙ raisedTo-length startOf _ _
 
 returns : tie.Need-returns Inv-loop μ-loop
-returns c = c .before .loop .inv .4 ∙ carried-all _ _ _ _ _ (omega (arith, c .before .before .before .before .before .before .before .pre .size, oneBit-bytes (length (c .before .before .before .before .before .before .before .args .«data» .now))))
+returns c = c .before .loop .inv .4
+    ∙ carried-all
+    _ _ _ _ _ (omega (
+      arith,
+      c .before .before .before .before .before .before .before .pre .size,
+      oneBit-bytes
+          (length (c .before .before .before .before .before .before .before .args .«data» .now)),
+    ))
 
 pub carry-strip-spec : {M : Type 1} → statement M
 carry-strip-spec =

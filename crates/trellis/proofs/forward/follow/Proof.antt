@@ -46,7 +46,8 @@ loop-again c =
       simp length-set (omega arith),
       omega arith,
       r .ensures .1,
-      store-more (l .digits) (l .q) (r .result .digits) (λ k. number 8 (λ i. followed (λ t. getD (a .decisions .now) t 0) (8 * k + i))) (omega arith) (r .ensures .0) (l .inv .3),
+      store-more (l .digits) (l .q) (r .result .digits) (λ k. number 8 (λ i. followed (λ t. getD (a .decisions .now) t 0) (8 * k + i)))
+          (omega arith) (r .ensures .0) (l .inv .3),
     )
 
 same-length : tie.Need-same-length Inv-loop μ-loop

@@ -25,12 +25,14 @@ abbrev μ-loop : tie.MeasureT-loop
 next-digit : (c : tie.After-u Inv-loop μ-loop) →
     let a = c .before .before .before .args in
     let l = c .before .before .loop in
-    l .digits + (getD (a .decisions .now) (8 * a .q + l .i) 0 / 2 ^ l .s % 2 * 2 ^ l .i) % 2 ^ 32 ≡ number (l .i + 1) (λ k. followed (λ t. getD (a .decisions .now) t 0) (8 * a .q + k))
+    l .digits + (getD (a .decisions .now) (8 * a .q + l .i) 0 / 2 ^ l .s % 2 * 2 ^ l .i) % 2 ^ 32
+    ≡ number (l .i + 1) (λ k. followed (λ t. getD (a .decisions .now) t 0) (8 * a .q + k))
 next-digit c =
     let a = c .before .before .before .args in
     let l = c .before .before .loop in
     let dec : ℕ → ℕ = λ t. getD (a .decisions .now) t 0 in
-    number-next (l .i) 32 (l .digits) _ _ (λ k. followed-bound dec (8 * a .q + k)) (omega arith) (l .inv .3) (followed-digit dec (8 * a .q + l .i) (l .s) (l .inv .2))
+    number-next (l .i) 32 (l .digits) _ _ (λ k. followed-bound dec (8 * a .q + k)) (omega arith) (l .inv .3)
+    (followed-digit dec (8 * a .q + l .i) (l .s) (l .inv .2))
 
 loop-holds : tie.Need-loop-holds Inv-loop μ-loop
 unfolding number
@@ -69,7 +71,12 @@ shl-digits c = search needs
 add-digits : tie.Need-add-digits Inv-loop μ-loop
 add-digits c =
     let a = c .before .before .before .args in
-    omega (arith, next-digit c, number-fits (c .before .before .loop .i + 1) 32 _ (λ k. followed-bound (λ t. getD (a .decisions .now) t 0) (8 * a .q + k)) (omega arith))
+    omega (
+      arith,
+      next-digit c,
+      number-fits
+          (c .before .before .loop .i + 1) 32 _ (λ k. followed-bound (λ t. getD (a .decisions .now) t 0) (8 * a .q + k)) (omega arith),
+    )
 
 mul-s : tie.Need-mul-s Inv-loop μ-loop
 mul-s c = search needs
@@ -92,7 +99,11 @@ loop-again c =
 cast-t20 : tie.Need-cast-t20 Inv-loop μ-loop
 cast-t20 c =
     let a = c .before .before .args in
-    omega (arith, number-fits (c .before .loop .i) 8 _ (λ k. followed-bound (λ t. getD (a .decisions .now) t 0) (8 * a .q + k)) (omega arith))
+    omega (
+      arith,
+      number-fits (c .before .loop .i) 8 _ (λ k. followed-bound (λ t. getD (a .decisions .now) t 0) (8 * a .q + k))
+          (omega arith),
+    )
 
 returns : tie.Need-returns Inv-loop μ-loop
 returns c =

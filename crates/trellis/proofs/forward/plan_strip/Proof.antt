@@ -37,8 +37,14 @@ returns c =
     let s = c .before .before .before .before .before .before .before .before .before .before in
     let a = s .args in
     let dec : ℕ → ℕ = decisionAt (generatorsOf (a .code)) (a .weights) (a .strip .now) (a .«data» .now) (8 * length (a .«data» .now)) in
-    let e = followed-agree _ _ _ dec _ (s .pre .1) (d .ensures .1 .at) (c .before .before .follow .ensures) in
-    (d .ensures .0, (ap length e ∙ length-bytesOf (length (a .«data» .now)) (followed dec), followed-plans (suited s) (s .pre .0 .dear) (s .pre .0 .most) e))
+    let e = followed-agree _ _ _ dec _ (s .pre .1) (d .ensures .1 .at) (c .before .before .follow .ensures) in (
+      d .ensures .0,
+      (
+        ap length e
+            ∙ length-bytesOf (length (a .«data» .now)) (followed dec),
+        followed-plans (suited s) (s .pre .0 .dear) (s .pre .0 .most) e,
+      ),
+    )
 
 pub plan-strip-spec : {M : Type 1} → statement M
 plan-strip-spec = tie.close (tie.spec decide-requires follow-requires same-length returns)

@@ -56,7 +56,8 @@ element-copy-out-branch-cost-2 : tie.Need-element-copy-out-branch-cost-2 Inv-loo
 element-copy-out-branch-cost-2 c = search needs
 
 branch-cost-requires-2 : tie.Need-branch-cost-requires-2 Inv-loop μ-loop
-branch-cost-requires-2 c κs = let p = c .before .before .before .before .before .before .pre .capped in (p .costs _, p .a1-le, p .a0-le, p .b1-le, p .b0-le)
+branch-cost-requires-2 c κs =
+    let p = c .before .before .before .before .before .before .pre .capped in (p .costs _, p .a1-le, p .a0-le, p .b1-le, p .b0-le)
 
 sub-pick : tie.Need-sub-pick Inv-loop μ-loop
 sub-pick c = search needs
@@ -120,7 +121,8 @@ loop-again c =
     let more = half-more (a .after .now) (a .words .now) (a .at) (a .a0) (a .a1) (a .b0) (a .b1) (a .stay) (l .i)
     (s .pre .whole) (s .pre .place) t (l .inv .2) (x .ensures .0) (y .ensures .0) (g .ensures .0) (c .before .bit-below .ensures) in
     let e = half-after (a .at) (l .i) (s .pre .whole) (s .pre .place) t in
-    let cost = lesser-is 64 (a .after .now) (a .words .now) (a .a0) (a .a1) (a .b0) (a .b1) (a .at + l .i) (2 * l .i) e (x .ensures .0) (y .ensures .0) in (
+    let cost = lesser-is 64 (a .after .now) (a .words .now) (a .a0) (a .a1) (a .b0) (a .b1) (a .at + l .i) (2 * l .i) e (x .ensures .0)
+    (y .ensures .0) in (
       search needs,
       simp length-set (omega arith),
       more,
