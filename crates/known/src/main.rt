@@ -1,5 +1,5 @@
-// Known cells: what the compiled functions answer on known bytes, a row each, held against the file stdout. The proofs speak of the source; this runs
-// what the compiler made of it.
+// Known cells: what the compiled functions answer on known bytes, a row each, held against the file stdout. The proofs speak of the source; this
+// runs what the compiler made of it.
 use codes::Code;
 use libc::STDOUT_FILENO;
 
@@ -13,7 +13,7 @@ fn print_bytes(bytes: &[u8]) {
 }
 
 // A strip of one data byte, and what it reads as.
-fn read(code: Code, name: &[u8], strip: [u8; 6]) {
+fn show_reading(code: Code, name: &[u8], strip: [u8; 6]) {
     let mut data = [0u8; 1];
     code.read(&strip, &mut data);
     io::write_all(STDOUT_FILENO, name);
@@ -24,7 +24,7 @@ fn read(code: Code, name: &[u8], strip: [u8; 6]) {
 }
 
 // A strip with one of its cells raised, if it can be; the row has the sum of the levels before and after.
-fn raise(mut strip: [u8; 6], cell: u32) -> [u8; 6] {
+fn show_raise(mut strip: [u8; 6], cell: u32) -> [u8; 6] {
     let before = cells::raises(&strip, 16);
     let raised = cells::raise(&mut strip, cell);
     print_bytes(&strip);
@@ -51,7 +51,7 @@ fn print_answer(name: &[u8], answer: u64) {
 }
 
 // A read, a price and a write of one byte, and the page after them.
-fn call(name: &[u8], code: u32, bytes: u32, strips: u32, page: &mut [u8]) {
+fn show_call(name: &[u8], code: u32, bytes: u32, strips: u32, page: &mut [u8]) {
     let mut data = [0x80u8; 1];
     io::write_all(STDOUT_FILENO, name);
     io::write_all(STDOUT_FILENO, b"\n");
@@ -75,7 +75,7 @@ fn call(name: &[u8], code: u32, bytes: u32, strips: u32, page: &mut [u8]) {
 }
 
 // An erase, and the page after it.
-fn erase(name: &[u8], tenths: i16) {
+fn show_erase(name: &[u8], tenths: i16) {
     let mut page = [0x5au8; 6];
     print_answer(name, firmware::segrunov_erase(1, 1, &mut page, tenths));
     io::write_all(STDOUT_FILENO, b"  page ");
@@ -90,7 +90,7 @@ fn print_count(n: u32) {
 }
 
 // The number of cells of strip 0 at each level.
-fn census(strip: [u8; 6]) {
+fn show_census(strip: [u8; 6]) {
     let counted = page::counting::census(1, 1, &strip);
     let row = counted.rows[0];
     io::write_all(STDOUT_FILENO, b"census");
@@ -102,52 +102,52 @@ fn census(strip: [u8; 6]) {
 }
 
 // The calls that the paper says are refused, and those beside them that are done.
-fn calls() {
-    call(b"code 3", 3, 1, 1, &mut [0u8; 6]);
-    call(b"code 7", 7, 1, 1, &mut [0u8; 6]);
-    call(b"code 4", 4, 1, 1, &mut [0u8; 6]);
-    call(b"L = 0", 3, 0, 1, &mut [0u8; 6]);
-    call(b"L = 65", 3, 65, 1, &mut [0u8; 6]);
-    call(b"S = 0", 3, 1, 0, &mut [0u8; 6]);
-    call(b"S = 65", 3, 1, 65, &mut [0u8; 6]);
-    call(b"a page of 5 bytes", 3, 1, 1, &mut [0u8; 5]);
-    call(b"a page of 7 bytes", 3, 1, 1, &mut [0u8; 7]);
-    erase(b"erase at 49", 49);
-    erase(b"erase at 50", 50);
-    erase(b"erase at 400", 400);
-    erase(b"erase at 401", 401);
-    erase(b"erase at -1", -1);
-    erase(b"erase at -32768", -32768);
-    census([0x41, 0x02, 0, 0, 0, 0]);
-    census([0xff, 0xff, 0xff, 0xff, 0xff, 0xff]);
+fn show_calls() {
+    show_call(b"code 3", 3, 1, 1, &mut [0u8; 6]);
+    show_call(b"code 7", 7, 1, 1, &mut [0u8; 6]);
+    show_call(b"code 4", 4, 1, 1, &mut [0u8; 6]);
+    show_call(b"L = 0", 3, 0, 1, &mut [0u8; 6]);
+    show_call(b"L = 65", 3, 65, 1, &mut [0u8; 6]);
+    show_call(b"S = 0", 3, 1, 0, &mut [0u8; 6]);
+    show_call(b"S = 65", 3, 1, 65, &mut [0u8; 6]);
+    show_call(b"a page of 5 bytes", 3, 1, 1, &mut [0u8; 5]);
+    show_call(b"a page of 7 bytes", 3, 1, 1, &mut [0u8; 7]);
+    show_erase(b"erase at 49", 49);
+    show_erase(b"erase at 50", 50);
+    show_erase(b"erase at 400", 400);
+    show_erase(b"erase at 401", 401);
+    show_erase(b"erase at -1", -1);
+    show_erase(b"erase at -32768", -32768);
+    show_census([0x41, 0x02, 0, 0, 0, 0]);
+    show_census([0xff, 0xff, 0xff, 0xff, 0xff, 0xff]);
 }
 
 fn main() {
-    read(Code::short(), b"code 3 ", [0, 0, 0, 0, 0, 0]);
-    read(Code::short(), b"code 3 ", [1, 0, 0, 0, 0, 0]);
-    read(Code::short(), b"code 3 ", [8, 0, 0, 0, 0, 0]);
-    read(Code::short(), b"code 3 ", [0x41, 0x02, 0, 0, 0, 0]);
-    read(
+    show_reading(Code::short(), b"code 3 ", [0, 0, 0, 0, 0, 0]);
+    show_reading(Code::short(), b"code 3 ", [1, 0, 0, 0, 0, 0]);
+    show_reading(Code::short(), b"code 3 ", [8, 0, 0, 0, 0, 0]);
+    show_reading(Code::short(), b"code 3 ", [0x41, 0x02, 0, 0, 0, 0]);
+    show_reading(
         Code::short(),
         b"code 3 ",
         [0xff, 0xff, 0xff, 0xff, 0xff, 0xff],
     );
-    read(Code::long(), b"code 7 ", [1, 0, 0, 0, 0, 0]);
-    read(Code::long(), b"code 7 ", [8, 0, 0, 0, 0, 0]);
-    read(
+    show_reading(Code::long(), b"code 7 ", [1, 0, 0, 0, 0, 0]);
+    show_reading(Code::long(), b"code 7 ", [8, 0, 0, 0, 0, 0]);
+    show_reading(
         Code::long(),
         b"code 7 ",
         [0xff, 0xff, 0xff, 0xff, 0xff, 0xff],
     );
-    let once = raise([0, 0, 0, 0, 0, 0], 2);
-    let twice = raise(once, 2);
-    let thrice = raise(twice, 2);
-    raise(thrice, 2);
-    raise([0x80, 1, 0, 0, 0, 0], 2);
+    let once = show_raise([0, 0, 0, 0, 0, 0], 2);
+    let twice = show_raise(once, 2);
+    let thrice = show_raise(twice, 2);
+    show_raise(thrice, 2);
+    show_raise([0x80, 1, 0, 0, 0, 0], 2);
     io::print_decimal(
         STDOUT_FILENO,
         cells::climb(cells::house_weights(), 0, 3) as u64,
     );
     io::write_all(STDOUT_FILENO, b"\n");
-    calls();
+    show_calls();
 }

@@ -2,9 +2,9 @@
 use libc::STDIN_FILENO;
 use libc::STDOUT_FILENO;
 use script::Turn;
-use script::Values;
-use script::rows;
-use script::turns;
+use script::following;
+use script::recording;
+use text::Values;
 
 // Where the run stands: the values of line 2, the number of the line that is being read and how much of it there is, and whether to go on.
 struct Run {
@@ -28,7 +28,7 @@ fn start_mut(s: &mut [u8], n: usize) -> &mut [u8] {
 }
 
 // Prints what a line's turn says; then comes the next line.
-fn follow(turn: Turn, number: u64, buffer: &[u8]) -> Run {
+fn print_turn(turn: Turn, number: u64, buffer: &[u8]) -> Run {
     let values = turn.values;
     let at = turn.at;
     if at < buffer.len() {
@@ -46,8 +46,8 @@ fn follow(turn: Turn, number: u64, buffer: &[u8]) -> Run {
 fn take_line(values: Values, number: u64, line: &[u8], page: &mut [u8], data: &mut [u8]) -> Run {
     let mut buffer = [0u8; 96];
     if number > 3 {
-        let n = rows::size(values);
-        let turn = turns::write(
+        let n = recording::size(values);
+        let turn = following::write_turn(
             number,
             values,
             line,
@@ -55,18 +55,18 @@ fn take_line(values: Values, number: u64, line: &[u8], page: &mut [u8], data: &m
             start_mut(data, n),
             &mut buffer,
         );
-        return follow(turn, number, &buffer);
+        return print_turn(turn, number, &buffer);
     }
     if number == 3 {
-        let turn = turns::head(values, line, &mut buffer);
-        return follow(turn, number, &buffer);
+        let turn = following::data_turn(values, line, &mut buffer);
+        return print_turn(turn, number, &buffer);
     }
     if number == 2 {
-        let turn = turns::values(values, line, &mut buffer);
-        return follow(turn, number, &buffer);
+        let turn = following::values_turn(values, line, &mut buffer);
+        return print_turn(turn, number, &buffer);
     }
-    let turn = turns::names(values, line, &mut buffer);
-    follow(turn, number, &buffer)
+    let turn = following::names_turn(values, line, &mut buffer);
+    print_turn(turn, number, &buffer)
 }
 
 // A byte. Of a line that is too long for its form only the first 8,193 bytes are kept: that many are in no form.
@@ -91,16 +91,16 @@ fn take_byte(run: Run, byte: u8, line: &mut [u8], page: &mut [u8], data: &mut [u
 
 // The bytes of one read.
 fn take_bytes(run: Run, bytes: &[u8], line: &mut [u8], page: &mut [u8], data: &mut [u8]) -> Run {
-    let mut now = run;
+    let mut state = run;
     let mut i: usize = 0;
     while i < bytes.len() {
-        if !now.on {
-            return now;
+        if !state.on {
+            return state;
         }
-        now = take_byte(now, bytes[i], line, page, data);
+        state = take_byte(state, bytes[i], line, page, data);
         i += 1;
     }
-    now
+    state
 }
 
 // The end of the input: a line that is missing or not ended is at fault.
@@ -118,8 +118,8 @@ fn finish(run: Run) -> Run {
         }
     }
     let mut buffer = [0u8; 96];
-    let turn = turns::stop(values, 6, number, &mut buffer);
-    follow(turn, number, &buffer)
+    let turn = following::stop(values, 6, number, &mut buffer);
+    print_turn(turn, number, &buffer)
 }
 
 // One read; the input ends where nothing comes.
@@ -146,13 +146,13 @@ fn read_all(line: &mut [u8], page: &mut [u8], data: &mut [u8]) {
         used: 0,
         on: true,
     };
-    let mut turns = u64::MAX;
-    while turns > 0 {
+    let mut reads_left = u64::MAX;
+    while reads_left > 0 {
         if !run.on {
             return;
         }
         run = read_some(run, line, page, data);
-        turns -= 1;
+        reads_left -= 1;
     }
 }
 

@@ -1,7 +1,5 @@
--- What the run program reads and prints is stated by these definitions: `Text` has the text of numbers, values, data and rows, `Lines` judges a line,
--- `Rows` has the row of a write, `Runs` the whole run, `Turns` what one line does.
-pub mod Text
-pub mod Lines
+-- What the run program does with its input is stated by these definitions: `Rows` has the row of a write, `Turns` what one line does, `Runs`
+-- the whole run.
 pub mod Rows
-pub mod Runs
 pub mod Turns
+pub mod Runs

@@ -1,34 +1,40 @@
 -- The row of a write.
---   sizeOf   the bytes of a page's data
---   costOf   an answer's cost
---   rowOf    the row
-use mathlib.Core.Bool.{cond, _&&_}
+--   sizeOf               the bytes of a page's data
+--   answerBy, pageBy     a write's answer and the page after it, by the values of line 2
+--   answerCost           an answer's cost
+--   writeRow             the row
 use mathlib.Core.List.{List}
 use Prim.Native.Nat.{ℕ, _*_}
-use lib.Dec.{leb}
 use Rattle.cells.specs.Levels.{raisesOf}
 use Rattle.cells.specs.Climbs.{house}
 use Rattle.page.specs.declared.Answer.{Answer}
 use Rattle.page.specs.declared.Answer.the-variants as A
-use Rattle.page.specs.Answers.{answerOf, pageOf, numberOf}
-use Rattle.script.specs.Text.{rowText}
-use Rattle.script.specs.declared.Values.{Values}
+use Rattle.page.specs.Refusals.{sizesGround}
+use Rattle.page.specs.Answers.{kept, answerOf, pageOf, numberOf}
+use Rattle.text.specs.declared.Values.{Values}
+use Rattle.text.specs.Text.{rowText}
 
--- 'Its data has L·S bytes'; 0 where L or S is above 64
+-- 'Its data has L·S bytes'; 0 where the values are refused
 unfoldable pub sizeOf : Values → ℕ
-sizeOf v = cond (leb (v .bytes) 64 && leb (v .strips) 64) (v .bytes * v .strips) 0
+sizeOf v = kept (sizesGround (v .code) (v .bytes) (v .strips)) (v .bytes * v .strips) 0
+
+-- a write with the values of line 2
+abbrev pub answerBy : Values → List ℕ → List ℕ → Answer
+answerBy v before content = answerOf house (v .code) (v .bytes) (v .strips) before content
+
+abbrev pub pageBy : Values → List ℕ → List ℕ → List ℕ
+pageBy v before content = pageOf house (v .code) (v .bytes) (v .strips) before content
 
 -- 'With any refusal the cost is 0'
-abbrev pub costOf : Answer → ℕ
-costOf (A.Done cost) = cost
-costOf (A.Spent strip) = 0
-costOf (A.Refused r) = 0
+abbrev pub answerCost : Answer → ℕ
+answerCost (A.Done cost) = cost
+answerCost (A.Spent strip) = 0
+answerCost (A.Refused r) = 0
 
 -- the row of a write's number, answer and page after it, which has 16·L·S cells
 unfoldable pub rowAfter : ℕ → Values → Answer → List ℕ → List ℕ
-rowAfter number v answer after = rowText number (numberOf answer) (costOf answer) (raisesOf (16 * sizeOf v) after)
+rowAfter number v answer after = rowText number (numberOf answer) (answerCost answer) (raisesOf (16 * sizeOf v) after)
 
 -- THE ROW of a write of this data to this page
-unfoldable pub rowOf : ℕ → Values → List ℕ → List ℕ → List ℕ
-rowOf number v before content =
-    rowAfter number v (answerOf house (v .code) (v .bytes) (v .strips) before content) (pageOf house (v .code) (v .bytes) (v .strips) before content)
+unfoldable pub writeRow : ℕ → Values → List ℕ → List ℕ → List ℕ
+writeRow number v before content = rowAfter number v (answerBy v before content) (pageBy v before content)

@@ -1,64 +1,89 @@
 -- What each line does.
---   Turned                                     what is printed, the values, and whether the run goes on
+--   Progress                                     how far the run is: the number of the next line, the values of line 2, the page
+--   Turned                                       what is printed, how far the run is then, and whether it goes on
 --   namesTurn, valuesTurn, dataTurn, writeTurn   lines 1, 2 and 3, and a data line
---   Told                                       a function's answer and its buffer tell of a turn
+--   lineTurn                                     THE TURN of a line, by its number
+--   Told, ToldPage                               a function's answer and its buffer tell of a turn, and its page too
 use mathlib.Core.Path.{_≡_}
-use mathlib.Core.Bool.{Bool, true, false, cond}
+use mathlib.Core.Bool.{Bool, true, false, cond, _&&_}
 use mathlib.Core.List.{List, []}
-use Prim.Native.Nat.{ℕ, _-_, _≤_}
-use lib.Dec.{ltb}
-use lib.ListN.{drop}
-use Rattle.cells.specs.Climbs.{house}
-use Rattle.page.specs.Answers.{pageOf}
-use Rattle.script.specs.Text.{namesText, dataText, headText, faultText}
-use Rattle.script.specs.Lines.{same, ruledOf, isData, pairs}
-use Rattle.script.specs.Rows.{rowOf}
-use Rattle.script.specs.declared.Values.{Values}
+use mathlib.Core.Option.{Option, none, some}
+use Prim.Native.Nat.{ℕ, _+_, _*_, _-_}
+use lib.Dec.{ltb, leb, eqb}
+use lib.ListN.{replicate}
+use Rattle.page.specs.declared.Refusal.{Refusal}
+use Rattle.page.specs.Refusals.{sizesGround, refusalNumber}
+use Rattle.text.specs.declared.Values.{Values}
+use Rattle.text.specs.Text.{namesText, dataText, headText, faultText, Tail}
+use Rattle.text.specs.Lines.{same, valuesOf}
+use Rattle.text.specs.Hex.{isData, pairs}
+use Rattle.script.specs.Rows.{sizeOf, pageBy, writeRow}
 use Rattle.script.specs.declared.Turn.{Turn}
-use Rattle.script.specs.declared.Ruled.{Ruled}
-use Rattle.script.specs.declared.Ruled.the-variants.{Given, Fault}
+
+pub record Progress : Type 0 where
+  pub number : ℕ
+  pub values : Values
+  pub page : List ℕ
+
+abbrev pub atLine : ℕ → Values → List ℕ → Progress
+atLine number v page = record { number = number; values = v; page = page }
 
 pub record Turned : Type 0 where
   pub text : List ℕ
-  pub values : Values
+  pub after : Progress
   pub on : Bool
 
 -- 'prints `refusal line`, the two values in a line, and stops'
-abbrev pub halt : Values → ℕ → ℕ → Turned
-halt v refusal number = record { text = faultText refusal number; values = v; on = false }
+abbrev pub halt : ℕ → Progress → Turned
+halt refusal p = record { text = faultText refusal (p .number); after = p; on = false }
 
-abbrev pub goes : List ℕ → Values → Turned
-goes text v = record { text = text; values = v; on = true }
+-- the next line follows, with these values and this page
+abbrev pub goes : Progress → List ℕ → Values → List ℕ → Turned
+goes p text v page = record { text = text; after = atLine (p .number + 1) v page; on = true }
 
--- line 1
-unfoldable pub namesTurn : Values → List ℕ → Turned
-namesTurn v line = cond (same line namesText) (goes [] v) (halt v 6 1)
+-- line 1; '6: text of the program is not in its form'
+unfoldable pub namesTurn : Progress → List ℕ → Turned
+namesTurn p line = cond (same line namesText) (goes p [] (p .values) (p .page)) (halt 6 p)
 
--- line 2
-abbrev pub ruledTurn : Values → Ruled → Turned
-ruledTurn v (Given w) = goes [] w
-ruledTurn v (Fault r) = halt v r 2
+-- line 2: 'values refused by 1 to 3 give line 2'
+abbrev pub judgedTurn : Progress → Values → Option Refusal → Turned
+judgedTurn p v none = goes p [] v (p .page)
+judgedTurn p v (some r) = halt (refusalNumber r) p
 
-unfoldable pub valuesTurn : Values → List ℕ → Turned
-valuesTurn v line = ruledTurn v (ruledOf line)
+abbrev pub formTurn : Progress → Option Values → Turned
+formTurn p none = halt 6 p
+formTurn p (some v) = judgedTurn p v (sizesGround (v .code) (v .bytes) (v .strips))
 
--- line 3
-unfoldable pub dataTurn : Values → List ℕ → Turned
-dataTurn v line = cond (same line dataText) (goes headText v) (halt v 6 3)
+unfoldable pub valuesTurn : Progress → List ℕ → Turned
+valuesTurn p line = formTurn p (valuesOf line)
 
--- a data line, of which n bytes are wanted: the first is line 4
-unfoldable pub writeTurn : ℕ → Values → ℕ → List ℕ → List ℕ → Turned
-writeTurn number v n page line =
-    cond (ltb 1003 number) (halt v 6 number) (cond (isData n line) (goes (rowOf (number - 3) v page (pairs line)) v) (halt v 6 number))
+-- line 3: the writes start 'with an erased page'
+unfoldable pub dataTurn : Progress → List ℕ → Turned
+dataTurn p line = cond (same line dataText) (goes p headText (p .values) (replicate (6 * sizeOf (p .values)) 0)) (halt 6 p)
 
--- the page after it
-unfoldable pub pageAfter : ℕ → Values → ℕ → List ℕ → List ℕ → List ℕ
-pageAfter number v n page line =
-    cond (ltb 1003 number) page (cond (isData n line) (pageOf house (v .code) (v .bytes) (v .strips) page (pairs line)) page)
+-- a data line, of which n bytes are wanted; write 1 is line 4: 'a data line of another length than L·S bytes is at fault by 6,
+-- and so is a 1,001st data line'
+unfoldable pub writeTurn : ℕ → Progress → List ℕ → Turned
+writeTurn n p line =
+    cond (leb (p .number) 1003 && isData n line)
+    (goes p (writeRow (p .number - 3) (p .values) (p .page) (pairs line)) (p .values) (pageBy (p .values) (p .page) (pairs line)))
+    (halt 6 p)
 
--- the buffer of 96 bytes has the turn's text at its end
-pub record Told (t : Turned) (r : Turn) (buffer : List ℕ) : Type 0 where
-  pub at-most : r .at ≤ 96
-  pub text-is : drop (r .at) buffer ≡ t .text
-  pub values-are : r .values ≡ t .values
-  pub on-is : r .on ≡ t .on
+unfoldable pub lineTurn : Progress → List ℕ → Turned
+lineTurn p line =
+    cond (ltb 3 (p .number)) (writeTurn (sizeOf (p .values)) p line)
+    (cond (eqb (p .number) 3) (dataTurn p line) (cond (eqb (p .number) 2) (valuesTurn p line) (namesTurn p line)))
+
+-- the buffer of 96 bytes ends in the turn's text
+pub record Shown (text : List ℕ) (v : Values) (on : Bool) (r : Turn) (buffer : List ℕ) : Type 0 where
+  pub text-is : Tail text (r .at) buffer
+  pub values-are : r .values ≡ v
+  pub on-is : r .on ≡ on
+
+abbrev pub Told : Turned → Turn → List ℕ → Type 0
+Told t r buffer = Shown (t .text) (t .after .values) (t .on) r buffer
+
+-- and the page is that after the turn
+pub record ToldPage (t : Turned) (r : Turn) (buffer page : List ℕ) : Type 0 where
+  pub told : Told t r buffer
+  pub page-is : page ≡ t .after .page

@@ -1,4 +1,4 @@
--- The invariant: the slices keep their lengths. The turns fall.
+-- The invariant: the slices keep their lengths. The reads that are left fall.
 use mathlib.Core.Path.{_≡_}
 use lib.ListN.{length}
 use borrow.Author.Needs.{needs}
@@ -6,10 +6,11 @@ use Rattle.run.proofs.read_all.Statement.{statement}
 use Rattle.run.proofs.read_all.Tie as tie
 
 abbrev Inv-loop : tie.InvT-loop
-Inv-loop line₀ page₀ data₀ run₀ turns₀ line page «data» run turns = (length line ≡ length line₀) × (length page ≡ length page₀) × (length «data» ≡ length data₀)
+Inv-loop line₀ page₀ data₀ run₀ reads-left₀ line page «data» run reads-left =
+    (length line ≡ length line₀) × (length page ≡ length page₀) × (length «data» ≡ length data₀)
 
 abbrev μ-loop : tie.MeasureT-loop
-μ-loop line₀ page₀ data₀ run₀ turns₀ line page «data» run turns = turns
+μ-loop line₀ page₀ data₀ run₀ reads-left₀ line page «data» run reads-left = reads-left
 
 loop-holds : tie.Need-loop-holds Inv-loop μ-loop
 loop-holds c = search needs
@@ -29,8 +30,8 @@ returns c = search needs
 read-some-requires : tie.Need-read-some-requires Inv-loop μ-loop
 read-some-requires c κs = search needs
 
-sub-turns : tie.Need-sub-turns Inv-loop μ-loop
-sub-turns c = search needs
+sub-reads-left : tie.Need-sub-reads-left Inv-loop μ-loop
+sub-reads-left c = search needs
 
 loop-less : tie.Need-loop-less Inv-loop μ-loop
 loop-less c = search needs
@@ -62,7 +63,7 @@ read-all-spec =
     same-length-3
     returns
     read-some-requires
-    sub-turns
+    sub-reads-left
     loop-less
     loop-again
     same-length-4

@@ -7,10 +7,11 @@ use Rattle.run.proofs.take_bytes.Statement.{statement}
 use Rattle.run.proofs.take_bytes.Tie as tie
 
 abbrev Inv-loop : tie.InvT-loop
-Inv-loop bytes line₀ page₀ data₀ now₀ i₀ line page «data» now i = (i ≤ length bytes) × (length line ≡ length line₀) × (length page ≡ length page₀) × (length «data» ≡ length data₀)
+Inv-loop bytes line₀ page₀ data₀ state₀ i₀ line page «data» state i =
+    (i ≤ length bytes) × (length line ≡ length line₀) × (length page ≡ length page₀) × (length «data» ≡ length data₀)
 
 abbrev μ-loop : tie.MeasureT-loop
-μ-loop bytes line₀ page₀ data₀ now₀ i₀ line page «data» now i = length bytes - i
+μ-loop bytes line₀ page₀ data₀ state₀ i₀ line page «data» state i = length bytes - i
 
 loop-holds : tie.Need-loop-holds Inv-loop μ-loop
 loop-holds c = search needs

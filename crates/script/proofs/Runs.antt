@@ -1,0 +1,87 @@
+-- The run of the paper's example, and the runs of faulty inputs.
+--   example-holds    THE EXAMPLE prints exactly what the paper says
+--   faults-hold      FAULTS and what they print
+use mathlib.Core.Path.{_≡_, refl, _∙_, ap₂}
+use mathlib.Core.List.{List, [], _∷_, _++_}
+use Prim.Native.Nat.{ℕ}
+use Rattle.cells.specs.Places.{sumOf}
+use Rattle.cells.specs.Bytes.{bitOf}
+use Rattle.cells.specs.Levels.{level, raisesOf}
+use Rattle.page.specs.Shape.{oneTo64}
+use Rattle.page.specs.Refusals.{codeGround, bytesGround, stripsGround, limitsGround, sizesGround}
+use Rattle.page.specs.declared.Answer.the-variants as A
+use Rattle.page.proofs.Known.{cases-hold}
+use Rattle.text.specs.declared.Values.{Values}
+use Rattle.text.specs.Text.{onto, decimal, namesText, valuesText, headText, rowText, faultHead, faultText}
+use Rattle.text.specs.Lines.{same, stepOf, scanOf, fiveDigits, checked, valuesOf}
+use Rattle.text.specs.Hex.{isHex, allHex, nibble, pairs, isData}
+use Rattle.script.specs.Rows.{sizeOf, answerBy, pageBy, rowAfter, writeRow}
+use Rattle.script.specs.Turns.{namesTurn, valuesTurn, dataTurn, writeTurn, lineTurn}
+use Rattle.script.specs.Runs.{linesFrom, linesOf, runFrom, runOf, exampleInput, exampleOutput}
+
+-- the example's values, and the page before each write and after the last
+v : Values
+v = record { code = 3; bytes = 1; strips = 1 }
+
+six : ℕ → List ℕ
+six last = 0 ∷ 0 ∷ 0 ∷ 0 ∷ 0 ∷ last ∷ []
+
+-- a write with the example's values
+says : List ℕ → List ℕ → ℕ → List ℕ → Type 0
+says before content cost after = (answerBy v before content ≡ A.Done cost) × (pageBy v before content ≡ after)
+
+-- the three writes, which the paper's table has as rows 5 to 7
+first : says (six 0) (128 ∷ []) 16 (six 32)
+unfolding says six v
+first = cases-hold .1 .1 .1 .1 .1 .0
+
+second : says (six 32) (0 ∷ []) 16 (six 36)
+unfolding says six v
+second = cases-hold .1 .1 .1 .1 .1 .1 .0
+
+third : says (six 36) (128 ∷ []) 20 (six 100)
+unfolding says six v
+third = cases-hold .1 .1 .1 .1 .1 .1 .1 .0
+
+-- the row of a write that says this
+row-of : (n : ℕ) (before content : List ℕ) (cost : ℕ) (after : List ℕ) → says before content cost after
+    → writeRow n v before content ≡ rowAfter n v (A.Done cost) after
+unfolding writeRow says
+row-of n before content cost after s = ap₂ (rowAfter n v) (s .0) (s .1)
+
+-- the run as its rows, by the pages after the first two writes
+rows : List ℕ → List ℕ → List ℕ
+rows one two = headText ++ (writeRow 1 v (six 0) (128 ∷ []) ++ (writeRow 2 v one (0 ∷ []) ++ (writeRow 3 v two (128 ∷ []) ++ [])))
+
+listed : runOf exampleInput ≡ rows (pageBy v (six 0) (128 ∷ [])) (pageBy v (pageBy v (six 0) (128 ∷ [])) (0 ∷ []))
+unfolding exampleInput runOf linesOf linesFrom runFrom lineTurn namesTurn valuesTurn dataTurn writeTurn same valuesOf checked
+    scanOf stepOf fiveDigits valuesText decimal onto sizesGround limitsGround codeGround bytesGround stripsGround oneTo64 sizeOf
+    isData allHex isHex pairs nibble six v rows
+listed = refl
+
+-- the rows of the three writes, evaluated
+row : ℕ → ℕ → ℕ → List ℕ
+row n cost last = rowAfter n v (A.Done cost) (six last)
+
+printed : headText ++ (row 1 16 32 ++ (row 2 16 36 ++ (row 3 20 100 ++ []))) ≡ exampleOutput
+unfolding rowAfter rowText decimal onto raisesOf sumOf level bitOf sizeOf sizesGround limitsGround codeGround bytesGround
+    stripsGround oneTo64 headText exampleOutput six v row
+printed = refl
+
+-- THE THEOREM
+pub example-holds : runOf exampleInput ≡ exampleOutput
+unfolding says rows row
+example-holds =
+    listed
+    ∙ rw (first .1, second .1, row-of 1 _ _ _ _ first, row-of 2 _ _ _ _ second, row-of 3 _ _ _ _ third) printed
+
+-- FAULTS: no line at all, line 2 is 03 1 1, line 2 is 4 0 0 (the code is tested first), line 3 is not ended, the data are 8A
+pub faults-hold : (runOf [] ≡ faultText 6 1)
+    × (runOf (namesText ++ 10 ∷ 48 ∷ 51 ∷ 32 ∷ 49 ∷ 32 ∷ 49 ∷ 10 ∷ []) ≡ faultText 6 2)
+    × (runOf (namesText ++ 10 ∷ 52 ∷ 32 ∷ 48 ∷ 32 ∷ 48 ∷ 10 ∷ []) ≡ faultText 1 2)
+    × (runOf (namesText ++ 10 ∷ 51 ∷ 32 ∷ 49 ∷ 32 ∷ 49 ∷ 10 ∷ 100 ∷ 97 ∷ 116 ∷ 97 ∷ []) ≡ faultText 6 3)
+    × (runOf (namesText ++ 10 ∷ 51 ∷ 32 ∷ 49 ∷ 32 ∷ 49 ∷ 10 ∷ 100 ∷ 97 ∷ 116 ∷ 97 ∷ 10 ∷ 56 ∷ 65 ∷ 10 ∷ []) ≡ headText ++ faultText 6 4)
+unfolding runOf linesOf linesFrom runFrom lineTurn namesTurn valuesTurn dataTurn writeTurn same valuesOf checked scanOf stepOf
+    fiveDigits valuesText decimal onto sizesGround limitsGround codeGround bytesGround stripsGround oneTo64 sizeOf isData allHex
+    isHex pairs nibble faultText faultHead
+faults-hold = (refl, refl, refl, refl, refl)

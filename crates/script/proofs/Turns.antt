@@ -1,0 +1,133 @@
+-- What a line does. The values that a line 2 gives are in order, so that a write of data in form is never refused for its input; and a line
+-- of more than 8,192 bytes is in no form, so that the program need not keep more of it.
+--   answers-0-or-7           THE ANSWER of a row is 0 or 7
+--   long-line                A LONG LINE is refusal 6
+--   values-broken, values-given, values-refused   line 2, by what the functions answer of its form and of its values
+use mathlib.Core.Path.{_≡_, refl, sym, _∙_, ap}
+use mathlib.Core.Bool.{Bool, true, false, cond, and-false}
+use mathlib.Core.List.{List, [], _∷_, _++_}
+use mathlib.Core.Logic.{_⊎_, inl, inr}
+use mathlib.Core.Option.{Option, none, some}
+use Prim.Native.Nat.{ℕ, _*_, _≤_, _<_}
+use native.Mathlib.Omega.{arith}
+use native.Mathlib.Nat.{mul-assoc}
+use lib.ListN.{length, length-append}
+use borrow.Author.Tests.{eq-eqb}
+use Rattle.cells.specs.Climbs.{house}
+use Rattle.search.specs.Best.{Solution}
+use Rattle.page.specs.declared.Refusal.{Refusal}
+use Rattle.page.specs.declared.Completion.{Completion}
+use Rattle.page.specs.declared.Completion.the-variants.{Done, Refused}
+use Rattle.page.specs.Refusals.{sizesGround, pageGround, dataGround, ground, numbered, refusalNumber}
+use Rattle.page.specs.Computed.{pageWrite, spentStrip}
+use Rattle.page.specs.Answers.{completionOf, callAnswer, answerOf, numberOf}
+use Rattle.page.proofs.Refusals.{done-none, refused-some}
+use Rattle.text.specs.declared.Values.{Values}
+use Rattle.text.specs.declared.Form.{Form}
+use Rattle.text.specs.declared.Form.the-variants.{Given, Broken}
+use Rattle.text.specs.Text.{decimal, namesText, dataText, valuesText}
+use Rattle.text.specs.Lines.{same, valuesOf, formOf}
+use Rattle.text.specs.Hex.{isData, contentOf}
+use Rattle.text.proofs.Text.{size-most}
+use Rattle.text.proofs.Lines.{same-lengths, text-of-values}
+use Rattle.text.proofs.Hex.{data-odd, text-of-data}
+use Rattle.script.specs.Rows.{sizeOf, answerBy}
+use Rattle.script.specs.Turns.{Progress, Turned, halt, goes, namesTurn, judgedTurn, formTurn, valuesTurn, dataTurn, writeTurn, lineTurn}
+use Rattle.script.proofs.Rows.{size-given, size-bound}
+
+-- LINE 2 by what the functions answer of its form and of its values
+form-given : (o : Option Values) {v : Values} → formOf o ≡ Given v → o ≡ some v
+form-given none e = let z : _≡_ {A = ℕ} 0 1 = cc in absurd (omega arith)
+form-given (some w) e = cc
+
+form-broken : (o : Option Values) → formOf o ≡ Broken → o ≡ none
+form-broken none e = refl
+form-broken (some w) e = let z : _≡_ {A = ℕ} 0 1 = cc in absurd (omega arith)
+
+module _ (p : Progress) (line : List ℕ) {f : Form} (e : f ≡ formOf (valuesOf line)) where
+  pub values-broken : f ≡ Broken → valuesTurn p line ≡ halt 6 p
+  unfolding valuesTurn
+  values-broken b = rw (form-broken (valuesOf line) (sym e ∙ b))
+
+  module _ {v : Values} {k : Completion} (b : f ≡ Given v) (j : k ≡ completionOf (sizesGround (v .code) (v .bytes) (v .strips))) where
+    pub values-given : k ≡ Done → valuesTurn p line ≡ goes p [] v (p .page)
+    unfolding valuesTurn
+    values-given d = rw (form-given (valuesOf line) (sym e ∙ b), done-none (sizesGround (v .code) (v .bytes) (v .strips)) (sym j ∙ d))
+
+    pub values-refused : {r : Refusal} → k ≡ Refused r → valuesTurn p line ≡ halt (refusalNumber r) p
+    unfolding valuesTurn
+    values-refused d = rw (form-given (valuesOf line) (sym e ∙ b), refused-some (sizesGround (v .code) (v .bytes) (v .strips)) (sym j ∙ d))
+
+-- the run goes on with values that no ground refuses
+judged-goes : (p : Progress) (w v : Values) (g : Option Refusal) → judgedTurn p w g ≡ goes p [] v (p .page) → (g ≡ none) × (w ≡ v)
+judged-goes p w v none e = (refl, ap (λ (t : Turned). t .after .values) e)
+judged-goes p w v (some r) e = let z : _≡_ {A = ℕ} 0 1 = ap (λ (t : Turned). cond (t .on) 1 0) e in absurd (omega arith)
+
+form-goes : (p : Progress) (v : Values) (o : Option Values) → formTurn p o ≡ goes p [] v (p .page)
+    → sizesGround (v .code) (v .bytes) (v .strips) ≡ none
+form-goes p v none e = let z : _≡_ {A = ℕ} 0 1 = ap (λ (t : Turned). cond (t .on) 1 0) e in absurd (omega arith)
+form-goes p v (some w) e = let j = judged-goes p w v (sizesGround (w .code) (w .bytes) (w .strips)) e in rw (j .1) at (j .0)
+
+-- A WRITE OF DATA IN FORM HAS ITS INPUT IN ORDER
+write-in-order : (v : Values) (page content : ℕ) → sizesGround (v .code) (v .bytes) (v .strips) ≡ none
+    → page ≡ 6 * sizeOf v → content ≡ sizeOf v → ground (v .code) (v .bytes) (v .strips) page content ≡ none
+unfolding ground pageGround dataGround
+write-in-order v page content e p c =
+    let s = size-given v e in
+    let ep : page ≡ 6 * v .bytes * v .strips = p ∙ rw (s, mul-assoc) in
+    rw (e, eq-eqb page (6 * v .bytes * v .strips) ep, eq-eqb content (v .bytes * v .strips) (c ∙ s))
+
+-- an answer without a ground is 0 or 7
+zero-or-seven : (w : Option Solution) (k : ℕ) → (numberOf (callAnswer none w k) ≡ 0) ⊎ (numberOf (callAnswer none w k) ≡ 7)
+zero-or-seven (some a) k = inl refl
+zero-or-seven none k = inr refl
+
+-- 'one row a write: its number from 1, 0 or 7'
+pub answers-0-or-7 : (p : Progress) (line text page content : List ℕ) (v : Values) → valuesTurn p line ≡ goes p [] v (p .page)
+    → length page ≡ 6 * sizeOf v → contentOf (sizeOf v) text ≡ some content
+    → (numberOf (answerBy v page content) ≡ 0) ⊎ (numberOf (answerBy v page content) ≡ 7)
+unfolding answerOf valuesTurn
+answers-0-or-7 p line text page content v e h t =
+    rw (write-in-order v (length page) (length content) (form-goes p v (valuesOf line) e) h (text-of-data (sizeOf v) text content t .1))
+    (zero-or-seven (pageWrite (numbered (v .code)) house (v .bytes) (v .strips) page content)
+    (spentStrip (numbered (v .code)) house (v .bytes) (v .strips) page content))
+
+-- the text of values has at most 17 bytes
+short-values : (v : Values) → v .code < 100000 → v .bytes < 100000 → v .strips < 100000 → length (valuesText v) ≤ 17
+unfolding valuesText
+short-values v h h2 h3 =
+    let c = size-most 4 (v .code) h in
+    let b = size-most 4 (v .bytes) h2 in
+    let s = size-most 4 (v .strips) h3 in
+    let e = length-append (decimal (v .code)) (32 ∷ (decimal (v .bytes) ++ 32 ∷ decimal (v .strips))) in
+    let f = length-append (decimal (v .bytes)) (32 ∷ decimal (v .strips)) in
+    omega arith
+
+-- a test that decides nothing
+cond-same : (t : Bool) (x : Turned) → cond t x x ≡ x
+cond-same true x = refl
+cond-same false x = refl
+
+module _ (p : Progress) (line : List ℕ) (long : 8192 < length line) where
+  -- it is no text of lines 1 to 3
+  unlike : (text : List ℕ) → length text ≤ 8192 → same line text ≡ false
+  unlike text h = same-lengths line text (λ e. let z : ⊥ = omega arith in z)
+
+  no-values : (o : Option Values) → valuesOf line ≡ o → formTurn p o ≡ halt 6 p
+  no-values none e = refl
+  no-values (some v) e =
+      let t = text-of-values line v e in
+      let s = short-values v (t .1) (t .2) (t .3) in
+      let z : ⊥ = omega (arith, ap length (t .0)) in
+      absurd z
+
+  -- and no data of at most 4,096 bytes
+  no-data : isData (sizeOf (p .values)) line ≡ false
+  no-data = let b = size-bound (p .values) in data-odd (sizeOf (p .values)) line (λ e. let z : ⊥ = omega arith in z)
+
+  -- A LONG LINE: whichever of the four it is, it halts
+  pub long-line : lineTurn p line ≡ halt 6 p
+  unfolding lineTurn writeTurn dataTurn valuesTurn namesTurn
+  long-line =
+      rw (no-data, and-false, unlike dataText (omega arith), no-values (valuesOf line) refl, unlike namesText (omega arith))
+      (simp cond-same)

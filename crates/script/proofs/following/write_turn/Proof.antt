@@ -1,0 +1,84 @@
+-- The line is past the last one, not in form, or a write.
+use mathlib.Core.Path.{refl, sym, _∙_}
+use borrow.Author.Needs.{needs}
+use borrow.Author.Tests.{not-true, not-false, le-leb, lt-leb}
+use Rattle.text.proofs.Hex.{data-decoded}
+use Rattle.script.specs.Turns.{writeTurn}
+use Rattle.script.proofs.following.write_turn.Statement.{statement}
+use Rattle.script.proofs.following.write_turn.Tie as tie
+
+stop-requires : tie.Need-stop-requires
+stop-requires c κs = search needs
+
+same-length : tie.Need-same-length
+same-length c = search needs
+
+returns : tie.Need-returns
+unfolding writeTurn
+returns c =
+    rw (lt-leb _ 1003 (c .before .before .before .before .if1 .taken))
+    (record { told = c .before .before .stop .ensures; page-is = refl })
+
+decode-requires : tie.Need-decode-requires
+decode-requires c κs = search needs
+
+stop-requires-2 : tie.Need-stop-requires-2
+stop-requires-2 c κs = search needs
+
+same-length-2 : tie.Need-same-length-2
+same-length-2 c = search needs
+
+same-length-3 : tie.Need-same-length-3
+same-length-3 c = search needs
+
+returns-2 : tie.Need-returns-2
+unfolding writeTurn
+returns-2 c =
+    let i = c .before .before .before .before in
+    let e = sym (i .before .before .before .decode .ensures .0) ∙ not-true _ (i .if2 .taken) in
+    rw (le-leb _ 1003 (i .before .before .before .before .before .if1 .left), e)
+    (record { told = c .before .before .stop2 .ensures; page-is = refl })
+
+sub-write-row : tie.Need-sub-write-row
+sub-write-row c = search needs
+
+write-row-requires : tie.Need-write-row-requires
+write-row-requires c κs = search needs
+
+same-length-4 : tie.Need-same-length-4
+same-length-4 c = search needs
+
+same-length-5 : tie.Need-same-length-5
+same-length-5 c = search needs
+
+same-length-6 : tie.Need-same-length-6
+same-length-6 c = search needs
+
+returns-3 : tie.Need-returns-3
+unfolding writeTurn
+returns-3 c =
+    let i = c .before .before .before .before .before .before .before .before in
+    let d = i .before .before .before .decode .ensures in
+    let g = sym (d .0) ∙ not-false _ (i .if2 .left) in
+    let w = c .before .before .before .before .write-row .ensures in
+    rw (le-leb _ 1003 (i .before .before .before .before .before .if1 .left), g, ← data-decoded _ _ g, ← d .1)
+    (record { told = record { text-is = w .0; values-are = refl; on-is = refl }; page-is = w .1 })
+
+pub write-turn-spec : {M : Type 1} → statement M
+write-turn-spec =
+    tie.close
+    (tie.spec
+    stop-requires
+    same-length
+    returns
+    decode-requires
+    stop-requires-2
+    same-length-2
+    same-length-3
+    returns-2
+    sub-write-row
+    write-row-requires
+    same-length-4
+    same-length-5
+    same-length-6
+    returns-3)

@@ -1,0 +1,107 @@
+// What a whole line does: the values, whether the run goes on, and what is printed, at the end of the buffer.
+use crate::Turn;
+use crate::recording;
+use page::Completion;
+use page::answers;
+use page::shape;
+use text::Form;
+use text::Values;
+use text::decoding;
+use text::parsing;
+use text::printing;
+ghost use mathlib.Core.Path.{_≡_};
+ghost use mathlib.Core.List.{[]};
+ghost use Prim.Native.Nat.{_<_};
+ghost use lib.ListN.{length};
+ghost use Rattle.script.specs.Turns.{atLine, Told, ToldPage, halt, namesTurn, valuesTurn, dataTurn, writeTurn};
+
+// A fault: the run stops.
+pub fn stop(v: Values, refusal: u64, number: u64, buffer: &mut [u8]) -> Turn
+    requires { ⌜ 96 ≡ length (now buffer) ⌝ }
+    ensures { λ r. ⌜ Told (halt refusal (atLine number v [])) r (now (buffer .exit)) ⌝ }
+{
+    let at = printing::put_fault(buffer, refusal, number);
+    Turn {
+        values: v,
+        at,
+        on: false,
+    }
+}
+
+// Line 1.
+pub fn names_turn(v: Values, line: &[u8], buffer: &mut [u8]) -> Turn
+    requires { ⌜ 96 ≡ length (now buffer) ⌝ }
+    ensures { λ r. ⌜ Told (namesTurn (atLine 1 v []) (now (line .entry))) r (now (buffer .exit)) ⌝ }
+{
+    if !parsing::is_names(line) {
+        return stop(v, 6, 1, buffer);
+    }
+    Turn {
+        values: v,
+        at: 96,
+        on: true,
+    }
+}
+
+// Line 2.
+pub fn values_turn(v: Values, line: &[u8], buffer: &mut [u8]) -> Turn
+    requires { ⌜ 96 ≡ length (now buffer) ⌝ }
+    ensures { λ r. ⌜ Told (valuesTurn (atLine 2 v []) (now (line .entry))) r (now (buffer .exit)) ⌝ }
+{
+    let form = parsing::values_of(line);
+    let Form::Given(w) = form else {
+        return stop(v, 6, 2, buffer);
+    };
+    let judged = shape::judge_sizes(w.code, w.bytes, w.strips);
+    match judged {
+        Completion::Done => Turn {
+            values: w,
+            at: 96,
+            on: true,
+        },
+        Completion::Refused(r) => stop(v, answers::refusal_number(r) as u64, 2, buffer),
+    }
+}
+
+// Line 3.
+pub fn data_turn(v: Values, line: &[u8], buffer: &mut [u8]) -> Turn
+    requires { ⌜ 96 ≡ length (now buffer) ⌝ }
+    ensures { λ r. ⌜ Told (dataTurn (atLine 3 v []) (now (line .entry))) r (now (buffer .exit)) ⌝ }
+{
+    if !parsing::is_data(line) {
+        return stop(v, 6, 3, buffer);
+    }
+    let at = printing::put_head(buffer);
+    Turn {
+        values: v,
+        at,
+        on: true,
+    }
+}
+
+// A data line, from line 4 on; the data are as long as a write's.
+pub fn write_turn(
+    number: u64,
+    v: Values,
+    line: &[u8],
+    page: &mut [u8],
+    data: &mut [u8],
+    buffer: &mut [u8],
+) -> Turn
+    requires { ⌜ (96 ≡ length (now buffer)) × (3 < number) ⌝ }
+    ensures { λ r. ⌜ ToldPage (writeTurn (length (now («data» .entry))) (atLine number v (now (page .entry))) (now (line .entry)))
+        r (now (buffer .exit)) (now (page .exit)) ⌝ }
+{
+    if number > 1003 {
+        return stop(v, 6, number, buffer);
+    }
+    if !decoding::decode(line, data) {
+        return stop(v, 6, number, buffer);
+    }
+    let at = recording::write_row(number - 3, v, page, data, buffer);
+    Turn {
+        values: v,
+        at,
+        on: true,
+    }
+}
