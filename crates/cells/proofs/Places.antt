@@ -10,6 +10,7 @@
 --   half-power       halving drops bit 0
 --   store-more       what a loop that stores place by place has stored
 --   same?            two numbers are the same, or not
+--   each-first       what holds of every element holds of the first, and of the rest (each-rest)
 use mathlib.Core.Path.{_≡_, refl, sym, _∙_, ap, ap₂}
 use mathlib.Core.List.{List, _∷_}
 use mathlib.Core.Logic.{_⊎_, inl, inr, ⊎-elim}
@@ -20,7 +21,7 @@ use lib.Pow.{pow-mono, shl-exact}
 use lib.ListN.{length, getD, set}
 use lib.Seq.{ext-getD, getD-set-same, getD-set-other}
 use borrow.Author.Count.{below-more}
-use Rattle.cells.specs.Places.{listOf, sumOf, number}
+use Rattle.cells.specs.Places.{listOf, sumOf, number, Each, and-each}
 
 module _ {A : Type 0} where
   -- n places
@@ -170,3 +171,11 @@ same? zero zero = inl refl
 same? zero (suc b) = inr (λ e. omega arith)
 same? (suc a) zero = inr (λ e. omega arith)
 same? (suc a) (suc b) = ⊎-elim (λ e. inl (ap suc e)) (λ n. inr (λ e. n (omega arith))) (same? a b)
+
+-- EACH. What holds of every element holds of the first
+pub each-first : {G : Type 0} {P : G → Type 0} {g : G} {gs : List G} → Each P (g ∷ gs) → P g
+each-first (and-each p ps) = p
+
+-- and of every other
+pub each-rest : {G : Type 0} {P : G → Type 0} {g : G} {gs : List G} → Each P (g ∷ gs) → Each P gs
+each-rest (and-each p ps) = ps

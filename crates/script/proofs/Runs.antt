@@ -4,7 +4,8 @@
 use mathlib.Core.Path.{_≡_, refl, _∙_, ap₂}
 use mathlib.Core.List.{List, [], _∷_, _++_}
 use Prim.Native.Nat.{ℕ}
-use Rattle.cells.specs.Places.{sumOf}
+use Rattle.cells.specs.Places.{sumOf, Each}
+use Rattle.cells.proofs.Places.{each-first, each-rest}
 use Rattle.cells.specs.Bytes.{bitOf}
 use Rattle.cells.specs.Levels.{level, raisesOf}
 use Rattle.page.specs.Shape.{oneTo64}
@@ -30,18 +31,22 @@ six last = 0 ∷ 0 ∷ 0 ∷ 0 ∷ 0 ∷ last ∷ []
 says : List ℕ → List ℕ → ℕ → List ℕ → Type 0
 says before content cost after = (answerBy v before content ≡ A.Done cost) × (pageBy v before content ≡ after)
 
+-- the rows of a table from row 5 on
+from-5 : {G : Type 0} {P : G → Type 0} {a b c d e : G} {gs : List G} → Each P (a ∷ b ∷ c ∷ d ∷ e ∷ gs) → Each P gs
+from-5 t = each-rest (each-rest (each-rest (each-rest (each-rest t))))
+
 -- the three writes, which the paper's table has as rows 5 to 7
 first : says (six 0) (128 ∷ []) 16 (six 32)
 unfolding says six v
-first = cases-hold .1 .1 .1 .1 .1 .0
+first = each-first (from-5 cases-hold)
 
 second : says (six 32) (0 ∷ []) 16 (six 36)
 unfolding says six v
-second = cases-hold .1 .1 .1 .1 .1 .1 .0
+second = each-first (each-rest (from-5 cases-hold))
 
 third : says (six 36) (128 ∷ []) 20 (six 100)
 unfolding says six v
-third = cases-hold .1 .1 .1 .1 .1 .1 .1 .0
+third = each-first (each-rest (each-rest (from-5 cases-hold)))
 
 -- the row of a write that says this
 row-of : (n : ℕ) (before content : List ℕ) (cost : ℕ) (after : List ℕ) → says before content cost after

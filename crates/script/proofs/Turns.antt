@@ -18,9 +18,10 @@ use Rattle.search.specs.Best.{Solution}
 use Rattle.page.specs.declared.Refusal.{Refusal}
 use Rattle.page.specs.declared.Completion.{Completion}
 use Rattle.page.specs.declared.Completion.the-variants.{Done, Refused}
-use Rattle.page.specs.Refusals.{sizesGround, pageGround, dataGround, ground, numbered, refusalNumber}
-use Rattle.page.specs.Computed.{pageWrite, spentStrip}
-use Rattle.page.specs.Answers.{completionOf, callAnswer, answerOf, numberOf}
+use Rattle.page.specs.Refusals.{sizesGround, pageGround, dataGround, ground, refusalNumber}
+use Rattle.codes.proofs.Layouts.{oneBit-bytes}
+use Rattle.demand.specs.Computed.{pageWrite, spentStrip}
+use Rattle.page.specs.Answers.{completionOf, callAnswer, answerIn, jobOf, answerOf, numberOf}
 use Rattle.page.proofs.Refusals.{done-none, refused-some}
 use Rattle.text.specs.declared.Values.{Values}
 use Rattle.text.specs.declared.Form.{Form}
@@ -75,7 +76,7 @@ unfolding ground pageGround dataGround
 write-in-order v page content e p c =
     let s = size-given v e in
     let ep : page ≡ 6 * v .bytes * v .strips = p ∙ rw (s, mul-assoc) in
-    rw (e, eq-eqb page (6 * v .bytes * v .strips) ep, eq-eqb content (v .bytes * v .strips) (c ∙ s))
+    rw (e, oneBit-bytes (v .bytes), eq-eqb page (6 * v .bytes * v .strips) ep, eq-eqb content (v .bytes * v .strips) (c ∙ s))
 
 -- an answer without a ground is 0 or 7
 zero-or-seven : (w : Option Solution) (k : ℕ) → (numberOf (callAnswer none w k) ≡ 0) ⊎ (numberOf (callAnswer none w k) ≡ 7)
@@ -86,11 +87,11 @@ zero-or-seven none k = inr refl
 pub answers-0-or-7 : (p : Progress) (line text page content : List ℕ) (v : Values) → valuesTurn p line ≡ goes p [] v (p .page)
     → length page ≡ 6 * sizeOf v → contentOf (sizeOf v) text ≡ some content
     → (numberOf (answerBy v page content) ≡ 0) ⊎ (numberOf (answerBy v page content) ≡ 7)
-unfolding answerOf valuesTurn
+unfolding answerOf answerIn valuesTurn
 answers-0-or-7 p line text page content v e h t =
     rw (write-in-order v (length page) (length content) (form-goes p v (valuesOf line) e) h (text-of-data (sizeOf v) text content t .1))
-    (zero-or-seven (pageWrite (numbered (v .code)) house (v .bytes) (v .strips) page content)
-    (spentStrip (numbered (v .code)) house (v .bytes) (v .strips) page content))
+    (zero-or-seven (pageWrite (jobOf house (v .code) (v .bytes) (v .strips) page content))
+    (spentStrip (jobOf house (v .code) (v .bytes) (v .strips) page content)))
 
 -- the text of values has at most 17 bytes
 short-values : (v : Values) → v .code < 100000 → v .bytes < 100000 → v .strips < 100000 → length (valuesText v) ≤ 17
