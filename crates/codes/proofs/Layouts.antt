@@ -20,7 +20,7 @@ use Rattle.codes.proofs.Reading.{sumBit-bound, sumBit-same}
 
 module _ (lay : Layout) (v w : ℕ → ℕ) (s : ℕ) (same : (c : ℕ) → c < lay .cells * s → v c ≡ w c) where
   -- a code bit by the levels of a strip's cells depends on the cells of its stage
-  pub codeBit-same : (j t : ℕ) → t < s → codeBit lay v j t ≡ codeBit lay w j t
+  codeBit-same : (j t : ℕ) → t < s → codeBit lay v j t ≡ codeBit lay w j t
   unfolding codeBit
   codeBit-same j t h =
       ap (λ (l : List ℕ). getD (lay .shows l) j 0)
@@ -37,12 +37,12 @@ unfolding dataBit
 dataBit-bound lay G v n = sumBit-bound _ _ _ _ _ _
 
 -- ONE BIT A CELL. The first code bit of a stage is that of its first cell
-pub oneBit-first : (v : ℕ → ℕ) (t : ℕ) → codeBit oneBit v 0 t ≡ firstBit v t
+oneBit-first : (v : ℕ → ℕ) (t : ℕ) → codeBit oneBit v 0 t ≡ firstBit v t
 unfolding codeBit firstBit listOf
 oneBit-first v t = ap (λ (c : ℕ). v c % 2) (omega arith)
 
 -- the second that of its second
-pub oneBit-second : (v : ℕ → ℕ) (t : ℕ) → codeBit oneBit v 1 t ≡ secondBit v t
+oneBit-second : (v : ℕ → ℕ) (t : ℕ) → codeBit oneBit v 1 t ≡ secondBit v t
 unfolding codeBit secondBit listOf
 oneBit-second v t = ap (λ (c : ℕ). v c % 2) (omega arith)
 

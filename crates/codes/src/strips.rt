@@ -52,7 +52,7 @@ fn read_byte(g1: u32, g2: u32, strip: &[u8], q: usize, windows: Windows) -> Byte
 
 impl Code {
     // Reads a strip: a byte of data for each eight stages.
-    pub fn read(self, strip: &[u8], data: &mut [u8])
+    pub fn read_strip(self, strip: &[u8], data: &mut [u8])
         requires { ⌜ length (now «data») ≤ 64 ⌝ }
         ensures { λ _. ⌜ now («data» .exit) ≡ readStrip oneBit (generatorsOf self) (length (now («data» .entry))) (now (strip .entry)) ⌝ }
     {

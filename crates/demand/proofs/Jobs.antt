@@ -40,7 +40,7 @@ unfolding part
 part-data L k content t h = part-bit (L * k) L content t h ∙ ap (bitOf content) (omega arith)
 
 -- place i of part k
-pub part-at : (n k : ℕ) (x : List ℕ) (i : ℕ) → i < n → getD (part n k x) i 0 ≡ getD x (n * k + i) 0
+part-at : (n k : ℕ) (x : List ℕ) (i : ℕ) → i < n → getD (part n k x) i 0 ≡ getD x (n * k + i) 0
 unfolding part
 part-at n k x i h = rw (getD-take n (drop (n * k) x) i 0 h, getD-drop (n * k) x i 0)
 

@@ -31,7 +31,7 @@ cells-same lay G L F v w t h e =
 
 module _ (lay : Layout) (G : Generators) (L S : ℕ) (page : List ℕ) where
   -- bit t of strip j of what a page reads as is the strip's data bit t
-  pub readBy-bit : (j : ℕ) → j < S → (t : ℕ) → t < 8 * L
+  readBy-bit : (j : ℕ) → j < S → (t : ℕ) → t < 8 * L
       → bitOf (readBy lay G L S page) (8 * L * j + t) ≡ dataBit lay G (stripLevels (cellsIn lay L) page j) t
   unfolding readBy
   readBy-bit j h t l =
@@ -58,7 +58,7 @@ module _ (lay : Layout) (G : Generators) (L S : ℕ) (page : List ℕ) where
     reads-only e j h t l = sym (readBy-bit j h t l) ∙ ap (λ (x : List ℕ). bitOf x (8 * L * j + t)) e
 
   -- STRIP BY STRIP. A page reads as L·S bytes
-  pub readBy-length : length (readBy lay G L S page) ≡ L * S
+  readBy-length : length (readBy lay G L S page) ≡ L * S
   unfolding readBy
   readBy-length = length-bytesOf (L * S) _
 

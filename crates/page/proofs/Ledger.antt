@@ -32,7 +32,7 @@ zeros-at (suc n) zero = refl
 zeros-at (suc n) (suc i) = zeros-at n i
 
 -- so the levels are
-pub erased-level : (n c : ℕ) → level (replicate n 0) c ≡ 0
+erased-level : (n c : ℕ) → level (replicate n 0) c ≡ 0
 unfolding level bitOf
 erased-level n c = omega (arith, bit (3 * c), bit (3 * c + 1), bit (3 * c + 2))
   where
@@ -40,7 +40,7 @@ erased-level n c = omega (arith, bit (3 * c), bit (3 * c + 1), bit (3 * c + 2))
     bit k = ap (λ (x : ℕ). (x / 2 ^ (k % 8)) % 2) (zeros-at n (k / 8)) ∙ ap (λ (x : ℕ). x % 2) (zero-div (2 ^ (k % 8)))
 
 -- and their sum
-pub erased-raises : (n m : ℕ) → raisesOf m (replicate n 0) ≡ 0
+erased-raises : (n m : ℕ) → raisesOf m (replicate n 0) ≡ 0
 unfolding raisesOf
 erased-raises n m = sumOf-zero m _ (λ c h. erased-level n c)
 

@@ -199,8 +199,8 @@ rest-more w k x y before h l e =
     (drop-drop w (w * k) before)
 
 -- at first
-pub carried-none : {G : Generators} {L S : ℕ} {before content digits : List ℕ} → CarriedUpTo G L S before content digits before 0
-carried-none = record { size = refl; so-far = λ j h. absurd (not-suc-le-zero h); rest = refl }
+pub carried-nothing : {G : Generators} {L S : ℕ} {before content digits : List ℕ} → CarriedUpTo G L S before content digits before 0
+carried-nothing = record { size = refl; so-far = λ j h. absurd (not-suc-le-zero h); rest = refl }
 
 -- with one more strip, where b is the bytes of a strip
 pub carried-more : {G : Generators} {L S b : ℕ} {before content digits page ys : List ℕ} {k : ℕ}

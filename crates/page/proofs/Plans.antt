@@ -28,7 +28,7 @@ use Rattle.trellis.specs.Forward.{carriedTo}
 use Rattle.trellis.specs.Plans.{writeOf}
 use Rattle.trellis.proofs.Prices.{Suits}
 use Rattle.trellis.proofs.Program.{suits-sound}
-use Rattle.trellis.proofs.Plans.{write-near, write-below}
+use Rattle.trellis.proofs.Plans.{strip-near, write-below}
 use Rattle.demand.specs.Jobs.{part}
 use Rattle.demand.specs.Computed.{stripBytes, stripWrite, pageWrite}
 use Rattle.demand.proofs.Jobs.{part-length, part-level, part-raised, parts-same}
@@ -119,5 +119,5 @@ module _ (G : Generators) (W : List ℕ) (K : Suits G W) (D : Dear (stepsOf W)) 
             arith,
             own-level a e k h i l,
             part-level n (bytesIn oneBit L) (oneBit-whole L .cells-fill) k before i l,
-            write-near G W K D L most (stripAt L k before) (part L k content) (own a e k h .own) (own a e k h .is) i l,
+            strip-near G W K D L most (stripAt L k before) (part L k content) (own a e k h .own) (own a e k h .is) i l,
           )

@@ -53,7 +53,7 @@ pub oneBit-whole : (L : ℕ) → Whole oneBit L
 oneBit-whole L = record { cells-fill = omega (arith, oneBit-cells L, oneBit-bytes L); stages-fill = omega (arith, oneBit-stages L) }
 
 -- both codes lead with 1, and reach back no more than six stages
-pub numbered-proper : (code : ℕ) → Proper (numbered code) × (numbered code .memory ≤ 6)
+numbered-proper : (code : ℕ) → Proper (numbered code) × (numbered code .memory ≤ 6)
 unfolding numbered
 numbered-proper code = go (eqb code 3)
   where

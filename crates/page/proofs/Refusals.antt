@@ -30,7 +30,7 @@ no-ground true r e = refl
 no-ground false r e = let z : _≡_ {A = ℕ} 0 1 = cc in absurd (omega arith)
 
 -- L and S where the limits are kept
-pub limits-in-order : (L S : ℕ) → limitsGround L S ≡ none → (oneTo64 L ≡ true) × (oneTo64 S ≡ true)
+limits-in-order : (L S : ℕ) → limitsGround L S ≡ none → (oneTo64 L ≡ true) × (oneTo64 S ≡ true)
 unfolding limitsGround bytesGround stripsGround
 limits-in-order L S e =
     let p = neither (bytesGround L) (stripsGround S) e in

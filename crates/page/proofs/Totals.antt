@@ -55,7 +55,7 @@ module _ (w : ℕ → Option Solution) where
   pub Bounded : (ℕ → ℕ) → ℕ → Type 0
   Bounded g n = (j : ℕ) → j < n → (a : Solution) → w (g j) ≡ some a → a .cost < closed
 
-  pub total-answers : (n : ℕ) (g : ℕ → ℕ) (t : Total) → Room t n → Bounded g n → answerFor (totalFrom t (λ j. solutionOutcome (w (g j))) n)
+  total-answers : (n : ℕ) (g : ℕ → ℕ) (t : Total) → Room t n → Bounded g n → answerFor (totalFrom t (λ j. solutionOutcome (w (g j))) n)
       ≡ answersAfter t (all w (listOf n g)) (first-none w (listOf n g))
   unfolding totalFrom all first-none listOf joined solutionOutcome Bounded
   total-answers zero g t r b =

@@ -19,7 +19,7 @@ fn read_strips(code: Code, bytes: usize, strips: usize, page: &[u8], data: &mut 
     let mut k: usize = 0;
     while k < strips {
         let a = bytes * k;
-        code.read(shape::strip(page, bytes, k), &mut data[a..a + bytes]);
+        code.read_strip(shape::strip(page, bytes, k), &mut data[a..a + bytes]);
         k += 1;
     }
 }

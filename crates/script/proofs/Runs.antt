@@ -1,5 +1,5 @@
 -- The run of the paper's example, and the runs of faulty inputs.
---   example-holds    THE EXAMPLE prints exactly what the paper says
+--   example-holds    THE EXAMPLE prints exactly what the paper writes
 --   faults-hold      FAULTS and what they print
 use mathlib.Core.Path.{_≡_, refl, _∙_, ap₂}
 use mathlib.Core.List.{List, [], _∷_, _++_}
@@ -28,30 +28,30 @@ six : ℕ → List ℕ
 six last = 0 ∷ 0 ∷ 0 ∷ 0 ∷ 0 ∷ last ∷ []
 
 -- a write with the example's values
-says : List ℕ → List ℕ → ℕ → List ℕ → Type 0
-says before content cost after = (answerBy v before content ≡ A.Done cost) × (pageBy v before content ≡ after)
+writes : List ℕ → List ℕ → ℕ → List ℕ → Type 0
+writes before content cost after = (answerBy v before content ≡ A.Done cost) × (pageBy v before content ≡ after)
 
 -- the rows of a table from row 5 on
 from-5 : {G : Type 0} {P : G → Type 0} {a b c d e : G} {gs : List G} → Each P (a ∷ b ∷ c ∷ d ∷ e ∷ gs) → Each P gs
 from-5 t = each-rest (each-rest (each-rest (each-rest (each-rest t))))
 
 -- the three writes, which the paper's table has as rows 5 to 7
-first : says (six 0) (128 ∷ []) 16 (six 32)
-unfolding says six v
+first : writes (six 0) (128 ∷ []) 16 (six 32)
+unfolding writes six v
 first = each-first (from-5 cases-hold)
 
-second : says (six 32) (0 ∷ []) 16 (six 36)
-unfolding says six v
+second : writes (six 32) (0 ∷ []) 16 (six 36)
+unfolding writes six v
 second = each-first (each-rest (from-5 cases-hold))
 
-third : says (six 36) (128 ∷ []) 20 (six 100)
-unfolding says six v
+third : writes (six 36) (128 ∷ []) 20 (six 100)
+unfolding writes six v
 third = each-first (each-rest (each-rest (from-5 cases-hold)))
 
--- the row of a write that says this
-row-of : (n : ℕ) (before content : List ℕ) (cost : ℕ) (after : List ℕ) → says before content cost after
+-- the row of a write that writes this
+row-of : (n : ℕ) (before content : List ℕ) (cost : ℕ) (after : List ℕ) → writes before content cost after
     → writeRow n v before content ≡ rowAfter n v (A.Done cost) after
-unfolding writeRow says
+unfolding writeRow writes
 row-of n before content cost after s = ap₂ (rowAfter n v) (s .0) (s .1)
 
 -- the run as its rows, by the pages after the first two writes
@@ -75,7 +75,7 @@ printed = refl
 
 -- THE THEOREM
 pub example-holds : runOf exampleInput ≡ exampleOutput
-unfolding says rows row
+unfolding writes rows row
 example-holds =
     listed
     ∙ rw (first .1, second .1, row-of 1 _ _ _ _ first, row-of 2 _ _ _ _ second, row-of 3 _ _ _ _ third) printed

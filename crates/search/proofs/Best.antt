@@ -14,12 +14,12 @@ use Rattle.search.specs.Best.{LexLe, done, lower, same, NoWorse, cheaper
 use Rattle.search.specs.Trellis.{before, lexltb, beats, better, joined, free}
 
 -- the order
-pub lex-refl : (x : List ℕ) → LexLe x x
+lex-refl : (x : List ℕ) → LexLe x x
 lex-refl [] = done
 lex-refl (x ∷ xs) = same refl (lex-refl xs)
 
 -- the order is transitive
-pub lex-trans : {x y z : List ℕ} → LexLe x y → LexLe y z → LexLe x z
+lex-trans : {x y z : List ℕ} → LexLe x y → LexLe y z → LexLe x z
 lex-trans done q = done
 lex-trans (lower p) (lower q) = lower (lt-trans p q)
 lex-trans (lower {x = a} p) (same e q) = lower (subst (λ (n : ℕ). a < n) e p)
@@ -27,7 +27,7 @@ lex-trans (same d p) (lower {y = c} q) = lower (subst (λ (n : ℕ). n < c) (sym
 lex-trans (same d p) (same e q) = same (d ∙ e) (lex-trans p q)
 
 -- lists of the same length, one after the other
-pub lex-append : {x y v w : List ℕ} → length x ≡ length y → LexLe x y → LexLe v w → LexLe (x ++ v) (y ++ w)
+lex-append : {x y v w : List ℕ} → length x ≡ length y → LexLe x y → LexLe v w → LexLe (x ++ v) (y ++ w)
 lex-append {y = []} l done q = q
 lex-append {y = b ∷ ys} l done q = let z : _≡_ {A = ℕ} 0 (suc (length ys)) = l in absurd (omega arith)
 lex-append l (lower p) q = lower p
@@ -81,7 +81,7 @@ pub no-worse-refl : (c : ℕ) (x : List ℕ) → NoWorse c x c x
 no-worse-refl c x = tied refl (lex-refl x)
 
 -- no worse is transitive
-pub no-worse-trans : {c d e : ℕ} {x y z : List ℕ} → NoWorse c x d y → NoWorse d y e z → NoWorse c x e z
+no-worse-trans : {c d e : ℕ} {x y z : List ℕ} → NoWorse c x d y → NoWorse d y e z → NoWorse c x e z
 no-worse-trans (cheaper p) (cheaper q) = cheaper (omega arith)
 no-worse-trans (cheaper p) (tied q m) = cheaper (omega arith)
 no-worse-trans (tied p l) (cheaper q) = cheaper (omega arith)
@@ -250,7 +250,7 @@ pub some-none : (a : Solution) → some a ≡ none → ⊥
 some-none a e = let z : _≡_ {A = ℕ} 0 1 = cc in omega arith
 
 -- what a solution says, in plain words
-pub lex-lower : {x y : List ℕ} → LexLe x y → length x ≡ length y → (x ≡ y → ⊥) → LexLower x y
+lex-lower : {x y : List ℕ} → LexLe x y → length x ≡ length y → (x ≡ y → ⊥) → LexLower x y
 lex-lower {y = []} done e n = absurd (n refl)
 lex-lower {y = b ∷ ys} done e n = let z : _≡_ {A = ℕ} 0 (suc (length ys)) = e in absurd (omega arith)
 lex-lower (lower p) e n = record { place = 0; agree = λ j h. absurd (not-suc-le-zero h); less = p }
@@ -272,11 +272,6 @@ module _ {A : Problem} where
   pub the-best : {a : Solution} → Solves A (some a) → Best A a
   the-best (just p) = p
 
-  -- where nothing is valid, the answer is none
-  pub none-of : {r : Option Solution} → Solves A r → ((d : ℕ) (y : List ℕ) → A d y → ⊥) → r ≡ none
-  none-of (nothing p) f = refl
-  none-of (just p) f = absurd (f _ _ (p .valid))
-
   -- no valid level list is cheaper than the best
   pub cost-least : {a : Solution} → Best A a → (d : ℕ) (y : List ℕ) → A d y → a .cost ≤ d
   cost-least {a} p d y w = go (p .least d y w)
@@ -295,7 +290,7 @@ module _ {A : Problem} where
       go (tied h m) = lex-lower m (l .width _ _ (p .valid) ∙ sym (l .width _ _ w)) n
 
 -- the best answer is one
-pub lex-antisym : {x y : List ℕ} → LexLe x y → LexLe y x → x ≡ y
+lex-antisym : {x y : List ℕ} → LexLe x y → LexLe y x → x ≡ y
 lex-antisym done done = refl
 lex-antisym (lower p) (lower q) = absurd (lt-irrefl _ (lt-trans p q))
 lex-antisym (lower p) (same e q) = absurd (omega arith)
@@ -303,7 +298,7 @@ lex-antisym (same e p) (lower q) = absurd (omega arith)
 lex-antisym (same e p) (same f q) = ap₂ (λ (a : ℕ) (l : List ℕ). a ∷ l) e (lex-antisym p q)
 
 -- two best answers are the same
-pub best-unique : {A : Problem} {a b : Solution} → Best A a → Best A b → a ≡ b
+best-unique : {A : Problem} {a b : Solution} → Best A a → Best A b → a ≡ b
 best-unique {A} {a} {b} p q = go (p .least _ _ (q .valid)) (q .least _ _ (p .valid))
   where
     go : NoWorse (a .cost) (a .levels) (b .cost) (b .levels) → NoWorse (b .cost) (b .levels) (a .cost) (a .levels) → a ≡ b

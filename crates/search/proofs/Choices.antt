@@ -22,7 +22,7 @@ use Rattle.search.specs.Choices.{least, toLevel, tried, sameWord, choice
 use Rattle.search.proofs.Best.{solves-either, solves-product, solves-iff, best-strict, no-worse-refl}
 
 -- ANY OF SEVERAL: one of the problems A 0 .. A (n − 1)
-record Any (n : ℕ) (A : ℕ → Problem) (c : ℕ) (y : List ℕ) : Type 0 where
+record AnyOf (n : ℕ) (A : ℕ → Problem) (c : ℕ) (y : List ℕ) : Type 0 where
   which : ℕ
   among : which < n
   valid : A which c y
@@ -31,25 +31,25 @@ record Any (n : ℕ) (A : ℕ → Problem) (c : ℕ) (y : List ℕ) : Type 0 whe
 module _ (n : ℕ) (A : ℕ → Problem) where
   either : Bool → Problem
   either true = A n
-  either false = Any n A
+  either false = AnyOf n A
 
-  either-any : (c : ℕ) (y : List ℕ) → Either either c y ↔ Any (suc n) A c y
+  either-any : (c : ℕ) (y : List ℕ) → Either either c y ↔ AnyOf (suc n) A c y
   unfolding either
   either-any c y = (to, λ w. from w (eqb (w .which) n) refl)
     where
-      to : Either either c y → Any (suc n) A c y
+      to : Either either c y → AnyOf (suc n) A c y
       to (digit true w) = record { which = n; among = omega arith; valid = w }
       to (digit false w) = record { which = w .which; among = omega (arith, w .among); valid = w .valid }
 
-      few : (w : Any (suc n) A c y) → (w .which ≡ n → ⊥) → w .which < n
+      few : (w : AnyOf (suc n) A c y) → (w .which ≡ n → ⊥) → w .which < n
       few w h = let k : w .which < suc n = w .among in omega arith
 
-      from : (w : Any (suc n) A c y) (b : Bool) → eqb (w .which) n ≡ b → Either either c y
+      from : (w : AnyOf (suc n) A c y) (b : Bool) → eqb (w .which) n ≡ b → Either either c y
       from w true e = digit true (rw (eqb-true (w .which) n e) at (w .valid))
       from w false e = digit false (record { which = w .which; among = few w (eqb-false (w .which) n e); valid = w .valid })
 
 -- the best of several
-least-solves : (n : ℕ) (A : ℕ → Problem) (f : ℕ → Option Solution) → ((i : ℕ) → Solves (A i) (f i)) → Solves (Any n A) (least n f)
+least-solves : (n : ℕ) (A : ℕ → Problem) (f : ℕ → Option Solution) → ((i : ℕ) → Solves (A i) (f i)) → Solves (AnyOf n A) (least n f)
 unfolding least either
 least-solves zero A f s = nothing (λ d y w. not-suc-le-zero (w .among))
 least-solves (suc n) A f s = solves-iff (either-any n A) (solves-either (either n A) (least-solves n A f s) (s n))
@@ -91,7 +91,7 @@ module _ (S : Steps) where
   Split ok x xs to = Product (At S x to) (Allowed S (λ y. ok (to ∷ y)) xs)
 
   split-allowed : (ok : List ℕ → Bool) (x : Cell) (xs : List Cell) (c : ℕ) (y : List ℕ)
-      → Any (suc (S .top)) (Split ok x xs) c y ↔ Allowed S ok (x ∷ xs) c y
+      → AnyOf (suc (S .top)) (Split ok x xs) c y ↔ Allowed S ok (x ∷ xs) c y
   unfolding Split
   split-allowed ok x xs c y = (λ w. to (w .which) (w .among) (w .valid), λ w. from (w .raised) (w .passes))
     where
@@ -104,7 +104,7 @@ module _ (S : Steps) where
             passes = q .valid₂ .passes;
           })
 
-      from : {c : ℕ} {y : List ℕ} → Raised S (x ∷ xs) c y → ok y ≡ true → Any (suc (S .top)) (Split ok x xs) c y
+      from : {c : ℕ} {y : List ℕ} → Raised S (x ∷ xs) c y → ok y ≡ true → AnyOf (suc (S .top)) (Split ok x xs) c y
       from (rise {to = v} {k = k} {new = new} p r e) f = record {
         which = v;
         among = omega (arith, p .high);

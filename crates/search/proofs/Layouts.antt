@@ -49,7 +49,7 @@ stage-levels k n y e t h =
     ∙ listOf-same k _ _ (λ i l. getD-take k (drop (k * t) y) i 0 l ∙ getD-drop (k * t) y i 0))
 
 -- bit j of the word of stage t
-pub words-code : (lay : Layout) (n : ℕ) (y : List ℕ) → length y ≡ lay .cells * n → (j t : ℕ) → t < n
+words-code : (lay : Layout) (n : ℕ) (y : List ℕ) → length y ≡ lay .cells * n → (j t : ℕ) → t < n
     → column j (words (meaningOf lay) n y) t ≡ odd (codeBit lay (levelAt y) j t)
 unfolding column meaningOf codeBit odd
 words-code lay n y e j t h =
@@ -130,7 +130,7 @@ map-odd : (y : List ℕ) → map odd (map (λ l. l % 2) y) ≡ map odd y
 map-odd [] = refl
 map-odd (l ∷ y) = rw (odd-mod-two l, map-odd y)
 
-pub oneBit-parity : meaningOf oneBit ≡ parity 2
+oneBit-parity : meaningOf oneBit ≡ parity 2
 unfolding meaningOf
 oneBit-parity = λ i. record { cells = 2; means = λ y. map-odd y i }
 

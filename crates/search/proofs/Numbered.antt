@@ -27,7 +27,7 @@ module _ {G S R : Type 0} (branch₁ : G → S → Bool → Option Solution) (ne
     (same-branch : (g : G) (s : S) (u : Bool) → branch₂ g (φ s) u ≡ branch₁ g s u)
     (same-next : (g : G) (s : S) (u : Bool) → next₂ g (φ s) u ≡ φ (next₁ g s u)) where
   -- the best
-  pub best-same : (gs : List G) (s : S) → best branch₂ next₂ gs (φ s) ≡ best branch₁ next₁ gs s
+  best-same : (gs : List G) (s : S) → best branch₂ next₂ gs (φ s) ≡ best branch₁ next₁ gs s
   unfolding best
   best-same [] s = refl
   best-same (g ∷ gs) s = ap₂ better (arm (best-same gs) false) (arm (best-same gs) true)
@@ -56,14 +56,14 @@ unfolding value
 window-value s u = omega arith
 
 -- a branch by the state's number
-pub branch-value : (E : Encoder) (choose : Choice) (g : Stage) (s : List Bool) (u : Bool)
+branch-value : (E : Encoder) (choose : Choice) (g : Stage) (s : List Bool) (u : Bool)
     → branchN E choose g (value s) u ≡ branch E choose g s u
 unfolding branchN branch
 branch-value E choose g s u =
     ap (choose (g .cells)) (ap (λ (w : ℕ). wantedN E w (g .adds)) (window-value s u) ∙ wanted-value E (u ∷ s) (g .adds))
 
 -- the next state's number
-pub next-value : (E : Encoder) (g : Stage) (s : List Bool) (u : Bool) → nextN E g (value s) u ≡ value (next E g s u)
+next-value : (E : Encoder) (g : Stage) (s : List Bool) (u : Bool) → nextN E g (value s) u ≡ value (next E g s u)
 unfolding nextN next push
 next-value E g s u = ap (λ (w : ℕ). w % 2 ^ E .memory) (window-value s u) ∙ sym (value-take (E .memory) (u ∷ s))
 

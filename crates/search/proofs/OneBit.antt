@@ -50,7 +50,7 @@ free-after (some b) = ap some (omega arith)
 
 module _ (m : ℕ) (G : Generators) (K : Both G) where
   -- the word that a window wants at a stage with the label x
-  pub oneBit-wants : (w : ℕ) (x : Bool) → wantedN (withMemory m (encoderOf G)) w (x ∷ []) ≡ firstOf G w ∷ (secondOf G w +₂ x) ∷ []
+  oneBit-wants : (w : ℕ) (x : Bool) → wantedN (withMemory m (encoderOf G)) w (x ∷ []) ≡ firstOf G w ∷ (secondOf G w +₂ x) ∷ []
   unfolding wantedN sumsN encoderOf
   oneBit-wants w x = rw (K .two, first-digits G (K .g1-leads), ← taps-value (G .memory) (G .g1), ← taps-value (G .memory) (g2 G))
 
@@ -62,7 +62,7 @@ module _ (m : ℕ) (G : Generators) (K : Both G) where
 
   module _ (S : Steps) where
     -- a branch by the choices of its two cells
-    pub branch-cells : (x y : Cell) (a : Bool) (s : ℕ) (u : Bool)
+    branch-cells : (x y : Cell) (a : Bool) (s : ℕ) (u : Bool)
         → branchN (withMemory m (encoderOf G)) (parity-choice S) (record { adds = a ∷ []; cells = x ∷ y ∷ [] }) s u
         ≡ joined (keep-or-raise S x (firstOf G (2 * s + one-if u)))
         (joined (keep-or-raise S y (secondOf G (2 * s + one-if u) +₂ a)) (some free))

@@ -27,14 +27,14 @@ use Rattle.search.proofs.Strip.{raised-length}
 use Rattle.search.proofs.Windows.{mod-odd}
 
 -- bits
-pub beq-true : (a b : Bool) → Bool·beq a b ≡ true → a ≡ b
+beq-true : (a b : Bool) → Bool·beq a b ≡ true → a ≡ b
 beq-true true true e = refl
 beq-true true false e = sym e
 beq-true false true e = e
 beq-true false false e = refl
 
 -- a bit that is not b is b's opposite
-pub beq-false : (a b : Bool) → Bool·beq a b ≡ false → not a ≡ b
+beq-false : (a b : Bool) → Bool·beq a b ≡ false → not a ≡ b
 beq-false true true e = sym e
 beq-false true false e = refl
 beq-false false true e = refl
@@ -97,7 +97,7 @@ module _ (S : Steps) (D : Dear S) (x : Cell) (b : Bool) where
       other o q = not-self (odd from) b (beq-false (odd from) b e) (ap odd q ∙ o .bit)
 
   -- the cell's choice settles the cell
-  pub keep-or-raise-law : Settles (One S x b) (keep-or-raise S x b)
+  keep-or-raise-law : Settles (One S x b) (keep-or-raise S x b)
   unfolding keep-or-raise
   keep-or-raise-law = go (ltb (S .top) (x .level)) (Bool·beq (odd (x .level)) b) (x .mark) (ltb (x .level) (S .top)) refl refl refl refl
     where
@@ -142,7 +142,7 @@ module _ (S : Steps) (n : ℕ) (x : Cell) (xs : List Cell) (b : Bool) (w : List 
 
 module _ (S : Steps) (D : Dear S) (n : ℕ) where
   -- the stage's choice settles the stage
-  pub parity-settles : (xs : List Cell) (w : List Bool) → Settles (Group S (parity n) xs w) (parity-choice S xs w)
+  parity-settles : (xs : List Cell) (w : List Bool) → Settles (Group S (parity n) xs w) (parity-choice S xs w)
   unfolding parity-choice
   parity-settles [] [] = settles-iff (λ c y. (to c y, λ g. from (g .raised))) settles-empty
     where

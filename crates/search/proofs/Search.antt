@@ -169,12 +169,12 @@ module _ (E : Encoder) (H : InMemory E) (d : ℕ → Bits) where
       Ok g = (length (g .cells) ≡ M .cells) × (length (g .adds) ≡ length (E .others))
 
       -- a branch is the best of what its digit admits
-      pub branch-law : (g : Stage) → Ok g → (s : List Bool) (u : Bool) → Solves (admit E S M g s u) (branch E choose g s u)
+      branch-law : (g : Stage) → Ok g → (s : List Bool) (u : Bool) → Solves (admit E S M g s u) (branch E choose g s u)
       unfolding Ok admit branch wanted
       branch-law g o s u = K .solves (g .cells) _ (o .0) (ap suc (length-sums (u ∷ s) (E .others) (g .adds) (o .1)))
 
       -- the stages of a strip are such
-      pub stages-ok : {n : ℕ} {old : List Cell} → Full (M .cells) n old → (t : ℕ) → Each Ok (stages E d (M .cells) t n old)
+      stages-ok : {n : ℕ} {old : List Cell} → Full (M .cells) n old → (t : ℕ) → Each Ok (stages E d (M .cells) t n old)
       unfolding Ok stages
       stages-ok done t = no-more
       stages-ok (more e f) t = and-each (e, length-labels (E .memory) (E .first) (length (E .others)) d t) (stages-ok f (suc t))

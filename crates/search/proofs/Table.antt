@@ -27,7 +27,7 @@ look-grow z (suc m) f (true ∷ s) l = look-grow z m (λ s. f (true ∷ s)) s (o
 -- the table of a trellis whose states stay m bits long
 module _ {G : Type 0} (m : ℕ) (branch : G → List Bool → Bool → Option Solution) (next : G → List Bool → Bool → List Bool)
     (stays : (g : G) (s : List Bool) (u : Bool) → length s ≡ m → length (next g s u) ≡ m) where
-  pub table-best : (gs : List G) (s : List Bool) → length s ≡ m → look none (table m branch next gs) s ≡ best branch next gs s
+  table-best : (gs : List G) (s : List Bool) → length s ≡ m → look none (table m branch next gs) s ≡ best branch next gs s
   unfolding table step best
   table-best [] s l = look-grow none m (λ s. some free) s l
   table-best (g ∷ gs) s l =

@@ -7,7 +7,7 @@ use Prim.Native.Nat.{ℕ, suc, _+_}
 use lib.ListN.{length}
 use Rattle.cells.specs.Places.{Each, no-more, and-each}
 use Rattle.search.specs.Best.{Problem, Solution, Solves, nothing, just, Width, All, FirstClosed, here, later}
-use Rattle.search.specs.Trellis.{joined, free, best, Valid, all, first-none, total}
+use Rattle.search.specs.Trellis.{joined, free, best, Valid, all, first-none}
 use Rattle.search.proofs.Best.{solves-empty, solves-either, solves-product, width-empty, width-either, width-product, some-none}
 
 -- THE TRELLIS: best solves it
@@ -21,13 +21,6 @@ module _ {G S : Type 0} (branch : G → S → Bool → Option Solution) (next : 
   best-solves (and-each {g = g} o os) s =
       solves-either _ (solves-product (width g) (wide g s false) (law g o s false) (best-solves os (next g s false)))
       (solves-product (width g) (wide g s true) (law g o s true) (best-solves os (next g s true)))
-
-  -- all that is valid has as many levels as the stages have cells
-  pub width-valid : (gs : List G) (s : S) → Width (total width gs) (Valid admit next gs s)
-  unfolding Valid total
-  width-valid [] s = width-empty
-  width-valid (g ∷ gs) s =
-      width-either (width g + total width gs) (λ u. width-product (width g) (total width gs) (wide g s u) (width-valid gs (next g s u)))
 
 -- THE PARTS: all solves them, and where there is no answer first-none is the first part that has none
 module _ {I : Type 0} (answer : I → Option Solution) (problem : I → Problem) (width : I → ℕ)
@@ -50,15 +43,3 @@ module _ {I : Type 0} (answer : I → Option Solution) (problem : I → Problem)
       go none (nothing p) q f e = here p
       go (some a) (just p) none f e = later (a .cost) (a .levels) (p .valid) (f refl)
       go (some a) (just p) (some b) f e = absurd (some-none _ e)
-
-  -- some answer: every part has one
-  pub first-all : (is : List I) (a : Solution) → all answer is ≡ some a → first-none answer is ≡ length is
-  unfolding all first-none joined
-  first-all [] a e = refl
-  first-all (i ∷ is) a e = go (answer i) (all answer is) (first-all is) e
-    where
-      go : (r q : Option Solution) → ((b : Solution) → q ≡ some b → first-none answer is ≡ length is) → joined r q ≡ some a
-          → elim r [ none ↦ 0 | some x ↦ suc (first-none answer is) ] ≡ suc (length is)
-      go none q f e = absurd (some-none a (sym e))
-      go (some x) none f e = absurd (some-none a (sym e))
-      go (some x) (some b) f e = ap suc (f b refl)

@@ -66,8 +66,3 @@ module _ {I : Type 0} (answer : I → Option Solution) where
   unfoldable pub first-none : List I → ℕ
   first-none [] = 0
   first-none (i ∷ is) = elim (answer i) [ none ↦ 0 | some a ↦ suc (first-none is) ]
-
--- a sum over a list
-unfoldable pub total : {G : Type 0} → (G → ℕ) → List G → ℕ
-total width [] = 0
-total width (g ∷ gs) = width g + total width gs

@@ -90,7 +90,7 @@ shown-raised page after c w l r e n f g =
     g ∙ ap (λ (b : Bool). cond b (raisedCell startOf page c) page) f ∙ sym (shown-other page c w (λ h. n (ap (λ (x : ℕ). x % 2) e ∙ h)))
 
 -- one cell more: it comes one higher where it does not show the bit that is wanted, and a full cell stays
-pub shown-more : (page : List ℕ) (to to′ : ℕ → ℕ) (c w : ℕ) → 3 * c + 2 < 8 * length page → w ≤ 1 → to c ≡ level page c
+shown-more : (page : List ℕ) (to to′ : ℕ → ℕ) (c w : ℕ) → 3 * c + 2 < 8 * length page → w ≤ 1 → to c ≡ level page c
     → ((e : ℕ) → (e ≡ c → ⊥) → to′ e ≡ to e)
     → to′ c ≡ level page c + (level page c + w) % 2 → shown (raisedTo startOf page to) c w ≡ raisedTo startOf page to′
 shown-more page to to′ c w inside b still others m =

@@ -42,7 +42,7 @@ module _ (G : Generators) (p : Proper G) (content : List ℕ) where
   data-bit t = one-if-odd (bitOf content t) (bit-bound content t)
 
   -- THE REGISTER. It is the number of the register of the quotient's last bits
-  pub register-value : (t : ℕ) → registerAt G content t ≡ value (register (G .memory) (encoderOf G .first) (λ t. odd (bitOf content t)) t)
+  register-value : (t : ℕ) → registerAt G content t ≡ value (register (G .memory) (encoderOf G .first) (λ t. odd (bitOf content t)) t)
   unfolding registerAt register
   register-value zero = sym (value-zeros (G .memory))
   register-value (suc t) =

@@ -47,7 +47,7 @@ unfolding priceFor
 price-step steps l v e = rw (ne-eqb (l % 2) v e)
 
 -- no price is more than the steps are
-pub price-le : (steps : List ℕ) (cap : ℕ) → ((i : ℕ) → getD steps i 0 ≤ cap) → (l v : ℕ) → priceFor steps l v ≤ cap
+price-le : (steps : List ℕ) (cap : ℕ) → ((i : ℕ) → getD steps i 0 ≤ cap) → (l v : ℕ) → priceFor steps l v ≤ cap
 unfolding priceFor
 price-le steps cap h l v = go (eqb (l % 2) v)
   where
@@ -103,13 +103,13 @@ zeros-le (suc n) (suc i) = zeros-le n i
 
 module _ (G : Generators) (W strip content : List ℕ) (n : ℕ) where
   -- there is a cost for each of 64 states
-  pub length-over : (k : ℕ) → length (costsOver G W strip content n k) ≡ 64
+  length-over : (k : ℕ) → length (costsOver G W strip content n k) ≡ 64
   unfolding costsOver
   length-over zero = length-replicate {A = ℕ} 64 0
   length-over (suc k) = length-before _ _ _ _ _ _
 
   -- each stage adds two steps at most
-  pub over-le : ((i : ℕ) → getD W i 0 ≤ 255) → (k i : ℕ) → getD (costsOver G W strip content n k) i 0 ≤ k * (2 * closed)
+  over-le : ((i : ℕ) → getD W i 0 ≤ 255) → (k i : ℕ) → getD (costsOver G W strip content n k) i 0 ≤ k * (2 * closed)
   unfolding costsOver
   over-le h zero i = zeros-le 64 i
   over-le h (suc k) i =
@@ -120,7 +120,7 @@ module _ (G : Generators) (W strip content : List ℕ) (n : ℕ) where
       )
 
   -- the stage t before the costs of those after it
-  pub over-more : (t : ℕ) → t < n
+  over-more : (t : ℕ) → t < n
       → costsBefore (stepList W) strip t (labelAt G content t) (wordsOf G) (costsOver G W strip content n (n - suc t))
       ≡ costsOver G W strip content n (n - t)
   unfolding costsOver

@@ -2,7 +2,7 @@
 -- comes to the level that the plan gives it.
 --   carried-is     the digits that are followed, carried out, raise the cells to the levels of the write
 --   followed-plans   so the bytes of these digits are a plan
---   write-near, write-below   a write raises no cell by more than one, and costs less than closed
+--   strip-near, write-below   a write raises no cell by more than one, and costs less than closed
 use mathlib.Core.Path.{_≡_, refl, sym, _∙_, ap, ap₂}
 use mathlib.Core.Bool.{Bool, true, false}
 use mathlib.Core.List.{List, _∷_, _++_}
@@ -166,7 +166,7 @@ module _ (G : Generators) (W : List ℕ) (K : Suits G W) (L : ℕ) (most : L ≤
         ∙ oneBit-write 6 G (suits-sound K) (K .reach) W D L strip unmarked content)
 
     -- so what is carried out are its levels
-    pub carried-is : (a : Solution) → rewriteOf oneBit G W L strip unmarked content ≡ some a
+    carried-is : (a : Solution) → rewriteOf oneBit G W L strip unmarked content ≡ some a
         → (c : ℕ) → c < 16 * L → carriedTo G strip content (followed (decisionAt G W strip content (8 * L))) c ≡ levelAt (a .levels) c
     unfolding followedState
     carried-is a e c h =
@@ -214,9 +214,9 @@ done-below v c = go (ltb v closed) refl
 module _ (G : Generators) (W : List ℕ) (K : Suits G W) (D : Dear (stepsOf W)) (L : ℕ) (most : L ≤ 64) (strip content : List ℕ)
     (a : Solution)
     (e : rewriteOf oneBit G W L strip unmarked content ≡ some a) where
-  pub write-near : (c : ℕ) → c < cellsIn oneBit L → levelAt (a .levels) c ≤ suc (level strip c)
+  pub strip-near : (c : ℕ) → c < cellsIn oneBit L → levelAt (a .levels) c ≤ suc (level strip c)
   unfolding carriedTo
-  write-near c h =
+  strip-near c h =
       let l : c < 16 * L = rw (oneBit-cells L) at h in
       omega (
         arith,

@@ -110,7 +110,7 @@ module _ (G : Generators) (W strip content : List ℕ) (t : ℕ) where
   byOne after = by1 64 after (wordsOf G) (firstFor 0) (firstFor 1) (secondFor 0) (secondFor 1)
 
 -- the data bits of one data bit a stage
-pub data-bits : (content : List ℕ) → dataBits oneBit content 0 ≡ (λ t. odd (bitOf content t))
+data-bits : (content : List ℕ) → dataBits oneBit content 0 ≡ (λ t. odd (bitOf content t))
 unfolding dataBits
 data-bits content = fun-ext λ t. ap (λ (n : ℕ). odd (bitOf content n)) (omega arith)
 

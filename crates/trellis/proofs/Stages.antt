@@ -20,7 +20,7 @@ pick-second zero x y h = absurd (h refl)
 pick-second (suc d) x y h = refl
 
 -- what is picked is at most what both are at most
-pub pick-le : (d x y n : ℕ) → x ≤ n → y ≤ n → pick d x y ≤ n
+pick-le : (d x y n : ℕ) → x ≤ n → y ≤ n → pick d x y ≤ n
 pick-le zero x y n p q = p
 pick-le (suc d) x y n p q = q
 
@@ -62,7 +62,7 @@ unfolding below
 takes-tie x y tie l h = omega arith
 
 -- WIDTHS. A branch costs at most the cost after it and two cells
-pub branch-le : (bound cap j x a0 a1 b0 b1 : ℕ) → x ≤ bound → a0 ≤ cap → a1 ≤ cap → b0 ≤ cap → b1 ≤ cap
+branch-le : (bound cap j x a0 a1 b0 b1 : ℕ) → x ≤ bound → a0 ≤ cap → a1 ≤ cap → b0 ≤ cap → b1 ≤ cap
     → branchCost j x a0 a1 b0 b1 ≤ bound + 2 * cap
 unfolding branchCost
 branch-le bound cap j x a0 a1 b0 b1 h p q r s = omega (arith, pick-le (j % 2) a0 a1 cap p q, pick-le (j / 2) b0 b1 cap r s)
@@ -83,7 +83,7 @@ module _ (n : ℕ) (after words : List ℕ) (a0 a1 b0 b1 : ℕ) where
   lesser-is s i e p q = rw (e, p, q)
 
   -- the digit of a state, by the same two branches
-  pub digit-is : (stay s i : ℕ) {x y tie : ℕ} → 2 * s % n ≡ i → x ≡ branchCost (getD words s 0) (getD after i 0) a0 a1 b0 b1
+  digit-is : (stay s i : ℕ) {x y tie : ℕ} → 2 * s % n ≡ i → x ≡ branchCost (getD words s 0) (getD after i 0) a0 a1 b0 b1
       → y ≡ branchCost (getD words s 0) (getD after (i + 1) 0) a1 a0 b1 b0 → tie ≡ pick (getD words s 0 % 2) stay (1 - stay)
       → below y (x + tie) ≡ digitOf n after words a0 a1 b0 b1 stay s
   unfolding digitOf by0 by1

@@ -44,20 +44,20 @@ mul-a c = omega (arith, fit c)
 strip-requires : tie.Need-strip-requires Inv-loop μ-loop
 strip-requires c κs = search needs
 
-add-read : tie.Need-add-read Inv-loop μ-loop
-add-read c = omega (arith, fit (c .before))
+add-read-strip : tie.Need-add-read-strip Inv-loop μ-loop
+add-read-strip c = omega (arith, fit (c .before))
 
-sub-read : tie.Need-sub-read Inv-loop μ-loop
-sub-read c = search needs
+sub-read-strip : tie.Need-sub-read-strip Inv-loop μ-loop
+sub-read-strip c = search needs
 
-part-read-start : tie.Need-part-read-start Inv-loop μ-loop
-part-read-start c = search needs
+part-read-strip-start : tie.Need-part-read-strip-start Inv-loop μ-loop
+part-read-strip-start c = search needs
 
-part-read-end : tie.Need-part-read-end Inv-loop μ-loop
-part-read-end c = fit (c .before)
+part-read-strip-end : tie.Need-part-read-strip-end Inv-loop μ-loop
+part-read-strip-end c = fit (c .before)
 
-read-requires : tie.Need-read-requires Inv-loop μ-loop
-read-requires c κs =
+read-strip-requires : tie.Need-read-strip-requires Inv-loop μ-loop
+read-strip-requires c κs =
     let s = c .before .before .before .before .before .before in
     rw (lent-length _ _ _ (fit (c .before .before))) (one-to-64 (s .args .bytes) (s .pre .bytes-in) .1)
 
@@ -73,7 +73,7 @@ loop-again c =
     let s = t .before .before .before .before in
     let a = s .args in
     let l = t .before .loop in
-    let r = c .before .before .read in
+    let r = c .before .before .read-strip in
     let m = lent-length (a .bytes) (l .k) (l .«data») (fit t) in
     let n = r .kept .1 .1 .0 ∙ m in
     let y : r .last .1 .1 .0 ≡ readStrip oneBit (generatorsOf (a .code)) (a .bytes) (stripAt (a .bytes) (l .k) (a .page .now)) =
@@ -107,11 +107,11 @@ read-strips-spec =
     loop-holds
     mul-a
     strip-requires
-    add-read
-    sub-read
-    part-read-start
-    part-read-end
-    read-requires
+    add-read-strip
+    sub-read-strip
+    part-read-strip-start
+    part-read-strip-end
+    read-strip-requires
     add-k
     loop-less
     loop-again

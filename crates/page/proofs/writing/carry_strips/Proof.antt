@@ -8,7 +8,7 @@ use Rattle.codes.specs.Codes.{generatorsOf}
 use Rattle.codes.specs.Layouts.{oneBit, bytesIn}
 use Rattle.codes.proofs.Layouts.{oneBit-bytes}
 use Rattle.page.proofs.Strips.{one-to-64, lent-length}
-use Rattle.page.proofs.Loops.{strip-fits, part-fits, CarriedUpTo, carried-none, carried-more}
+use Rattle.page.proofs.Loops.{strip-fits, part-fits, CarriedUpTo, carried-nothing, carried-more}
 use Rattle.page.proofs.writing.carry_strips.Statement.{statement}
 use Rattle.page.proofs.writing.carry_strips.Tie as tie
 
@@ -40,7 +40,7 @@ mul-n : tie.Need-mul-n Inv-loop μ-loop
 mul-n c = omega (arith, one-to-64 (c .before .before .before .args .bytes) (c .before .before .before .pre .0 .bytes-in))
 
 loop-holds : tie.Need-loop-holds Inv-loop μ-loop
-loop-holds c = carried-none
+loop-holds c = carried-nothing
 
 mul-a : tie.Need-mul-a Inv-loop μ-loop
 mul-a c = omega (arith, fit c)

@@ -12,8 +12,8 @@ use Rattle.codes.specs.Taps.{windowOf, tappedBit}
 use Rattle.cells.proofs.Places.{store-more}
 use Rattle.codes.proofs.Codes.{memory-bounds}
 use Rattle.codes.proofs.Taps.{read-bytes}
-use Rattle.codes.proofs.Code.read.Statement.{statement}
-use Rattle.codes.proofs.Code.read.Tie as tie
+use Rattle.codes.proofs.Code.read_strip.Statement.{statement}
+use Rattle.codes.proofs.Code.read_strip.Tie as tie
 
 abbrev Inv-loop : tie.InvT-loop
 Inv-loop strip data₀ g1 g2 windows₀ q₀ «data» windows q =
@@ -72,8 +72,8 @@ returns c =
     read-bytes (generatorsOf (a .self)) _ (a .strip .now) (l .«data») m (l .inv .0)
     (λ k h. rw (s .before .g1-taps .ensures .0, s .g2-taps .ensures .0) at (l .inv .3 k (omega arith)))
 
-pub read-spec : {M : Type 1} → statement M
-read-spec =
+pub read-strip-spec : {M : Type 1} → statement M
+read-strip-spec =
     tie.close
     (tie.spec
     Inv-loop
