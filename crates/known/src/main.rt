@@ -15,7 +15,7 @@ fn print_bytes(bytes: &[u8]) {
 // A strip of one data byte, and what it reads as.
 fn show_reading(code: Code, name: &[u8], strip: [u8; 6]) {
     let mut data = [0u8; 1];
-    code.read(&strip, &mut data);
+    code.read_strip(&strip, &mut data);
     io::write_all(STDOUT_FILENO, name);
     print_bytes(&strip);
     io::write_all(STDOUT_FILENO, b" reads ");
