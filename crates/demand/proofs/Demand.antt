@@ -1,10 +1,10 @@
--- DEMAND 3, proved: where the computed write of a page has an answer, the page raised to its levels is the cheapest of ALL pages that read as the data with
--- no cell lowered and marked cells kept; where it has none, no page is, and the strip named is the lowest that takes no pattern. For any layout, code, weights
--- and marks, any L and S, and every content.
+-- DEMAND 3, proved: where the computed write of a page has a solution, the page raised to its levels is the cheapest of ALL pages that read
+-- as the data with no cell lowered and marked cells kept; where it has none, no page is, and the strip named is the lowest that takes no
+-- pattern. For any layout, code, weights and marks, any L and S, and every content.
 --   problem-solves   the write of a strip is its best
---   answer-raised    the page raised to an answer's levels has these levels
---   cheapest         an answer is the cheapest
---   spent-at         no answer: the page is spent, at the first strip that has none
+--   solution-raised    the page raised to a solution's levels has these levels
+--   cheapest         a solution is the cheapest
+--   spent-at         no solution: the page is spent, at the first strip that has none
 use mathlib.Core.Path.{_≡_, refl, sym, _∙_, ap, fun-ext}
 use mathlib.Core.Bool.{Bool, true, false}
 use mathlib.Core.List.{List, [], _∷_}
@@ -159,16 +159,16 @@ module _ (J : Job) (I : InOrder J) where
     marked-stay = λ c h m. raised-level y v c h ∙ v .kept c h m;
   }
 
-  -- what an answer's levels are
-  answer-levels : (a : Solution) → pageWrite J ≡ some a
+  -- what a solution's levels are
+  solution-levels : (a : Solution) → pageWrite J ≡ some a
       → (length (a .levels) ≡ pageCells J) × PageLevels J (levelAt (a .levels))
       × (a .cost ≡ sumOf (pageCells J) (climbs J (levelAt (a .levels))))
-  answer-levels a e = all-levels J (I .sound) (I .whole) (a .cost) (a .levels) (the-best (rw e at solved) .valid)
+  solution-levels a e = all-levels J (I .sound) (I .whole) (a .cost) (a .levels) (the-best (rw e at solved) .valid)
 
   -- the page raised to them has them
-  pub answer-raised : (a : Solution) → pageWrite J ≡ some a → (c : ℕ) → c < pageCells J
+  pub solution-raised : (a : Solution) → pageWrite J ≡ some a → (c : ℕ) → c < pageCells J
       → level (raised (a .levels)) c ≡ levelAt (a .levels) c
-  answer-raised a e = raised-level (a .levels) (answer-levels a e .1)
+  solution-raised a e = raised-level (a .levels) (solution-levels a e .1)
 
   -- AN ANSWER: the page raised to its levels is the cheapest
   pub cheapest : (a : Solution) → pageWrite J ≡ some a → Cheapest J (raised (a .levels)) (a .cost)
@@ -189,13 +189,13 @@ module _ (J : Job) (I : InOrder J) where
 
       v : (length (a .levels) ≡ pageCells J) × PageLevels J (levelAt (a .levels))
           × (a .cost ≡ sumOf (pageCells J) (climbs J (levelAt (a .levels))))
-      v = answer-levels a e
+      v = solution-levels a e
 
-  -- a page that could be has an answer for each of its strips
+  -- a page that could be has a solution for each of its strips
   no-page : pageWrite J ≡ none → (other : List ℕ) → Could J other → ⊥
   no-page e other p = none-valid (rw e at solved) _ _ (could-all other p)
 
-  -- where there is no answer, the first strip that has none
+  -- where there is no solution, the first strip that has none
   first-closed : pageWrite J ≡ none → ClosedAt (stripProblem J) (J .strips) (λ k. k) (spentStrip J)
   unfolding pageWrite spentStrip
   first-closed e =

@@ -1,4 +1,5 @@
--- Parts of a page and of its data: their lengths, their cells and their bits are those of the whole, and a page raised is its strips raised.
+-- Parts of a page and of its data: their lengths, their cells and their bits are those of the whole, and a page raised is its strips
+-- raised.
 --   part-length, part-octets   a part has its bytes
 --   part-data                  its data bits are those of the data
 --   part-at, parts-same        the same parts, the same list

@@ -1,5 +1,5 @@
--- The levels of a page: what the strips' problems admit, one after the other, is what reads as the data with no level lowered and marked cells kept, by the
--- page's places.
+-- The levels of a page: what the strips' problems admit, one after the other, is what reads as the data with no level lowered and marked
+-- cells kept, by the page's places.
 --   stripProblem      the writes of strip k
 --   PageLevels        levels of all cells of a page that could be
 --   problem-width     every write of a strip has a level for each cell
@@ -54,7 +54,8 @@ stripProblem J k =
 abbrev pub climbs : Job → (ℕ → ℕ) → ℕ → ℕ
 climbs J v c = climb (weightOf (J .weights)) (level (J .page) c) (v c)
 
--- levels v of all cells of a page: none lower than before, none above 3, marked cells at their level, and each strip reads as its part of the data
+-- levels v of all cells of a page: none lower than before, none above 3, marked cells at their level, and each strip reads as its part of
+-- the data
 pub record PageLevels (J : Job) (v : ℕ → ℕ) : Type 0 where
   pub up : (c : ℕ) → c < pageCells J → level (J .page) c ≤ v c
   pub high : (c : ℕ) → c < pageCells J → v c ≤ 3

@@ -1,4 +1,5 @@
--- Parts of one width, one after the other: what is valid for all of them is what is valid for each at its place, and the first that is closed.
+-- Parts of one width, one after the other: what is valid for all of them is what is valid for each at its place, and the first that is
+-- closed.
 --   Parts, all-parts, parts-all   what is valid for all is valid for each at its place
 --   ClosedAt, closed-at           the first part for which nothing is valid
 --   PartOf, all-each              a solution of all parts has one of each
@@ -109,13 +110,13 @@ closed-at problem (suc S) f (suc k) (later d y p q) =
     before r zero h = p
     before r (suc j) h = r .open-before j (omega arith)
 
--- part j of an answer made of parts
+-- part j of a solution made of parts
 pub record PartOf (w : ℕ → Option Solution) (d : ℕ) (f : ℕ → ℕ) (a : Solution) (j : ℕ) : Type 0 where
   pub own : Solution
   pub is : w (f j) ≡ some own
   pub levels-are : take d (drop (d * j) (a .levels)) ≡ own .levels
 
--- an answer of all parts has one of each
+-- a solution of all parts has one of each
 pub all-each : (w : ℕ → Option Solution) (d : ℕ) → ((k : ℕ) (b : Solution) → w k ≡ some b → length (b .levels) ≡ d)
     → (n : ℕ) (f : ℕ → ℕ) (a : Solution) → all w (listOf n f) ≡ some a → (j : ℕ) → j < n → PartOf w d f a j
 unfolding all listOf joined

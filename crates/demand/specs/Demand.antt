@@ -32,8 +32,9 @@ pub record LowerAtFirst (cells : ℕ) (after other : List ℕ) : Type 0 where
 unfoldable pub costIn : Job → List ℕ → ℕ
 costIn J after = costOf (weightOf (J .weights)) (pageCells J) (J .page) after
 
--- 'Write picks the page of least cost that reads as the data with no cell lowered. Among equals it takes the one with the lower level at the first
--- cell whose levels differ.' 'A cell raised by one turns its lowest-numbered zero bit into a one; a cell that isn't raised keeps its bits.'
+-- 'Write picks the page of least cost that reads as the data with no cell lowered. Among equals it takes the one with the lower level at
+-- the first cell whose levels differ.' 'A cell raised by one turns its lowest-numbered zero bit into a one; a cell that isn't raised keeps
+-- its bits.'
 pub record Cheapest (J : Job) (after : List ℕ) (cost : ℕ) : Type 0 where
   pub could : Could J after
   pub raised : after ≡ raisedTo (startIn (width J)) (J .page) (level after)
@@ -47,8 +48,8 @@ pub record Fits (J : Job) (k : ℕ) : Type 0 where
   pub pattern : List ℕ
   pub could : Could (stripJob J k) pattern
 
--- 'spent with the lowest number of a strip for which no pattern reads as its own part of the data with no cell lowered'; then there is no page at
--- any cost
+-- 'spent with the lowest number of a strip for which no pattern reads as its own part of the data with no cell lowered'; then there is no
+-- page at any cost
 pub record SpentAt (J : Job) (k : ℕ) : Type 0 where
   pub inside : k < J .strips
   pub no-page : (other : List ℕ) → Could J other → ⊥

@@ -1,4 +1,5 @@
--- What a write cannot do, with any weights of three bytes that are not free: raise a cell by more than one, or cost more than the dearest step for each cell.
+-- What a write cannot do, with any weights of three bytes that are not free: raise a cell by more than one, or cost more than the dearest
+-- step for each cell.
 --   write-near      no cell rises by more than one
 --   write-most      the cost is at most the dearest step for each cell
 --   write-largest   so at most 65,536 times that
@@ -24,7 +25,7 @@ use Rattle.search.specs.Levels.{levelAt}
 use Rattle.search.proofs.Parity.{house-dear}
 use Rattle.demand.specs.Demand.{costIn}
 use Rattle.demand.specs.Computed.{pageWrite}
-use Rattle.demand.proofs.Demand.{answer-raised}
+use Rattle.demand.proofs.Demand.{solution-raised}
 use Rattle.page.specs.Refusals.{ground, numbered}
 use Rattle.page.specs.Answers.{callPage, pageIn, jobOf, pageOf, answerOf}
 use Rattle.page.specs.Promise.{Wrote, done}
@@ -61,7 +62,7 @@ module _ (W : List ℕ) (K : Weights W) (code L S : ℕ) (before content : List 
       go (some r) e w f = omega arith
       go none e none f = omega arith
       go none e (some a) f =
-          rw (answer-raised (jobOf W code L S before content) (job-in-order W code L S before content b e) a f c h)
+          rw (solution-raised (jobOf W code L S before content) (job-in-order W code L S before content b e) a f c h)
           (page-near (numbered code) W (numbered-suits code W (K .three) (K .bytes)) (K .dear) L S
           (one-to-64 L (in-order code L S (length before) (length content) e .0) .1) before content a f c h)
 

@@ -1,4 +1,5 @@
--- THE TABLE HOLDS: one test that the checker computes over all its rows, through tables of states, and the law that turns the test into what each row says.
+-- THE TABLE HOLDS: one test that the checker computes over all its rows, through tables of states, and the law that turns the test into
+-- what each row says.
 --   answer-tabled, page-tabled   the evaluated definitions are those of the calls
 --   passes                       the test of a row
 --   cases-hold                   THE THEOREM
@@ -159,7 +160,11 @@ all-say (c ∷ cs) e = let p = each-true _ _ e in and-each (says c (c .expected)
 
 -- THE TABLE PASSES, computed
 table-passes : allPass cases ≡ true
-unfolding allPass passes isDone isSpent sameBytes answerTabled pageTabled stripTabled write-table table step look grow stages labels quotient register push dot branch next wanted sums joined better beats before lexltb parity-choice keep-or-raise odd weightOf cellsOf encoderOf digit listOf bitOf level dataBits stripCells stagesIn cellsIn bytesIn part all first-none numbered ground codeGround limitsGround sizesGround bytesGround stripsGround pageGround dataGround oneTo64 startIn startOf raisedTo bytesOf number raisedTimes raise zeroFrom triple levelAt readPage readBy stripLevels dataBit sumBit codeBit sumOf ago
+unfolding allPass passes isDone isSpent sameBytes answerTabled pageTabled stripTabled write-table table step look grow stages labels
+    quotient register push dot branch next wanted sums joined better beats before lexltb parity-choice keep-or-raise odd weightOf
+    cellsOf encoderOf digit listOf bitOf level dataBits stripCells stagesIn cellsIn bytesIn part all first-none numbered ground
+    codeGround limitsGround sizesGround bytesGround stripsGround pageGround dataGround oneTo64 startIn startOf raisedTo bytesOf number
+    raisedTimes raise zeroFrom triple levelAt readPage readBy stripLevels dataBit sumBit codeBit sumOf ago
 table-passes = refl
 
 -- THE THEOREM: the table holds of the answer and the page of a write with the house's weights

@@ -1,5 +1,5 @@
--- THE LEDGER: from an erased page, over any sequence of calls with any weights, the sum of the levels is the raises of the accepted writes since the last
--- accepted erase.
+-- THE LEDGER: from an erased page, over any sequence of calls with any weights, the sum of the levels is the raises of the accepted writes
+-- since the last accepted erase.
 --   erased-level, erased-raises   an erased page has no level
 --   counts                        a fair event keeps the ledger
 --   call-fair                     every call is a fair event

@@ -1,5 +1,5 @@
--- The laws of a page: the strips within it, the grounds of a refusal, the running total, the calls' promises, plans, the loops over the strips, the census, the
--- ledger, the bounds and the table of known cases.
+-- The laws of a page: the strips within it, the grounds of a refusal, the running total, the calls' promises, plans, the loops over the
+-- strips, the census, the ledger, the bounds and the table of known cases.
 pub mod Strips
 pub mod Refusals
 pub mod Counts

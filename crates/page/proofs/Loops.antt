@@ -1,5 +1,5 @@
--- One turn of the loops over a page's strips: what is lent, the strip's outcome, and what the total, the digits and the page are after it. Then what the
--- whole write and its calls make of that.
+-- One turn of the loops over a page's strips: what is lent, the strip's outcome, and what the total, the digits and the page are after it.
+-- Then what the whole write and its calls make of that.
 --   turn-shaped, turn-outcome       what a turn lends is in order, and its outcome is that of the strip's write
 --   PlannedTo, planned-more         the plans of the strips before k
 --   Reached, reached-more, ..       the total after k strips

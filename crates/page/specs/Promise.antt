@@ -14,9 +14,9 @@ use Rattle.page.specs.declared.Refusal.{Refusal}
 use Rattle.page.specs.declared.Answer.{Answer}
 use Rattle.page.specs.declared.Answer.the-variants as A
 
--- 'The answer of a write is done with its cost, spent with the lowest number of a strip .., or refused with the refusal inside it.' Done: the page is the
--- cheapest of all that could be. Spent: no page could be, and nothing is changed. Refused: by the first ground of the list, and nothing is changed; a
--- call without a ground is not refused.
+-- 'The answer of a write is done with its cost, spent with the lowest number of a strip .., or refused with the refusal inside it.' Done:
+-- the page is the cheapest of all that could be. Spent: no page could be, and nothing is changed. Refused: by the first ground of the list,
+-- and nothing is changed; a call without a ground is not refused.
 pub data Promised (g : Option Refusal) (J : Job) (after : List ℕ) : Answer → Type 0 where
   done : {cost : ℕ} → g ≡ none → Cheapest J after cost → Promised g J after (A.Done cost)
   spent : {k : ℕ} → g ≡ none → SpentAt J k → after ≡ J .page → Promised g J after (A.Spent k)

@@ -20,7 +20,8 @@ oneTo64 n = leb 1 n && leb n 64
 unfoldable pub inPage : ℕ → ℕ → List ℕ → Bool
 inPage L k page = oneTo64 L && leb (bytesIn oneBit L * suc k) (length page)
 
--- 'The strip with a given number is a part of the caller's page'; 'L outside its limits, or a strip beyond the page's end, gives the empty part.'
+-- 'The strip with a given number is a part of the caller's page'; 'L outside its limits, or a strip beyond the page's end, gives the empty
+-- part.'
 unfoldable pub stripOf : ℕ → ℕ → List ℕ → List ℕ
 stripOf L k page = cond (inPage L k page) (part (bytesIn oneBit L) k page) []
 

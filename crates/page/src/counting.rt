@@ -39,7 +39,10 @@ pub fn census(bytes: u32, strips: u32, page: &[u8]) -> Census
     };
     let mut k: usize = 0;
     while k < strips as usize {
-        let r = row_of(shape::strip(page, bytes as usize, k), 16 * bytes);
+        let r = row_of(
+            shape::strip(page, bytes as usize, k),
+            shape::STRIP_CELLS * bytes,
+        );
         rows[k] = r;
         k += 1;
     }

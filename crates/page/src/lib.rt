@@ -1,4 +1,5 @@
-// The calls on a page: read, price, write, erase and census, on numbers and byte slices. Each takes every input, and refuses what is not in order.
+// The calls on a page: read, price, write, erase and census, on numbers and byte slices. Each takes every input, and refuses what is not in
+// order.
 pub mod answers;
 pub mod counting;
 pub mod erasing;

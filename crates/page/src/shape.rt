@@ -13,6 +13,11 @@ ghost use Rattle.page.specs.Shape.{oneTo64, stripOf};
 ghost use Rattle.page.specs.Refusals.{limitsGround, sizesGround, pageGround, dataGround, shapeGround, ground, numbered};
 ghost use Rattle.page.specs.Answers.{completionOf};
 
+// The bytes and the cells of a strip for each byte of its data.
+pub const STRIP_BYTES: usize = 6;
+
+pub const STRIP_CELLS: u32 = 16;
+
 // Whether n is from 1 to 64.
 fn one_to_64(n: u32) -> bool
     ensures { λ r. ⌜ r ≡ oneTo64 n ⌝ }
@@ -53,7 +58,7 @@ fn judge_page(bytes: u32, strips: u32, page: usize) -> Completion
     requires { ⌜ limitsGround bytes strips ≡ none ⌝ }
     ensures { λ r. ⌜ r ≡ completionOf (pageGround oneBit bytes strips page) ⌝ }
 {
-    if page != 6 * (bytes as usize) * (strips as usize) {
+    if page != STRIP_BYTES * (bytes as usize) * (strips as usize) {
         return Completion::Refused(Refusal::PageLength);
     }
     Completion::Done
@@ -124,7 +129,7 @@ fn find(size: usize, bytes: usize, k: usize) -> Place
     if bytes > 64 {
         return Place { start: 0, end: 0 };
     }
-    let n = 6 * bytes;
+    let n = STRIP_BYTES * bytes;
     let whole = size / n;
     if k >= whole {
         return Place { start: 0, end: 0 };

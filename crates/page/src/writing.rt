@@ -104,9 +104,10 @@ fn carry_strips(
 )
     requires { ⌜ Sized oneBit bytes strips (now page) (now «data») ⌝ }
     requires { ⌜ length (now digits) ≡ bytes * strips ⌝ }
-    ensures { λ _. ⌜ Carried (generatorsOf code) bytes strips (now (page .entry)) (now («data» .entry)) (now (digits .entry)) (now (page .exit)) ⌝ }
+    ensures { λ _. ⌜ Carried (generatorsOf code) bytes strips
+        (now (page .entry)) (now («data» .entry)) (now (digits .entry)) (now (page .exit)) ⌝ }
 {
-    let n = 6 * bytes;
+    let n = shape::STRIP_BYTES * bytes;
     let mut k: usize = 0;
     while k < strips {
         let a = n * k;
@@ -133,7 +134,8 @@ fn write_strips(
     requires { ⌜ Sized oneBit bytes strips (now page) (now «data») ⌝ }
     requires { ⌜ Dear (stepsOf weights) ⌝ }
     ensures { λ r. ⌜ r ≡ answerIn none (plainJob (generatorsOf code) weights bytes strips (now (page .entry)) (now («data» .entry))) ⌝ }
-    ensures { λ _. ⌜ now (page .exit) ≡ pageIn none (plainJob (generatorsOf code) weights bytes strips (now (page .entry)) (now («data» .entry))) ⌝ }
+    ensures { λ _. ⌜ now (page .exit)
+        ≡ pageIn none (plainJob (generatorsOf code) weights bytes strips (now (page .entry)) (now («data» .entry))) ⌝ }
 {
     let mut digits = [0u8; 4096];
     let whole = bytes * strips;

@@ -1,5 +1,5 @@
--- What the run program does with its input is stated by these definitions: `Rows` has the row of a write, `Turns` what one line does, `Runs`
--- the whole run.
+-- What the run program does with its input is stated by these definitions: `Rows` has the row of a write, `Turns` what one line does,
+-- `Runs` the whole run.
 pub mod Rows
 pub mod Turns
 pub mod Runs

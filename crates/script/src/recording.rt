@@ -42,7 +42,7 @@ pub fn write_row(number: u64, v: Values, page: &mut [u8], data: &[u8], buffer: &
 {
     let answer = writing::write(v.code, v.bytes, v.strips, page, data);
     let n = size(v);
-    let levels = cells::raises(page, (16 * n) as u32);
+    let levels = cells::raises(page, shape::STRIP_CELLS * (n as u32));
     printing::put_row(
         buffer,
         number,

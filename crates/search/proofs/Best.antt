@@ -1,4 +1,13 @@
--- Laws of best answers: the better of two solves either of two problems, and two one after the other solve the product.
+-- Laws of best solutions: the better of two solves either of two problems, and two one after the other solve the product.
+--   no-worse-refl                     a solution is no worse than itself
+--   solves-either, solves-product, solves-empty   what solves two problems solves either of them, their product, and nothing at all is free
+--   best-strict, settles-solves       the strictly cheapest is the best, so what settles a problem solves it
+--   settles-product, -empty, -iff     the product, the empty problem and a problem in other words, strictly
+--   width-empty, -product, -either    how many levels the solutions of these problems have
+--   none-valid, the-best, some-none   none says that nothing is valid, some that it is the best, and they differ
+--   cost-least, levels-first          no valid levels cost less, and of those as cheap none is lower at the first cell that differs
+--   solves-iff, solves-unique         a problem in other words has the same solution, and it has one only
+--   Joined, joined-both               where two one after the other are open, both are
 use mathlib.Core.Path.{_≡_, refl, sym, _∙_, ap, ap₂, subst}
 use mathlib.Core.Bool.{Bool, true, false, cond, _&&_, _||_, true≢false, false≢true}
 use mathlib.Core.List.{List, [], _∷_, _++_}
@@ -120,7 +129,7 @@ best-either A a b false e p q = record { valid = digit false (p .valid); least =
     go d y (digit true w) = no-worse-trans (beats-false b a e) (q .least d y w)
     go d y (digit false w) = p .least d y w
 
--- the better of two answers solves either of two problems
+-- the better of two solutions solves either of two problems
 pub solves-either : (A : Bool → Problem) {r s : Option Solution} → Solves (A false) r → Solves (A true) s → Solves (Either A) (better r s)
 unfolding better
 solves-either A (nothing p) (nothing q) = nothing go
@@ -162,7 +171,7 @@ best-product k {A} {B} {a} {b} l p q = record { valid = pair; least = go }
         let e : length (a .levels) ≡ length (w .levels₁) = l .width _ _ (p .valid) ∙ sym (l .width _ _ (w .valid₁)) in
         rw (w .sum, w .append) (no-worse-join e (p .least _ _ (w .valid₁)) (q .least _ _ (w .valid₂)))
 
--- answers one after the other solve the product
+-- solutions one after the other solve the product
 pub solves-product : (k : ℕ) {A B : Problem} {r s : Option Solution} → Width k A → Solves A r → Solves B s
     → Solves (Product A B) (joined r s)
 unfolding joined
@@ -170,7 +179,7 @@ solves-product k l (nothing p) q = nothing (λ d y w. p (w .cost₁) (w .levels�
 solves-product k l (just p) (nothing q) = nothing (λ d y w. q (w .cost₂) (w .levels₂) (w .valid₂))
 solves-product k l (just p) (just q) = just (best-product k l p q)
 
--- the empty problem has the free answer
+-- the empty problem has the free solution
 pub solves-empty : Solves Empty (some free)
 solves-empty = just (record { valid = empty; least = go })
   where
@@ -245,7 +254,7 @@ width-either k {A} p = record { width = go }
     go : (c : ℕ) (y : List ℕ) → Either A c y → length y ≡ k
     go c y (digit u w) = p u .width c y w
 
--- an answer is not none
+-- a solution is not none
 pub some-none : (a : Solution) → some a ≡ none → ⊥
 some-none a e = let z : _≡_ {A = ℕ} 0 1 = cc in omega arith
 
@@ -289,7 +298,7 @@ module _ {A : Problem} where
       go (cheaper h) = absurd (omega arith)
       go (tied h m) = lex-lower m (l .width _ _ (p .valid) ∙ sym (l .width _ _ w)) n
 
--- the best answer is one
+-- the best solution is one
 lex-antisym : {x y : List ℕ} → LexLe x y → LexLe y x → x ≡ y
 lex-antisym done done = refl
 lex-antisym (lower p) (lower q) = absurd (lt-irrefl _ (lt-trans p q))
@@ -297,7 +306,7 @@ lex-antisym (lower p) (same e q) = absurd (omega arith)
 lex-antisym (same e p) (lower q) = absurd (omega arith)
 lex-antisym (same e p) (same f q) = ap₂ (λ (a : ℕ) (l : List ℕ). a ∷ l) e (lex-antisym p q)
 
--- two best answers are the same
+-- two best solutions are the same
 best-unique : {A : Problem} {a b : Solution} → Best A a → Best A b → a ≡ b
 best-unique {A} {a} {b} p q = go (p .least _ _ (q .valid)) (q .least _ _ (p .valid))
   where

@@ -61,7 +61,7 @@ record At (S : Steps) (x : Cell) (to : ℕ) (c : ℕ) (y : List ℕ) : Type 0 wh
   kept : x .mark ≡ true → to ≡ x .level
   cost : c ≡ climb (S .weight) (x .level) to
 
--- the answer of one cell
+-- the solution of one cell
 at-solves : (S : Steps) (x : Cell) (to : ℕ) → Solves (At S x to) (toLevel S x to)
 unfolding toLevel
 at-solves S x to = go (leb (x .level) to) (x .mark) (eqb to (x .level)) refl refl refl

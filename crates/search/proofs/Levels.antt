@@ -1,4 +1,8 @@
 -- By places: a raising is known by each cell's climb, and a code bit by the level of its cell.
+--   length-cells, cells-at       the cells of a list are those it was made of
+--   raised-rises, rises-raised   a raising is a list of levels to which each cell can rise
+--   raised-pays                  its cost is the sum of the climbs
+--   words-at                     the word of a stage is what its own levels show
 use mathlib.Core.Path.{_≡_, refl, sym, _∙_, ap}
 use mathlib.Core.Bool.{Bool, false}
 use mathlib.Core.List.{List, [], _∷_, map}

@@ -1,4 +1,5 @@
--- THE TWO FACTS about one bit a cell: the prices of a stage are the least costs of its words, and the bit that the first cell shows decides ties.
+-- THE TWO FACTS about one bit a cell: the prices of a stage are the least costs of its words, and the bit that the first cell shows decides
+-- ties.
 --   Pair              a stage of two cells and one label
 --   oneBit-wants      the word that a window wants at such a stage
 --   oneBit-held       the levels of an open branch

@@ -1,5 +1,10 @@
--- One bit a cell: keeping a cell or raising it by one is strictly the cheapest way to show a bit, as every step costs something; so the stage's
--- choice finds the stage's strictly cheapest levels, or there are none.
+-- One bit a cell: keeping a cell or raising it by one is strictly the cheapest way to show a bit, as every step costs something; so the
+-- stage's choice finds the stage's strictly cheapest levels, or there are none.
+--   parity-chosen     so keeping or raising by one is the choice that tries every level
+--   house-dear        no step of the house weights is free
+--   held, keep-held   the level of a cell that shows a bit, and the choice holds it
+--   held-lower        of the two bits, the one that the cell shows holds the lower level
+--   raised-held       the level that the program raises to is the one that the choice holds
 use mathlib.Core.Path.{_≡_, refl, sym, _∙_, ap, ap₂, fun-ext}
 use mathlib.Core.Bool.{Bool, true, false, cond, not, Bool·beq, true≢false, false≢true}
 use mathlib.Core.List.{List, [], _∷_, _++_, map}

@@ -1,4 +1,5 @@
--- The plan finds the digits of the best path from prices alone, where the prices are the costs of the branches and the tie rule decides ties.
+-- The plan finds the digits of the best path from prices alone, where the prices are the costs of the branches and the tie rule decides
+-- ties.
 --   cost-joined, cost-better   the cost of two one after the other, and of the better of two
 --   costs-best                 the costs are those of the best path
 --   plan-best                  the solution of the plan is the best

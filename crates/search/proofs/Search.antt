@@ -1,5 +1,7 @@
--- THE STRIP: `write` finds the best of all level lists that read as the data, or there is none. For any encoder, data, weights and marks, and any
--- meaning of levels with a choice that solves its stage.
+-- THE STRIP: `write` finds the best of all level lists that read as the data, or there is none. For any encoder, data, weights and marks,
+-- and any meaning of levels with a choice that solves its stage.
+--   write-solves   the write of a strip solves the strip's problem
+--   room-same      more memory than the generators reach changes no write
 use Prim.{Unit, tt}
 use mathlib.Core.Path.{_≡_, refl, sym, _∙_, ap, ap₂}
 use mathlib.Core.Bool.{Bool, true, false, cond}

@@ -1,4 +1,5 @@
 -- The table has the best of every state, so the write of a strip by tables is the write of the strip.
+--   write-by-table   the write by tables is the write of the search
 use mathlib.Core.Path.{_≡_, refl, _∙_, ap₂}
 use mathlib.Core.Bool.{Bool, true, false}
 use mathlib.Core.List.{List, [], _∷_}

@@ -1,8 +1,8 @@
--- Problems and their best answers. A problem says which level lists are valid, and at what cost; its best answer is the cheapest, and of the
--- cheapest the one with the lower level at the first place that differs.
+-- Problems and their best solutions. A problem says which level lists are valid, and at what cost; its best solution is the cheapest, and
+-- of the cheapest the one with the lower level at the first place that differs.
 --   Problem, Solution        which levels are valid at which cost; some levels and their cost
 --   Best A a               a is valid for A, and no worse than any other that is
---   Solves A r             r is the best answer of A, or there is none and nothing is valid
+--   Solves A r             r is the best solution of A, or there is none and nothing is valid
 --   Settles A r            the same, strictly: any other valid level list costs more
 --   Product, Either, All   problems put together: one after the other, one of two, a list of independent parts
 --   FirstClosed            the first part for which nothing is valid
@@ -30,17 +30,17 @@ pub data NoWorse (c : ℕ) (x : List ℕ) (d : ℕ) (y : List ℕ) : Type 0 wher
 abbrev pub Problem : Type 1
 Problem = ℕ → List ℕ → Type 0
 
--- an answer: the new levels, and what they cost
+-- a solution: the new levels, and what they cost
 pub record Solution : Type 0 where
   pub cost : ℕ
   pub levels : List ℕ
 
--- the best answer: it is valid, and no worse than any that is
+-- the best solution: it is valid, and no worse than any that is
 pub record Best (A : Problem) (a : Solution) : Type 0 where
   pub valid : A (a .cost) (a .levels)
   pub least : (d : ℕ) (y : List ℕ) → A d y → NoWorse (a .cost) (a .levels) d y
 
--- what an optional answer says of a problem: none, that nothing is valid; some, that this is the best
+-- what an optional solution says of a problem: none, that nothing is valid; some, that this is the best
 pub data Solves (A : Problem) : Option Solution → Type 0 where
   nothing : ((d : ℕ) (y : List ℕ) → A d y → ⊥) → Solves A none
   just : {a : Solution} → Best A a → Solves A (some a)

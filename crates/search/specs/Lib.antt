@@ -1,5 +1,5 @@
--- The search: what a best solution is (`Best`), what a write of a strip is (`Strip`, `Levels`), the search that finds it (`Trellis`, `Choices`, `Search`),
--- the same from prices alone (`Plan`, `Plain`), and the write of a strip of bytes in a layout (`Layouts`).
+-- The search: what a best solution is (`Best`), what a write of a strip is (`Strip`, `Levels`), the search that finds it (`Trellis`,
+-- `Choices`, `Search`), the same from prices alone (`Plan`, `Plain`), and the write of a strip of bytes in a layout (`Layouts`).
 pub mod Best
 pub mod Strip
 pub mod Levels

@@ -17,7 +17,8 @@ use Rattle.search.specs.Plain.{Prices}
 unfoldable pub bitPrice : Steps → Cell → Bool → Option ℕ
 bitPrice S x b = cost-of (keep-or-raise S x b)
 
--- word j asks its bit 0 of the first cell, and its bit 1 with the label added of the second; the lower level at the first cell is that of the bit it shows
+-- word j asks its bit 0 of the first cell, and its bit 1 with the label added of the second; the lower level at the first cell is that of
+-- the bit it shows
 unfoldable pub oneBitPrices : Steps → Stage → Prices
 oneBitPrices S g = record {
   of = λ j. add (bitPrice S (cellAt (g .cells) 0) (odd j)) (bitPrice S (cellAt (g .cells) 1) (odd (j / 2) +₂ getD (g .adds) 0 false));

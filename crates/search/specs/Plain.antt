@@ -1,5 +1,5 @@
--- THE PLAIN SEARCH, on numbers: states, four words, and what each word costs at a stage. It is what a program of the search computes, however it holds its
--- costs; above it everything is proved once, from two facts about a layout (`Quotes`).
+-- THE PLAIN SEARCH, on numbers: states, four words, and what each word costs at a stage. It is what a program of the search computes,
+-- however it holds its costs; above it everything is proved once, from two facts about a layout (`Quotes`).
 --   Prices            the prices of the four words at a stage, and the bit that wins a tie
 --   wordBy words s u  the word that the state s wants with the digit u
 --   priceBy, tieBy    a branch's price, and whether the digit 1 wins a tie
@@ -33,8 +33,8 @@ module _ (words : ℕ → ℕ) where
   unfoldable pub tieBy : Prices → ℕ → Bool
   tieBy q s = Bool·beq (q .stay) (odd (wordBy s true))
 
--- WHAT A LAYOUT MUST SHOW of its prices at the stages that are Ok: they are the least costs of the words that the branches want, and where both branches
--- are open the bit tells which gives the first cell the lower level
+-- WHAT A LAYOUT MUST SHOW of its prices at the stages that are Ok: they are the least costs of the words that the branches want, and where
+-- both branches are open the bit tells which gives the first cell the lower level
 pub record Quotes (E : Encoder) (choose : Choice) (words : ℕ → ℕ) (quote : Stage → Prices) (Ok : Stage → Type 0) : Type 0 where
   pub priced : (g : Stage) → Ok g → (s : ℕ) (u : Bool) → priceBy words (quote g) s u ≡ cost-of (branchN E choose g s u)
   pub tied : (g : Stage) → Ok g → (s : ℕ) (a b : Solution) → branchN E choose g s false ≡ some a → branchN E choose g s true ≡ some b

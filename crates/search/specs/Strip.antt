@@ -1,5 +1,5 @@
--- WHAT A WRITE OF A STRIP IS, for any weights, marks, meaning of levels and encoder: cells are raised to levels whose code words read as the data.
--- No state and no search.
+-- WHAT A WRITE OF A STRIP IS, for any weights, marks, meaning of levels and encoder: cells are raised to levels whose code words read as
+-- the data. No state and no search.
 --   Steps, Dear          the weight of each step, and the highest level; no step below it is free
 --   stepsOf              levels 0 to 3 with three weights
 --   Cell, cellsOf        a cell before the write: its level, and whether it must stay

@@ -1,10 +1,10 @@
--- The best answer computed: the better of two, two one after the other, and over a trellis of states and digits. Closed is `none`, a case of
--- its own, and no number.
---   better r s                the better of two answers
---   joined r s                two answers one after the other, closed as soon as one is
+-- The best solution computed: the better of two, two one after the other, and over a trellis of states and digits. Closed is `none`, a case
+-- of its own, and no number.
+--   better r s                the better of two solutions
+--   joined r s                two solutions one after the other, closed as soon as one is
 --   best branch next gs s     the best over the stages gs from the state s
 --   Valid admit next gs s     what is valid over these stages: some digits admit it
---   all answer is             the parts' answers, one after the other; first-none: the first part that has none
+--   all solution is           the parts' solutions, one after the other; first-none: the first part that has none
 use mathlib.Core.Bool.{Bool, true, false, _&&_, cond, _||_}
 use mathlib.Core.List.{List, [], _∷_, _++_}
 use Prim.Native.Nat.{ℕ, suc, _+_}
@@ -42,7 +42,7 @@ joined (some a) (some b) = some (record { cost = a .cost + b .cost; levels = a .
 abbrev pub free : Solution
 free = record { cost = 0; levels = [] }
 
--- a trellis: at each stage g, a state and a digit lead to a next state by a branch, closed or with its answer
+-- a trellis: at each stage g, a state and a digit lead to a next state by a branch, closed or with its solution
 module _ {G S : Type 0} (branch : G → S → Bool → Option Solution) (next : G → S → Bool → S) where
   unfoldable pub best : List G → S → Option Solution
   best [] s = some free
@@ -56,13 +56,13 @@ module _ {G S : Type 0} (admit : G → S → Bool → Problem) (next : G → S �
   Valid (g ∷ gs) s = Either (λ u. Product (admit g s u) (Valid gs (next g s u)))
 
 -- parts that are independent of each other, one after the other
-module _ {I : Type 0} (answer : I → Option Solution) where
+module _ {I : Type 0} (solution : I → Option Solution) where
   unfoldable pub all : List I → Option Solution
   all [] = some free
-  all (i ∷ is) = joined (answer i) (all is)
+  all (i ∷ is) = joined (solution i) (all is)
 
--- the number of the first part that has no answer: as many as there are parts, where each has one
-module _ {I : Type 0} (answer : I → Option Solution) where
+-- the number of the first part that has no solution: as many as there are parts, where each has one
+module _ {I : Type 0} (solution : I → Option Solution) where
   unfoldable pub first-none : List I → ℕ
   first-none [] = 0
-  first-none (i ∷ is) = elim (answer i) [ none ↦ 0 | some a ↦ suc (first-none is) ]
+  first-none (i ∷ is) = elim (solution i) [ none ↦ 0 | some a ↦ suc (first-none is) ]

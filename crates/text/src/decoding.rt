@@ -59,8 +59,8 @@ fn fill(line: &[u8], data: &mut [u8])
     }
 }
 
-// Whether a line is the text of as many bytes as the data have, two lower-case hexadecimal digits a byte; if so the data are these bytes, if
-// not they are kept.
+// Whether a line is the text of as many bytes as the data have, two lower-case hexadecimal digits a byte; if so the data are these bytes,
+// if not they are kept.
 pub fn decode(line: &[u8], data: &mut [u8]) -> bool
     ensures { λ r. ⌜ r ≡ isData (length (now («data» .entry))) (now (line .entry)) ⌝ }
     ensures { λ _. ⌜ now («data» .exit) ≡ decodedOf (now («data» .entry)) (now (line .entry)) ⌝ }

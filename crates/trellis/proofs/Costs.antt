@@ -1,4 +1,6 @@
 -- Sums and minima of the numbers that tell optional costs: closed stays closed, and no sum brings it back among the costs.
+--   tells-add      two numbers added up tell the two costs one after the other
+--   tells-lesser   the lesser of two numbers tells the lesser of the two costs
 use mathlib.Core.Path.{_≡_, refl, sym, subst}
 use mathlib.Core.Bool.{Bool, true, false, cond}
 use mathlib.Core.Option.{Option, some}

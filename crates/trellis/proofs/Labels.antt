@@ -1,4 +1,6 @@
 -- The register of the labels on numbers: it is the register of the laws, it steps back, and its newest bit is the quotient's.
+--   register-back, register-more   the register steps back and forth by the data bit of a stage
+--   label-quotient, label-le       its newest bit is the quotient's bit, 0 or 1
 use mathlib.Core.Path.{_≡_, sym, _∙_, ap}
 use mathlib.Core.Bool.{true, false}
 use mathlib.Core.List.{List, _∷_}

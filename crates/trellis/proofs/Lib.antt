@@ -1,4 +1,5 @@
--- The laws of the program of the search: one stage, the numbers that tell optional costs, the labels, the costs and digits of all stages, and carrying out.
+-- The laws of the program of the search: one stage, the numbers that tell optional costs, the labels, the costs and digits of all stages,
+-- and carrying out.
 pub mod Stages
 pub mod Signed
 pub mod Costs

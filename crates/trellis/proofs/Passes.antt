@@ -1,4 +1,9 @@
 -- The costs of the states from the last stage to the first: their lengths and bounds, and what one turn of the loop over the stages gives.
+--   steps-le, steps-are         the steps of three weights of a byte each
+--   price-nothing, price-step   what a cell costs to show a bit
+--   is-before, is-digits        a stage of the program gives the costs and the digits of the states before it
+--   store-back                  a loop that stores from the last place back
+--   Held, held-last, held-first, held-asks, held-more   what the loop over the stages holds: at its start, at its end, and through a turn
 use mathlib.Core.Path.{_≡_, refl, _∙_, ap}
 use mathlib.Core.Bool.{Bool, true, false, cond}
 use mathlib.Core.List.{List, [], _∷_}
@@ -138,8 +143,8 @@ store-back r n u x f h e p k l m = go (eqb k u) refl
     go true q = rw (eqb-true k u q) (getD-set-same r u x 0 h ∙ e)
     go false q = getD-set-other r u k x 0 (eqb-false k u q) ∙ p k (let z = eqb-false k u q in omega arith) m
 
--- A LOOP over the stages from the last to the first holds, at stage t, the register of the labels before it and the costs over the stages from it on,
--- for the weights whose steps it has
+-- A LOOP over the stages from the last to the first holds, at stage t, the register of the labels before it and the costs over the stages
+-- from it on, for the weights whose steps it has
 pub record Held (G : Generators) (steps strip content : List ℕ) (n t r : ℕ) (costs : List ℕ) : Type 0 where
   pub within : t ≤ n
   pub register-is : r ≡ registerAt G content t

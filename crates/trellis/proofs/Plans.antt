@@ -1,6 +1,7 @@
--- What the program carries out is the write: along the digits that it follows every state is open, so they are the digits of the plan, and each cell
--- comes to the level that the plan gives it.
---   carried-is     the digits that are followed, carried out, raise the cells to the levels of the write
+-- What the program carries out is the write: along the digits that it follows every state is open, so they are the digits of the plan, and
+-- each cell comes to the level that the plan gives it.
+--   Onward           a stage that is carried out as planned
+--   carried-is       the digits that are followed, carried out, raise the cells to the levels of the write
 --   followed-plans   so the bytes of these digits are a plan
 --   strip-near, write-below   a write raises no cell by more than one, and costs less than closed
 use mathlib.Core.Path.{_≡_, refl, sym, _∙_, ap, ap₂}

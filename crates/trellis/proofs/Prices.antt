@@ -47,7 +47,8 @@ use Rattle.trellis.proofs.Costs.{tells-add, tells-lesser}
 use Rattle.trellis.proofs.Stages.{pick-bit, pick-other, takes-first, takes-second, takes-tie, digits-bit, stage-at}
 use Rattle.trellis.proofs.Labels.{label-quotient}
 
--- what the program asks of a code and its weights: two generators that begin with 1, six digits are all that they reach back, and the weights are three bytes
+-- what the program asks of a code and its weights: two generators that begin with 1, six digits are all that they reach back, and the
+-- weights are three bytes
 pub record Suits (G : Generators) (W : List ℕ) : Type 0 where
   pub proper : Proper G
   pub both : Both G

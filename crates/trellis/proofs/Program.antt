@@ -1,4 +1,5 @@
--- What the program computes on numbers is the plain search: the numbers of its states tell their costs, and the number of state 0 tells the outcome.
+-- What the program computes on numbers is the plain search: the numbers of its states tell their costs, and the number of state 0 tells the
+-- outcome.
 --   stagesFrom, stages-are   the stages of a strip, one after the other
 --   suits                    every code suits weights of three bytes
 --   costs-from               the numbers of the states tell their costs

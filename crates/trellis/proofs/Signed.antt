@@ -1,4 +1,5 @@
 -- A test of two numbers that fit one bit less than their width, made as signed: the vector unit has no unsigned test.
+--   signed-yes, signed-no   where the signed test says less it is less, and where it does not it is not
 use mathlib.Core.Path.{_≡_, sym, ap, ap₂, _∙_}
 use mathlib.Core.Bool.{Bool, true, false}
 use Prim.Native.Nat.{ℕ, suc, _-_, _^_, _<_, _≤_}

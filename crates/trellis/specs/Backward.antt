@@ -1,4 +1,5 @@
--- What the program computes from the last stage to the first, on numbers: prices, labels, the costs of the states and the digits that they take.
+-- What the program computes from the last stage to the first, on numbers: prices, labels, the costs of the states and the digits that they
+-- take.
 --   closed               from this number on there is no cost: more than any write of a strip costs
 --   stepList W           the weights W of the three steps, and closed for a step from level 3
 --   priceFor steps l v   what it costs that a cell at level l shows the bit v

@@ -1,5 +1,5 @@
--- What the program does from the first stage to the last, on numbers: it follows the digits that the states took, and raises the cells that the digits want
--- raised.
+-- What the program does from the first stage to the last, on numbers: it follows the digits that the states took, and raises the cells that
+-- the digits want raised.
 --   stateAt u t        the state before stage t, by the digits u
 --   followed dec       the digits that are taken from state 0 by the decisions dec
 --   wantedFirst, wantedSecond   the bits that the digits want of a stage's cells

@@ -1,4 +1,5 @@
--- One backward stage of the search on numbers: what each state costs to the end, and the digit that it takes, from what the states after it cost.
+-- One backward stage of the search on numbers: what each state costs to the end, and the digit that it takes, from what the states after it
+-- cost.
 --   mostPrice, mostCost   the most that a price and a cost may be
 --   pick d x y       x for the digit 0, else y
 --   below x y        1 where x is below y, else 0

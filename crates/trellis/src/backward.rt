@@ -1,5 +1,5 @@
-// From the last stage to the first: what the data of a strip costs, and the digits that the states take. The caller makes the words of the code once, for
-// every strip.
+// From the last stage to the first: what the data of a strip costs, and the digits that the states take. The caller makes the words of the
+// code once, for every strip.
 use crate::Outcome;
 use crate::stage::stage;
 use codes::Code;

@@ -68,7 +68,8 @@ pub fn plan_strip(
     requires { ⌜ Shaped (generatorsOf code) weights (now words) (now strip) (now «data») ⌝ }
     requires { ⌜ length (now digits) ≡ length (now «data») ⌝ }
     ensures { λ r. ⌜ r ≡ solutionOutcome (writeOf (generatorsOf code) weights (now (strip .entry)) (now («data» .entry))) ⌝ }
-    ensures { λ _. ⌜ (length (now (digits .exit)) ≡ length (now («data» .entry))) × Plans (generatorsOf code) weights (now (strip .entry)) (now («data» .entry)) (now (digits .exit)) ⌝ }
+    ensures { λ _. ⌜ (length (now (digits .exit)) ≡ length (now («data» .entry)))
+        × Plans (generatorsOf code) weights (now (strip .entry)) (now («data» .entry)) (now (digits .exit)) ⌝ }
 {
     let mut decisions = [0u64; 512];
     let r = decide(code, words, weights, strip, data, &mut decisions);
@@ -89,7 +90,8 @@ fn raise_if(strip: &mut [u8], cell: u32, wanted: u32)
 // Carries the digits out: each cell that does not show the bit that they want is raised by one.
 pub fn carry_strip(code: Code, strip: &mut [u8], data: &[u8], digits: &[u8])
     requires { ⌜ CarryAsked (now strip) (now «data») (now digits) ⌝ }
-    ensures { λ _. ⌜ now (strip .exit) ≡ raisedTo startOf (now (strip .entry)) (carriedTo (generatorsOf code) (now (strip .entry)) (now («data» .entry)) (bitOf (now (digits .entry)))) ⌝ }
+    ensures { λ _. ⌜ now (strip .exit) ≡ raisedTo startOf (now (strip .entry))
+        (carriedTo (generatorsOf code) (now (strip .entry)) (now («data» .entry)) (bitOf (now (digits .entry)))) ⌝ }
 {
     let first = code.g1_taps();
     let second = code.g2_taps();

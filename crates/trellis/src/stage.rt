@@ -56,10 +56,12 @@ fn half(
     b1: u32,
     stay: u32,
 ) -> u32
-    requires { ⌜ HalfAsked mostCost mostPrice (lesserOf 64 (now after) (now words) a0 a1 b0 b1) (now costs) (now after) at a0 a1 b0 b1 stay ⌝ }
+    requires { ⌜ HalfAsked mostCost mostPrice
+        (lesserOf 64 (now after) (now words) a0 a1 b0 b1) (now costs) (now after) at a0 a1 b0 b1 stay ⌝ }
     ensures { λ r. ⌜ r ≡ number 32 (λ k. digitOf 64 (now (after .entry)) (now (words .entry)) a0 a1 b0 b1 stay (at + k)) ⌝ }
     ensures { λ r. ⌜ length (now (costs .exit)) ≡ 64 ⌝ }
-    ensures { λ r. ⌜ ((k : ℕ) → k < at + 32 → getD (now (costs .exit)) k 0 ≡ lesserOf 64 (now (after .entry)) (now (words .entry)) a0 a1 b0 b1 k) ⌝ }
+    ensures { λ r. ⌜ ((k : ℕ) → k < at + 32
+        → getD (now (costs .exit)) k 0 ≡ lesserOf 64 (now (after .entry)) (now (words .entry)) a0 a1 b0 b1 k) ⌝ }
 {
     let mut digits: u32 = 0;
     let mut i: usize = 0;

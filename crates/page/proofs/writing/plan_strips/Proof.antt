@@ -1,4 +1,5 @@
--- The invariant: with the outcomes of the strips from k on, the total comes to the page's answer, and the parts of the digits before k are the strips' plans.
+-- The invariant: with the outcomes of the strips from k on, the total comes to the page's answer, and the parts of the digits before k are
+-- the strips' plans.
 use mathlib.Core.Path.{sym, _∙_}
 use Prim.Native.Nat.{_+_, _*_, _-_, _≤_}
 use native.Mathlib.Omega.{arith}

@@ -1,4 +1,5 @@
--- The invariant: with the outcomes of the strips from k on, the total comes to the page's answer. A total that is spent stays, so it may answer at once.
+-- The invariant: with the outcomes of the strips from k on, the total comes to the page's answer. A total that is spent stays, so it may
+-- answer at once.
 use Prim.Native.Nat.{_+_, _*_, _-_, _≤_}
 use native.Mathlib.Omega.{arith}
 use lib.ListN.{length}

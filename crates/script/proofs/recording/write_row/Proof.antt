@@ -10,11 +10,11 @@ write-requires c κs = search needs
 size-requires : tie.Need-size-requires
 size-requires c κs = search needs
 
-mul-raises : tie.Need-mul-raises
-mul-raises c = search needs
-
 cast-raises : tie.Need-cast-raises
 cast-raises c = search needs
+
+mul-raises : tie.Need-mul-raises
+mul-raises c = search needs
 
 raises-requires : tie.Need-raises-requires
 raises-requires c κs = search needs
@@ -54,8 +54,8 @@ write-row-spec =
     (tie.spec
     write-requires
     size-requires
-    mul-raises
     cast-raises
+    mul-raises
     raises-requires
     number-requires
     cast-put-row

@@ -1,4 +1,5 @@
--- The invariant: the register is that of the labels before stage t, the costs are those over the stages from t on, and these have their digits.
+-- The invariant: the register is that of the labels before stage t, the costs are those over the stages from t on, and these have their
+-- digits.
 use mathlib.Core.Path.{_≡_, ap, _∙_}
 use mathlib.Core.List.{List}
 use Prim.Native.Nat.{ℕ, suc, _≤_, _<_, _*_, _-_}

@@ -1,4 +1,5 @@
--- The levels of the two cells give the four prices, the second cell's with the label added, and a stage of 64 states with these prices is the stage before.
+-- The levels of the two cells give the four prices, the second cell's with the label added, and a stage of 64 states with these prices is
+-- the stage before.
 use borrow.Author.Needs.{needs}
 use Rattle.trellis.proofs.Passes.{is-before, is-digits}
 use Rattle.trellis.proofs.backward.stage_before.Statement.{statement}

@@ -1,4 +1,5 @@
--- The two halves do the 64 states from a copy of the costs, the second on top of the first; their digits joined are the 64 bits of all digits.
+-- The two halves do the 64 states from a copy of the costs, the second on top of the first; their digits joined are the 64 bits of all
+-- digits.
 use borrow.Author.Needs.{needs}
 use Rattle.trellis.specs.Stage.{digitOf, digitsOf}
 use Rattle.trellis.proofs.Stages.{halves, is-stage}
