@@ -1,10 +1,10 @@
 -- DEMAND 3, proved: where the computed write of a page has a solution, the page raised to its levels is the cheapest of ALL pages that read
 -- as the data with no cell lowered and marked cells kept; where it has none, no page is, and the strip named is the lowest that takes no
 -- pattern. For any layout, code, weights and marks, any L and S, and every content.
---   problem-solves   the write of a strip is its best
---   solution-raised    the page raised to a solution's levels has these levels
---   cheapest         a solution is the cheapest
---   spent-at         no solution: the page is spent, at the first strip that has none
+--   problem-solves    the write of a strip is its best
+--   solution-raised   the page raised to a solution's levels has these levels
+--   cheapest          a solution is the cheapest
+--   spent-at          no solution: the page is spent, at the first strip that has none
 use mathlib.Core.Path.{_≡_, refl, sym, _∙_, ap, fun-ext}
 use mathlib.Core.Bool.{Bool, true, false}
 use mathlib.Core.List.{List, [], _∷_}
