@@ -3,7 +3,7 @@
 use Prim.Native.Nat.{ℕ, _+_, _*_, _^_}
 use Rattle.page.specs.Answers.{numberOf, valueOf, completionNumber}
 use Rattle.page.specs.declared.Answer.{Answer}
-use Rattle.page.specs.declared.Completion.{Completion}
+use Rattle.refusals.specs.declared.Completion.{Completion}
 
 -- 'To C an answer is one unsigned 64-bit number: 0 or the refusal's number, times 2^32, plus the cost, or plus the strip's number where the
 -- page is spent.'

@@ -8,8 +8,8 @@ ghost use Prim.Native.Nat.{_+_, _*_};
 ghost use lib.ListN.{length, replicate};
 ghost use Rattle.cells.specs.Climbs.{house};
 ghost use Rattle.page.specs.Reading.{readPage};
-ghost use Rattle.page.specs.Refusals.{shapeGround, eraseGround, first-of, ground, numbered};
-ghost use Rattle.page.specs.Answers.{completionOf, kept, answerOf, pageOf};
+ghost use Rattle.refusals.specs.Refusals.{shapeGround, eraseGround, first-of, ground, numbered, completionOf};
+ghost use Rattle.page.specs.Answers.{kept, answerOf, pageOf};
 ghost use Rattle.page.specs.Promise.{Wrote};
 ghost use Rattle.firmware.specs.Words.{answerWord, completionWord};
 

@@ -26,13 +26,12 @@ use Rattle.search.proofs.Parity.{house-dear}
 use Rattle.demand.specs.Demand.{costIn}
 use Rattle.demand.specs.Computed.{pageWrite}
 use Rattle.demand.proofs.Demand.{solution-raised}
-use Rattle.page.specs.Refusals.{ground, numbered}
+use Rattle.refusals.specs.Refusals.{ground, numbered}
 use Rattle.page.specs.Answers.{callPage, pageIn, jobOf, pageOf, answerOf}
 use Rattle.page.specs.Promise.{Wrote, done}
-use Rattle.page.specs.declared.Refusal.{Refusal}
+use Rattle.refusals.specs.declared.Refusal.{Refusal}
 use Rattle.page.specs.declared.Answer.the-variants as A
-use Rattle.page.proofs.Refusals.{in-order}
-use Rattle.page.proofs.Strips.{one-to-64}
+use Rattle.refusals.proofs.Refusals.{in-order, one-to-64}
 use Rattle.page.proofs.Promise.{numbered-suits, job-in-order, wrote}
 use Rattle.page.proofs.Plans.{page-near}
 

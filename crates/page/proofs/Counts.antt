@@ -21,14 +21,13 @@ use Rattle.codes.specs.Layouts.{Layout, oneBit, cellsIn, bytesIn}
 use Rattle.demand.specs.Jobs.{part}
 use Rattle.demand.specs.Reading.{stripLevels}
 use Rattle.demand.proofs.Jobs.{part-level}
-use Rattle.page.specs.Refusals.{shapeGround}
-use Rattle.page.specs.Answers.{completionOf}
+use Rattle.refusals.specs.Refusals.{shapeGround, completionOf}
 use Rattle.page.specs.Counting.{countOf, rowOf, zeroRow, rowAt, rowsOf, censusOf}
-use Rattle.page.specs.declared.Refusal.{Refusal}
-use Rattle.page.specs.declared.Completion.{Completion}
-use Rattle.page.specs.declared.Completion.the-variants.{Refused}
+use Rattle.refusals.specs.declared.Refusal.{Refusal}
+use Rattle.refusals.specs.declared.Completion.{Completion}
+use Rattle.refusals.specs.declared.Completion.the-variants.{Refused}
 use Rattle.page.specs.declared.Row.{Row}
-use Rattle.page.proofs.Refusals.{refused-some}
+use Rattle.refusals.proofs.Refusals.{refused-some}
 
 -- A ROW. One cell more
 count-more : (n : ℕ) (v : ℕ → ℕ) (l : ℕ) → countOf (n + 1) v l ≡ countOf n v l + cond (eqb (v n) l) 1 0

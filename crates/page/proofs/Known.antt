@@ -37,9 +37,8 @@ use Rattle.search.proofs.Layouts.{oneBit-write}
 use Rattle.demand.specs.Jobs.{part}
 use Rattle.demand.specs.Reading.{stripLevels, readBy}
 use Rattle.demand.specs.Computed.{stripBytes, stripWrite, pageWrite, spentStrip}
-use Rattle.page.specs.Shape.{oneTo64}
+use Rattle.refusals.specs.Refusals.{oneTo64, codeGround, bytesGround, stripsGround, limitsGround, sizesGround, pageGround, dataGround, shapeGround, ground, numbered}
 use Rattle.page.specs.Reading.{readPage}
-use Rattle.page.specs.Refusals.{codeGround, bytesGround, stripsGround, limitsGround, sizesGround, pageGround, dataGround, shapeGround, ground, numbered}
 use Rattle.page.specs.Answers.{callAnswer, callPage, answerIn, pageIn, jobOf, answerOf, pageOf}
 use Rattle.page.specs.Known.{Case, Expected, reads, done, spent, Expects, Says, cases}
 use Rattle.page.specs.declared.Answer.{Answer}

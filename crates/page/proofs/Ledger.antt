@@ -16,13 +16,13 @@ use Rattle.cells.specs.Levels.{level, raisesOf}
 use Rattle.cells.proofs.Places.{sumOf-same, sumOf-add, sumOf-zero}
 use Rattle.codes.specs.Layouts.{oneBit, cellsIn}
 use Rattle.codes.proofs.Layouts.{oneBit-cells, oneBit-bytes}
-use Rattle.page.specs.Refusals.{ground}
+use Rattle.refusals.specs.Refusals.{ground}
 use Rattle.page.specs.Answers.{kept, pageOf}
 use Rattle.page.specs.Promise.{Wrote, done, spent, refused}
 use Rattle.page.specs.Ledger.{cellsOn, raisesMade, Event, raised, erased, looked, Fair, fair-raise, fair-erase, fair-look, pageAfter, counted, Call, write, erase, look, erasing, eventOf, played, tallied}
-use Rattle.page.specs.declared.Refusal.{Refusal}
+use Rattle.refusals.specs.declared.Refusal.{Refusal}
 use Rattle.page.specs.declared.Answer.{Answer}
-use Rattle.page.proofs.Refusals.{in-order}
+use Rattle.refusals.proofs.Refusals.{in-order}
 use Rattle.page.proofs.Promise.{wrote}
 
 -- ERASED PAGES. Every bit is 0

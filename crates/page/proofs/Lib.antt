@@ -1,7 +1,6 @@
--- The laws of a page: the strips within it, the grounds of a refusal, the running total, the calls' promises, plans, the loops over the
+-- The laws of a page: the strips within it, the running total, the calls' promises, plans, the loops over the
 -- strips, the census, the ledger, the bounds and the table of known cases.
 pub mod Strips
-pub mod Refusals
 pub mod Counts
 pub mod Totals
 pub mod Promise

@@ -36,20 +36,20 @@ use Rattle.demand.specs.Computed.{stripWrite, pageWrite, spentStrip}
 use Rattle.demand.proofs.Jobs.{part-length}
 use Rattle.page.specs.Shape.{stripOf, Sized}
 use Rattle.page.specs.Totals.{noTotal, added, totalFrom, answerFor}
-use Rattle.page.specs.Refusals.{ground, numbered}
-use Rattle.page.specs.Answers.{completionOf, callAnswer, callPage, plainJob, answerIn, pageIn, answerOf, pageOf}
+use Rattle.refusals.specs.Refusals.{ground, numbered, completionOf}
+use Rattle.page.specs.Answers.{callAnswer, callPage, plainJob, answerIn, pageIn, answerOf, pageOf}
 use Rattle.page.specs.Promise.{Wrote}
 use Rattle.page.specs.Plans.{stripAt, Planned, Carried}
-use Rattle.page.specs.declared.Refusal.{Refusal}
+use Rattle.refusals.specs.declared.Refusal.{Refusal}
 use Rattle.page.specs.declared.Total.{Total}
 use Rattle.page.specs.declared.Answer.{Answer}
 use Rattle.page.specs.declared.Answer.the-variants as A
-use Rattle.page.specs.declared.Completion.{Completion}
-use Rattle.page.specs.declared.Completion.the-variants as C
-use Rattle.page.proofs.Strips.{one-to-64, strip-there, part-more, lent-length, stored-length}
+use Rattle.refusals.specs.declared.Completion.{Completion}
+use Rattle.refusals.specs.declared.Completion.the-variants as C
+use Rattle.page.proofs.Strips.{strip-there, part-more, lent-length, stored-length}
+use Rattle.refusals.proofs.Refusals.{one-to-64, in-order, done-none, refused-some}
 use Rattle.page.proofs.Totals.{page-answers, total-spent, total-same}
 use Rattle.page.proofs.Plans.{write-same, strip-below, carried-page}
-use Rattle.page.proofs.Refusals.{in-order, done-none, refused-some}
 use Rattle.page.proofs.Promise.{wrote}
 
 -- LENT PARTS. The part that a turn lends

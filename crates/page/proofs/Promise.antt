@@ -28,13 +28,13 @@ use Rattle.demand.specs.Jobs.{Job, width, Whole, InOrder}
 use Rattle.demand.specs.Demand.{Could}
 use Rattle.demand.specs.Computed.{pageWrite, spentStrip}
 use Rattle.demand.proofs.Demand.{cheapest, spent-at}
-use Rattle.page.specs.Refusals.{ground, numbered}
+use Rattle.refusals.specs.Refusals.{ground, numbered}
 use Rattle.page.specs.Answers.{callAnswer, callPage, answerIn, pageIn, jobOf, answerOf, pageOf}
 use Rattle.page.specs.Promise.{Promised, Wrote, done, spent, refused}
-use Rattle.page.specs.declared.Refusal.{Refusal}
+use Rattle.refusals.specs.declared.Refusal.{Refusal}
 use Rattle.page.specs.declared.Answer.{Answer}
 use Rattle.page.specs.declared.Answer.the-variants as A
-use Rattle.page.proofs.Refusals.{in-order}
+use Rattle.refusals.proofs.Refusals.{in-order}
 
 -- ANY JOB that is in order where it has no ground
 pub promise-kept : (g : Option Refusal) (J : Job) → (g ≡ none → InOrder J) → Promised g J (pageIn g J) (answerIn g J)

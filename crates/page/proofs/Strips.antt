@@ -1,5 +1,4 @@
--- A strip within the page: what the limits say, which strips lie in a page, and parts that are stored one by one.
---   one-to-64, limits-in, limits-below, limits-above   the limits
+-- A strip within the page: which strips lie in a page, and parts that are stored one by one.
 --   part-ends                                          where a part of a list ends
 --   strip-outside, strip-beyond, strip-inside, strip-there   which strips lie in a page
 --   lent-length, stored-length, part-more              parts that a loop lends and stores
@@ -18,34 +17,10 @@ use borrow.Author.Tests.{le-leb, lt-leb, leb-true}
 use Rattle.codes.specs.Layouts.{oneBit, bytesIn}
 use Rattle.codes.proofs.Layouts.{oneBit-bytes}
 use Rattle.demand.specs.Jobs.{part}
-use Rattle.page.specs.Shape.{oneTo64, inPage, stripOf}
+use Rattle.page.specs.Shape.{inPage, stripOf}
+use Rattle.refusals.specs.Refusals.{oneTo64}
+use Rattle.refusals.proofs.Refusals.{one-to-64}
 use Rattle.cells.proofs.Parts.{within}
-
--- two tests that hold together hold each
-both : (a b : Bool) → (a && b) ≡ true → (a ≡ true) × (b ≡ true)
-both true b e = (refl, e)
-both false b e = (e, let z : _≡_ {A = ℕ} 0 1 = cc in absurd (omega arith))
-
--- THE LIMITS. What a number from 1 to 64 is
-pub one-to-64 : (n : ℕ) → oneTo64 n ≡ true → (1 ≤ n) × (n ≤ 64)
-unfolding oneTo64
-one-to-64 n e = let p = both (leb 1 n) (leb n 64) e in (leb-true 1 n (p .0), leb-true n 64 (p .1))
-
-module _ (n : ℕ) where
-  -- a number from 1 to 64
-  pub limits-in : 1 ≤ n → n ≤ 64 → oneTo64 n ≡ true
-  unfolding oneTo64
-  limits-in l h = simp (le-leb _ _ l, le-leb _ _ h)
-
-  -- a number below 1
-  pub limits-below : n < 1 → oneTo64 n ≡ false
-  unfolding oneTo64
-  limits-below l = simp (lt-leb _ _ l)
-
-  -- a number above 64
-  pub limits-above : 64 < n → oneTo64 n ≡ false
-  unfolding oneTo64
-  limits-above h = let l : 1 ≤ n = omega arith in simp (le-leb _ _ l, lt-leb _ _ h)
 
 -- THE PAGE'S END. Part k of parts of n places ends within size places where it is one of the whole parts
 pub part-ends : (n k size : ℕ) → k < size / n → n * k + n ≤ size

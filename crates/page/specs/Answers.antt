@@ -1,5 +1,4 @@
 -- The answers of the calls on every input, with the paper's number and values for each case.
---   completionOf         done, or the refusal
 --   answerIn, pageIn     the answer of a job and the page after it, by the ground of a refusal
 --   answerOf, pageOf     a write's answer, and the page after it
 --   numberOf, valueOf    an answer's number and value in the paper
@@ -13,20 +12,15 @@ use Rattle.codes.specs.Generators.{Generators}
 use Rattle.codes.specs.Layouts.{oneBit}
 use Rattle.search.specs.Best.{Solution}
 use Rattle.search.specs.Levels.{levelAt}
-use Rattle.page.specs.Refusals.{ground, refusalNumber, numbered}
+use Rattle.refusals.specs.Refusals.{ground, refusalNumber, numbered}
 use Rattle.search.specs.Layouts.{unmarked}
 use Rattle.demand.specs.Jobs.{Job, width}
 use Rattle.demand.specs.Computed.{pageWrite, spentStrip}
-use Rattle.page.specs.declared.Refusal.{Refusal}
+use Rattle.refusals.specs.declared.Refusal.{Refusal}
 use Rattle.page.specs.declared.Answer.{Answer}
 use Rattle.page.specs.declared.Answer.the-variants as A
-use Rattle.page.specs.declared.Completion.{Completion}
-use Rattle.page.specs.declared.Completion.the-variants as C
-
--- 'Read, erase and census answer done or the refusal.'
-abbrev pub completionOf : Option Refusal → Completion
-completionOf none = C.Done
-completionOf (some r) = C.Refused r
+use Rattle.refusals.specs.declared.Completion.{Completion}
+use Rattle.refusals.specs.declared.Completion.the-variants as C
 
 -- 'Page, data and buffers are unchanged' with any refusal
 abbrev pub kept : {A : Type 0} → Option Refusal → A → A → A

@@ -11,9 +11,8 @@ use lib.ListN.{length}
 use Rattle.cells.specs.Places.{listOf, sumOf}
 use Rattle.codes.specs.Layouts.{Layout, oneBit, cellsIn}
 use Rattle.demand.specs.Reading.{stripLevels}
-use Rattle.page.specs.Refusals.{shapeGround}
-use Rattle.page.specs.Answers.{completionOf}
-use Rattle.page.specs.declared.Refusal.{Refusal}
+use Rattle.refusals.specs.Refusals.{shapeGround, completionOf}
+use Rattle.refusals.specs.declared.Refusal.{Refusal}
 use Rattle.page.specs.declared.Row.{Row}
 use Rattle.page.specs.declared.Census.{Census}
 

@@ -7,7 +7,7 @@ use mathlib.Core.Path.{_≡_}
 use mathlib.Core.List.{List, [], _∷_, _++_}
 use Prim.Native.Nat.{ℕ}
 use Rattle.page.specs.Reading.{readPage}
-use Rattle.page.specs.Refusals.{numbered}
+use Rattle.refusals.specs.Refusals.{numbered}
 use Rattle.page.specs.declared.Answer.{Answer}
 use Rattle.page.specs.declared.Answer.the-variants as A
 

@@ -14,9 +14,9 @@ use lib.ListN.{length, replicate}
 use Rattle.cells.specs.Places.{sumOf}
 use Rattle.cells.specs.Bytes.{Octets}
 use Rattle.cells.specs.Levels.{level, raisesOf}
-use Rattle.page.specs.Refusals.{shapeGround, eraseGround, first-of}
+use Rattle.refusals.specs.Refusals.{shapeGround, eraseGround, first-of}
 use Rattle.page.specs.Answers.{kept, pageOf}
-use Rattle.page.specs.declared.Refusal.{Refusal}
+use Rattle.refusals.specs.declared.Refusal.{Refusal}
 
 -- every cell of a page of so many bytes
 unfoldable pub cellsOn : List ℕ → ℕ

@@ -1,7 +1,6 @@
 -- What the calls promise is stated by these definitions, in this order; `Ledger` counts the raises, and `Known` is the paper's table.
 pub mod Shape
 pub mod Reading
-pub mod Refusals
 pub mod Totals
 pub mod Answers
 pub mod Promise

@@ -8,9 +8,9 @@ use Prim.Native.Nat.{ℕ}
 use lib.ListN.{length}
 use Rattle.demand.specs.Jobs.{Job}
 use Rattle.demand.specs.Demand.{Cheapest, SpentAt}
-use Rattle.page.specs.Refusals.{ground}
+use Rattle.refusals.specs.Refusals.{ground}
 use Rattle.page.specs.Answers.{jobOf}
-use Rattle.page.specs.declared.Refusal.{Refusal}
+use Rattle.refusals.specs.declared.Refusal.{Refusal}
 use Rattle.page.specs.declared.Answer.{Answer}
 use Rattle.page.specs.declared.Answer.the-variants as A
 

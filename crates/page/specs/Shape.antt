@@ -1,5 +1,4 @@
 -- The shape of a page: its limits, its strips, and input in order.
---   oneTo64             the limits of L and of S
 --   inPage              whether a strip lies in the page
 --   stripOf             the strip, or the empty part where it does not
 --   Sized               a page and data of S strips of L bytes
@@ -11,10 +10,7 @@ use lib.Dec.{leb}
 use lib.ListN.{length}
 use Rattle.codes.specs.Layouts.{Layout, oneBit, bytesIn}
 use Rattle.demand.specs.Jobs.{part}
-
--- 'L from 1 to 64'
-unfoldable pub oneTo64 : ℕ → Bool
-oneTo64 n = leb 1 n && leb n 64
+use Rattle.refusals.specs.Refusals.{oneTo64}
 
 -- L is within its limits, and the strip ends at the page's end or before it
 unfoldable pub inPage : ℕ → ℕ → List ℕ → Bool

@@ -1,9 +1,9 @@
 // The paper's numbers and values of the answers.
 use crate::Answer;
-use crate::Completion;
-use crate::Refusal;
+use refusals::Completion;
+use refusals::Refusal;
 ghost use mathlib.Core.Path.{_≡_};
-ghost use Rattle.page.specs.Refusals.{refusalNumber};
+ghost use Rattle.refusals.specs.Refusals.{refusalNumber};
 ghost use Rattle.page.specs.Answers.{numberOf, valueOf, completionNumber};
 
 // The number of a refusal.

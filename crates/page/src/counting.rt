@@ -1,13 +1,13 @@
 // The census of a page: how many cells of each strip are at each level.
 use crate::Census;
-use crate::Completion;
 use crate::Row;
 use crate::shape;
+use refusals::Completion;
 ghost use mathlib.Core.Path.{_≡_};
 ghost use Prim.Native.Nat.{_≤_};
 ghost use Rattle.cells.specs.Levels.{level};
 ghost use Rattle.page.specs.Counting.{rowOf, rowsOf, censusOf};
-ghost use Rattle.page.specs.Refusals.{shapeGround};
+ghost use Rattle.refusals.specs.Refusals.{shapeGround};
 
 // The row of a strip of this many cells.
 fn row_of(strip: &[u8], cells: u32) -> Row
@@ -30,7 +30,7 @@ pub fn census(bytes: u32, strips: u32, page: &[u8]) -> Census
 {
     let zero = Row { counts: [0; 4] };
     let mut rows = [zero; 64];
-    let judged = shape::judge_shape(bytes, strips, page.len());
+    let judged = refusals::judge_shape(bytes, strips, page.len());
     let Completion::Done = judged else {
         return Census {
             answer: judged,
@@ -41,7 +41,7 @@ pub fn census(bytes: u32, strips: u32, page: &[u8]) -> Census
     while k < strips as usize {
         let r = row_of(
             shape::strip(page, bytes as usize, k),
-            shape::STRIP_CELLS * bytes,
+            codes::STRIP_CELLS * bytes,
         );
         rows[k] = r;
         k += 1;

@@ -7,30 +7,16 @@ pub mod reading;
 pub mod shape;
 pub mod writing;
 
+pub use refusals::Completion;
+pub use refusals::Refusal;
 use trellis::Outcome;
 ghost use mathlib.Core.Path.{_≡_};
 ghost use Rattle.page.specs.Totals.{noTotal, added, answerFor};
-
-// Why a call is refused, in the order of the tests; the paper's numbers are 1 to 5 and 8.
-pub enum Refusal {
-    CodeUnknown,
-    BytesOutside,
-    StripsOutside,
-    PageLength,
-    DataLength,
-    EraseTemperature,
-}
 
 // The answer of a write, and of a price: done with the cost, spent with the strip's number, or refused.
 pub enum Answer {
     Done(u32),
     Spent(u32),
-    Refused(Refusal),
-}
-
-// The answer of the other calls.
-pub enum Completion {
-    Done,
     Refused(Refusal),
 }
 

@@ -1,15 +1,15 @@
 // Reading a page.
-use crate::Completion;
 use crate::shape;
 use codes::Code;
+use refusals::Completion;
 ghost use mathlib.Core.Path.{_≡_};
 ghost use lib.ListN.{length};
 ghost use Rattle.codes.specs.Layouts.{oneBit};
 ghost use Rattle.codes.specs.Codes.{generatorsOf};
 ghost use Rattle.page.specs.Shape.{Sized};
 ghost use Rattle.page.specs.Reading.{readPage};
-ghost use Rattle.page.specs.Refusals.{ground, numbered};
-ghost use Rattle.page.specs.Answers.{completionOf, kept};
+ghost use Rattle.refusals.specs.Refusals.{ground, numbered, completionOf};
+ghost use Rattle.page.specs.Answers.{kept};
 
 // Reads each strip into its own part of the buffer.
 fn read_strips(code: Code, bytes: usize, strips: usize, page: &[u8], data: &mut [u8])
@@ -29,11 +29,11 @@ pub fn read(code: u32, bytes: u32, strips: u32, page: &[u8], data: &mut [u8]) ->
     ensures { λ r. ⌜ r ≡ completionOf (ground code bytes strips (length (now (page .entry))) (length (now («data» .entry)))) ⌝ }
     ensures { λ _. ⌜ now («data» .exit) ≡ kept (ground code bytes strips (length (now (page .entry))) (length (now («data» .entry)))) (readPage (numbered code) bytes strips (now (page .entry))) (now («data» .entry)) ⌝ }
 {
-    let judged = shape::judge(code, bytes, strips, page.len(), data.len());
+    let judged = refusals::judge(code, bytes, strips, page.len(), data.len());
     match judged {
         Completion::Done => {
             read_strips(
-                shape::code_of(code),
+                refusals::code_of(code),
                 bytes as usize,
                 strips as usize,
                 page,

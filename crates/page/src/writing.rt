@@ -1,9 +1,9 @@
 // Pricing and writing a page. A write plans every strip before it touches one.
 use crate::Answer;
-use crate::Completion;
 use crate::Total;
 use crate::shape;
 use codes::Code;
+use refusals::Completion;
 use trellis::backward::price_strip;
 use trellis::backward::words_of;
 use trellis::forward::carry_strip;
@@ -107,7 +107,7 @@ fn carry_strips(
     ensures { λ _. ⌜ Carried (generatorsOf code) bytes strips
         (now (page .entry)) (now («data» .entry)) (now (digits .entry)) (now (page .exit)) ⌝ }
 {
-    let n = shape::STRIP_BYTES * bytes;
+    let n = codes::STRIP_BYTES * bytes;
     let mut k: usize = 0;
     while k < strips {
         let a = n * k;
@@ -163,10 +163,10 @@ pub fn price(code: u32, bytes: u32, strips: u32, page: &[u8], data: &[u8]) -> An
     ensures { λ r. ⌜ r ≡ answerOf house code bytes strips (now (page .entry)) (now («data» .entry)) ⌝ }
     ensures { λ r. ⌜ Wrote house code bytes strips (now (page .entry)) (now («data» .entry)) (pageOf house code bytes strips (now (page .entry)) (now («data» .entry))) r ⌝ }
 {
-    let judged = shape::judge(code, bytes, strips, page.len(), data.len());
+    let judged = refusals::judge(code, bytes, strips, page.len(), data.len());
     match judged {
         Completion::Done => price_strips(
-            shape::code_of(code),
+            refusals::code_of(code),
             cells::house_weights(),
             bytes as usize,
             strips as usize,
@@ -183,10 +183,10 @@ pub fn write(code: u32, bytes: u32, strips: u32, page: &mut [u8], data: &[u8]) -
     ensures { λ r. ⌜ now (page .exit) ≡ pageOf house code bytes strips (now (page .entry)) (now («data» .entry)) ⌝ }
     ensures { λ r. ⌜ Wrote house code bytes strips (now (page .entry)) (now («data» .entry)) (now (page .exit)) r ⌝ }
 {
-    let judged = shape::judge(code, bytes, strips, page.len(), data.len());
+    let judged = refusals::judge(code, bytes, strips, page.len(), data.len());
     match judged {
         Completion::Done => write_strips(
-            shape::code_of(code),
+            refusals::code_of(code),
             cells::house_weights(),
             bytes as usize,
             strips as usize,

@@ -1,7 +1,6 @@
 // The run program: reads standard input line by line, hands each line to the library, and prints what it answers. It moves bytes only.
 use libc::STDIN_FILENO;
 use libc::STDOUT_FILENO;
-use page::shape;
 use script::Turn;
 use script::following;
 use script::recording;
@@ -52,7 +51,7 @@ fn take_line(values: Values, number: u64, line: &[u8], page: &mut [u8], data: &m
             number,
             values,
             line,
-            start_mut(page, shape::STRIP_BYTES * n),
+            start_mut(page, codes::STRIP_BYTES * n),
             start_mut(data, n),
             &mut buffer,
         );

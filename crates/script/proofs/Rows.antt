@@ -10,10 +10,10 @@ use native.Mathlib.Omega.{arith}
 use native.Mathlib.Nat.{mul-le-mul}
 use Rattle.cells.specs.Levels.{raisesOf}
 use Rattle.page.specs.declared.Answer.{Answer}
-use Rattle.page.specs.declared.Refusal.{Refusal}
-use Rattle.page.specs.Refusals.{sizesGround}
+use Rattle.refusals.specs.declared.Refusal.{Refusal}
+use Rattle.refusals.specs.Refusals.{sizesGround}
 use Rattle.page.specs.Answers.{numberOf}
-use Rattle.page.proofs.Refusals.{limits-most, sizes-limits}
+use Rattle.refusals.proofs.Refusals.{limits-most, sizes-limits}
 use Rattle.text.specs.declared.Values.{Values}
 use Rattle.text.specs.Text.{rowText}
 use Rattle.script.specs.Rows.{sizeOf, answerBy, pageBy, answerCost, rowAfter, writeRow}

@@ -8,8 +8,7 @@ use Rattle.cells.specs.Places.{sumOf, Each}
 use Rattle.cells.proofs.Places.{each-first, each-rest}
 use Rattle.cells.specs.Bytes.{bitOf}
 use Rattle.cells.specs.Levels.{level, raisesOf}
-use Rattle.page.specs.Shape.{oneTo64}
-use Rattle.page.specs.Refusals.{codeGround, bytesGround, stripsGround, limitsGround, sizesGround}
+use Rattle.refusals.specs.Refusals.{oneTo64, codeGround, bytesGround, stripsGround, limitsGround, sizesGround}
 use Rattle.page.specs.declared.Answer.the-variants as A
 use Rattle.page.proofs.Known.{cases-hold}
 use Rattle.text.specs.declared.Values.{Values}

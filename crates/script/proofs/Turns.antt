@@ -15,14 +15,14 @@ use lib.ListN.{length, length-append}
 use borrow.Author.Tests.{eq-eqb}
 use Rattle.cells.specs.Climbs.{house}
 use Rattle.search.specs.Best.{Solution}
-use Rattle.page.specs.declared.Refusal.{Refusal}
-use Rattle.page.specs.declared.Completion.{Completion}
-use Rattle.page.specs.declared.Completion.the-variants.{Done, Refused}
-use Rattle.page.specs.Refusals.{sizesGround, pageGround, dataGround, ground, refusalNumber}
+use Rattle.refusals.specs.declared.Refusal.{Refusal}
+use Rattle.refusals.specs.declared.Completion.{Completion}
+use Rattle.refusals.specs.declared.Completion.the-variants.{Done, Refused}
+use Rattle.refusals.specs.Refusals.{sizesGround, pageGround, dataGround, ground, refusalNumber, completionOf}
 use Rattle.codes.proofs.Layouts.{oneBit-bytes}
 use Rattle.demand.specs.Computed.{pageWrite, spentStrip}
-use Rattle.page.specs.Answers.{completionOf, callAnswer, answerIn, jobOf, answerOf, numberOf}
-use Rattle.page.proofs.Refusals.{done-none, refused-some}
+use Rattle.page.specs.Answers.{callAnswer, answerIn, jobOf, answerOf, numberOf}
+use Rattle.refusals.proofs.Refusals.{done-none, refused-some}
 use Rattle.text.specs.declared.Values.{Values}
 use Rattle.text.specs.declared.Form.{Form}
 use Rattle.text.specs.declared.Form.the-variants.{Given, Broken}

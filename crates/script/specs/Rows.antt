@@ -9,7 +9,7 @@ use Rattle.cells.specs.Levels.{raisesOf}
 use Rattle.cells.specs.Climbs.{house}
 use Rattle.page.specs.declared.Answer.{Answer}
 use Rattle.page.specs.declared.Answer.the-variants as A
-use Rattle.page.specs.Refusals.{sizesGround}
+use Rattle.refusals.specs.Refusals.{sizesGround}
 use Rattle.page.specs.Answers.{kept, answerOf, pageOf, numberOf}
 use Rattle.text.specs.declared.Values.{Values}
 use Rattle.text.specs.Text.{rowText}

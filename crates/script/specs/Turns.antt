@@ -11,8 +11,8 @@ use mathlib.Core.Option.{Option, none, some}
 use Prim.Native.Nat.{ℕ, _+_, _*_, _-_}
 use lib.Dec.{ltb, leb, eqb}
 use lib.ListN.{replicate}
-use Rattle.page.specs.declared.Refusal.{Refusal}
-use Rattle.page.specs.Refusals.{sizesGround, refusalNumber}
+use Rattle.refusals.specs.declared.Refusal.{Refusal}
+use Rattle.refusals.specs.Refusals.{sizesGround, refusalNumber}
 use Rattle.text.specs.declared.Values.{Values}
 use Rattle.text.specs.Text.{namesText, dataText, headText, faultText, Tail}
 use Rattle.text.specs.Lines.{same, valuesOf}

@@ -3,7 +3,6 @@ use crate::Turn;
 use crate::recording;
 use page::Completion;
 use page::answers;
-use page::shape;
 use text::Form;
 use text::Values;
 use text::decoding;
@@ -52,7 +51,7 @@ pub fn values_turn(v: Values, line: &[u8], buffer: &mut [u8]) -> Turn
     let Form::Given(w) = form else {
         return stop(v, 6, 2, buffer);
     };
-    let judged = shape::judge_sizes(w.code, w.bytes, w.strips);
+    let judged = refusals::judge_sizes(w.code, w.bytes, w.strips);
     match judged {
         Completion::Done => Turn {
             values: w,

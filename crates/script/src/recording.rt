@@ -2,7 +2,6 @@
 use page::Answer;
 use page::Completion;
 use page::answers;
-use page::shape;
 use page::writing;
 use text::Values;
 use text::printing;
@@ -16,7 +15,7 @@ ghost use Rattle.script.specs.Rows.{sizeOf, answerCost, pageBy, writeRow
 pub fn size(v: Values) -> usize
     ensures { λ r. ⌜ (r ≤ 4096) × (r ≡ sizeOf v) ⌝ }
 {
-    let judged = shape::judge_sizes(v.code, v.bytes, v.strips);
+    let judged = refusals::judge_sizes(v.code, v.bytes, v.strips);
     match judged {
         Completion::Done => (v.bytes as usize) * (v.strips as usize),
         Completion::Refused(_) => 0,
@@ -42,7 +41,7 @@ pub fn write_row(number: u64, v: Values, page: &mut [u8], data: &[u8], buffer: &
 {
     let answer = writing::write(v.code, v.bytes, v.strips, page, data);
     let n = size(v);
-    let levels = cells::raises(page, shape::STRIP_CELLS * (n as u32));
+    let levels = cells::raises(page, codes::STRIP_CELLS * (n as u32));
     printing::put_row(
         buffer,
         number,

@@ -11,10 +11,10 @@ use Rattle.cells.specs.Levels.{level}
 use Rattle.codes.specs.Layouts.{oneBit, bytesIn}
 use Rattle.codes.proofs.Layouts.{oneBit-cells}
 use Rattle.demand.specs.Jobs.{part}
-use Rattle.page.specs.Refusals.{shapeGround}
+use Rattle.refusals.specs.Refusals.{shapeGround}
 use Rattle.page.specs.Counting.{rowOf, rowAt}
-use Rattle.page.proofs.Strips.{one-to-64, strip-there}
-use Rattle.page.proofs.Refusals.{done-none, shape-in-order}
+use Rattle.page.proofs.Strips.{strip-there}
+use Rattle.refusals.proofs.Refusals.{one-to-64, done-none, shape-in-order}
 use Rattle.page.proofs.Promise.{oneBit-whole}
 use Rattle.page.proofs.Counts.{strip-row, rows-none, rows-more, census-refused, census-done}
 use Rattle.page.proofs.counting.census.Statement.{statement}

@@ -4,9 +4,8 @@ use mir.Syntax.{w16}
 use mir.ValLaws.{toZ-ofZ}
 use lib.ListN.{length}
 use borrow.Author.Needs.{needs}
-use Rattle.page.specs.Refusals.{shapeGround, eraseGround, first-of}
-use Rattle.page.specs.Answers.{completionOf}
-use Rattle.page.proofs.Refusals.{done-none, refused-some}
+use Rattle.refusals.specs.Refusals.{shapeGround, eraseGround, first-of, completionOf}
+use Rattle.refusals.proofs.Refusals.{done-none, refused-some}
 use Rattle.page.proofs.erasing.erase.Statement.{statement}
 use Rattle.page.proofs.erasing.erase.Tie as tie
 

@@ -3,8 +3,8 @@ use mathlib.Core.Path.{_≡_, sym, _∙_}
 use mathlib.Core.Option.{none}
 use lib.ListN.{length}
 use borrow.Author.Needs.{needs}
-use Rattle.page.specs.Refusals.{ground}
-use Rattle.page.proofs.Refusals.{done-none, refused-some, in-order}
+use Rattle.refusals.specs.Refusals.{ground}
+use Rattle.refusals.proofs.Refusals.{done-none, refused-some, in-order}
 use Rattle.page.proofs.reading.read.Statement.{statement}
 use Rattle.page.proofs.reading.read.Tie as tie
 

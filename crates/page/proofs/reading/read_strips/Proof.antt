@@ -14,7 +14,8 @@ use Rattle.page.specs.Reading.{readPage}
 use Rattle.page.specs.Plans.{stripAt}
 use Rattle.page.proofs.Promise.{oneBit-whole}
 use Rattle.cells.proofs.Parts.{within}
-use Rattle.page.proofs.Strips.{one-to-64, strip-there, lent-length, stored-length, part-more}
+use Rattle.page.proofs.Strips.{strip-there, lent-length, stored-length, part-more}
+use Rattle.refusals.proofs.Refusals.{one-to-64}
 use Rattle.page.proofs.reading.read_strips.Statement.{statement}
 use Rattle.page.proofs.reading.read_strips.Tie as tie
 

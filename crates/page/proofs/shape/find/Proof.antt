@@ -7,8 +7,9 @@ use native.Mathlib.Nat.{add-sub-cancel-left}
 use borrow.Author.Needs.{needs}
 use Rattle.codes.proofs.Layouts.{oneBit-bytes}
 use Rattle.demand.specs.Jobs.{part}
-use Rattle.page.specs.Shape.{oneTo64}
-use Rattle.page.proofs.Strips.{limits-in, limits-below, limits-above, part-ends, strip-outside, strip-beyond, strip-inside}
+use Rattle.refusals.specs.Refusals.{oneTo64}
+use Rattle.page.proofs.Strips.{part-ends, strip-outside, strip-beyond, strip-inside}
+use Rattle.refusals.proofs.Refusals.{limits-in, limits-below, limits-above}
 use Rattle.page.proofs.shape.find.Statement.{statement}
 use Rattle.page.proofs.shape.find.Tie as tie
 

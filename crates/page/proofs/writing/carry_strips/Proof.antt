@@ -7,7 +7,8 @@ use borrow.Author.Needs.{needs}
 use Rattle.codes.specs.Codes.{generatorsOf}
 use Rattle.codes.specs.Layouts.{oneBit, bytesIn}
 use Rattle.codes.proofs.Layouts.{oneBit-bytes}
-use Rattle.page.proofs.Strips.{one-to-64, lent-length}
+use Rattle.page.proofs.Strips.{lent-length}
+use Rattle.refusals.proofs.Refusals.{one-to-64}
 use Rattle.page.proofs.Loops.{strip-fits, part-fits, CarriedUpTo, carried-nothing, carried-more}
 use Rattle.page.proofs.writing.carry_strips.Statement.{statement}
 use Rattle.page.proofs.writing.carry_strips.Tie as tie

@@ -3,8 +3,8 @@ use mathlib.Core.Path.{_≡_, sym, _∙_}
 use mathlib.Core.Option.{none}
 use native.Mathlib.Omega.{arith}
 use borrow.Author.Needs.{needs}
-use Rattle.page.specs.Refusals.{sizesGround}
-use Rattle.page.proofs.Refusals.{done-none, refused-some}
+use Rattle.refusals.specs.Refusals.{sizesGround}
+use Rattle.refusals.proofs.Refusals.{done-none, refused-some}
 use Rattle.script.proofs.Rows.{in-limits, size-given, size-refused}
 use Rattle.script.proofs.recording.size.Statement.{statement}
 use Rattle.script.proofs.recording.size.Tie as tie

@@ -7,10 +7,10 @@ use mir.ValLaws.{toZ-ofZ}
 use lib.IntN.{pos}
 use lib.Signed.{ltZ}
 use borrow.Author.Needs.{needs}
-use Rattle.page.specs.Refusals.{shapeGround, eraseGround}
-use Rattle.page.proofs.Refusals.{done-none, refused-first}
-use Rattle.page.proofs.erasing.judge_erase.Statement.{statement}
-use Rattle.page.proofs.erasing.judge_erase.Tie as tie
+use Rattle.refusals.specs.Refusals.{shapeGround, eraseGround}
+use Rattle.refusals.proofs.Refusals.{done-none, refused-first}
+use Rattle.refusals.proofs.judge_erase.Statement.{statement}
+use Rattle.refusals.proofs.judge_erase.Tie as tie
 
 -- past the match the shape is in order
 shape-none : (c : tie.After-enum-told) → let a = c .before .before .before .args in shapeGround (a .bytes) (a .strips) (a .page) ≡ none

@@ -1,25 +1,49 @@
 -- The grounds of a refusal: what holds of a call that has none, and what an answer tells of the ground.
+--   one-to-64, limits-in, limits-below, limits-above   the limits
 --   limits-in-order, limits-most, sizes-limits   L and S where the limits have no ground
 --   shape-in-order, in-order                     a call without a ground
 --   done-none, refused-some                      an answer tells its ground
 --   refused-first, done-next                     grounds tested one after the other
 use mathlib.Core.Path.{_≡_, refl, sym, _∙_}
-use mathlib.Core.Bool.{Bool, true, false, cond}
+use mathlib.Core.Bool.{Bool, true, false, cond, _&&_}
 use mathlib.Core.Option.{Option, none, some}
-use Prim.Native.Nat.{ℕ, _*_, _≤_}
+use Prim.Native.Nat.{ℕ, _*_, _<_, _≤_}
 use native.Mathlib.Omega.{arith}
-use lib.Dec.{eqb}
-use borrow.Author.Tests.{eqb-true}
+use lib.Dec.{eqb, leb}
+use borrow.Author.Tests.{eqb-true, le-leb, lt-leb, leb-true}
 use Rattle.codes.specs.Layouts.{oneBit, bytesIn}
-use Rattle.page.specs.Shape.{oneTo64}
-use Rattle.page.specs.Refusals.{first-of, codeGround, bytesGround, stripsGround, pageGround, dataGround, limitsGround, sizesGround, shapeGround, ground}
-use Rattle.page.proofs.Strips.{one-to-64}
-use Rattle.page.specs.Answers.{completionOf}
-use Rattle.page.specs.declared.Refusal.{Refusal}
-use Rattle.page.specs.declared.Completion.{Completion}
-use Rattle.page.specs.declared.Completion.the-variants.{Done, Refused}
+use Rattle.refusals.specs.Refusals.{oneTo64, first-of, codeGround, bytesGround, stripsGround, pageGround, dataGround, limitsGround, sizesGround, shapeGround, ground, completionOf}
+use Rattle.refusals.specs.declared.Refusal.{Refusal}
+use Rattle.refusals.specs.declared.Completion.{Completion}
+use Rattle.refusals.specs.declared.Completion.the-variants.{Done, Refused}
 
--- no ground where neither of two applies
+-- two tests that hold together hold each
+both : (a b : Bool) → (a && b) ≡ true → (a ≡ true) × (b ≡ true)
+both true b e = (refl, e)
+both false b e = (e, let z : _≡_ {A = ℕ} 0 1 = cc in absurd (omega arith))
+
+-- THE LIMITS. What a number from 1 to 64 is
+pub one-to-64 : (n : ℕ) → oneTo64 n ≡ true → (1 ≤ n) × (n ≤ 64)
+unfolding oneTo64
+one-to-64 n e = let p = both (leb 1 n) (leb n 64) e in (leb-true 1 n (p .0), leb-true n 64 (p .1))
+
+module _ (n : ℕ) where
+  -- a number from 1 to 64
+  pub limits-in : 1 ≤ n → n ≤ 64 → oneTo64 n ≡ true
+  unfolding oneTo64
+  limits-in l h = simp (le-leb _ _ l, le-leb _ _ h)
+
+  -- a number below 1
+  pub limits-below : n < 1 → oneTo64 n ≡ false
+  unfolding oneTo64
+  limits-below l = simp (lt-leb _ _ l)
+
+  -- a number above 64
+  pub limits-above : 64 < n → oneTo64 n ≡ false
+  unfolding oneTo64
+  limits-above h = let l : 1 ≤ n = omega arith in simp (le-leb _ _ l, lt-leb _ _ h)
+
+-- THE GROUNDS. No ground where neither of two applies
 neither : (g h : Option Refusal) → first-of g h ≡ none → (g ≡ none) × (h ≡ none)
 neither none h e = (refl, e)
 neither (some r) h e = (e, let z : _≡_ {A = ℕ} 0 1 = cc in absurd (omega arith))

@@ -5,10 +5,10 @@ use native.Mathlib.Nat.{mul-le-mul}
 use borrow.Author.Needs.{needs}
 use borrow.Author.Tests.{eq-eqb, ne-eqb}
 use Rattle.codes.proofs.Layouts.{oneBit-bytes}
-use Rattle.page.specs.Refusals.{pageGround}
-use Rattle.page.proofs.Refusals.{limits-most}
-use Rattle.page.proofs.shape.judge_page.Statement.{statement}
-use Rattle.page.proofs.shape.judge_page.Tie as tie
+use Rattle.refusals.specs.Refusals.{pageGround}
+use Rattle.refusals.proofs.Refusals.{limits-most}
+use Rattle.refusals.proofs.judge_page.Statement.{statement}
+use Rattle.refusals.proofs.judge_page.Tie as tie
 
 mul-if1 : tie.Need-mul-if1
 mul-if1 c = search needs

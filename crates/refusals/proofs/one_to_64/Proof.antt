@@ -1,10 +1,10 @@
 -- The two tests are those of the limits, in the same order.
 use mathlib.Core.Path.{sym}
 use borrow.Author.Tests.{le-leb}
-use Rattle.page.specs.Shape.{oneTo64}
-use Rattle.page.proofs.Strips.{limits-below}
-use Rattle.page.proofs.shape.one_to_64.Statement.{statement}
-use Rattle.page.proofs.shape.one_to_64.Tie as tie
+use Rattle.refusals.specs.Refusals.{oneTo64}
+use Rattle.refusals.proofs.Refusals.{limits-below}
+use Rattle.refusals.proofs.one_to_64.Statement.{statement}
+use Rattle.refusals.proofs.one_to_64.Tie as tie
 
 returns : tie.Need-returns
 returns c = sym (limits-below _ (c .if1 .taken))

@@ -1,20 +1,27 @@
 -- When a call is refused, and by which number.
+--   oneTo64              the limits of L and of S
 --   first-of             of two grounds, the one that is tested first
 --   limitsGround, sizesGround   the grounds of L and S; of the code, L and S
 --   shapeGround, ground  the grounds of erase and census; of read, price and write
 --   eraseGround          from the state: an erase outside 50 to 400
 --   refusalNumber        the paper's number of a refusal
-use mathlib.Core.Bool.{cond, _||_}
+--   completionOf         done, or the refusal
+use mathlib.Core.Bool.{Bool, cond, _&&_, _||_}
 use mathlib.Core.Option.{Option, none, some}
 use Prim.Native.Nat.{ℕ, _*_}
-use lib.Dec.{eqb}
+use lib.Dec.{eqb, leb}
 use lib.IntN.{ℤ, pos}
 use lib.Signed.{ltZ}
 use Rattle.codes.specs.Generators.{Generators, short, long}
 use Rattle.codes.specs.Layouts.{Layout, oneBit, bytesIn}
-use Rattle.page.specs.Shape.{oneTo64}
-use Rattle.page.specs.declared.Refusal.{Refusal}
-use Rattle.page.specs.declared.Refusal.the-variants.{CodeUnknown, BytesOutside, StripsOutside, PageLength, DataLength, EraseTemperature}
+use Rattle.refusals.specs.declared.Refusal.{Refusal}
+use Rattle.refusals.specs.declared.Refusal.the-variants.{CodeUnknown, BytesOutside, StripsOutside, PageLength, DataLength, EraseTemperature}
+use Rattle.refusals.specs.declared.Completion.{Completion}
+use Rattle.refusals.specs.declared.Completion.the-variants as C
+
+-- 'L from 1 to 64'
+unfoldable pub oneTo64 : ℕ → Bool
+oneTo64 n = leb 1 n && leb n 64
 
 -- 'Tested in this order': the first ground that applies
 abbrev pub first-of : Option Refusal → Option Refusal → Option Refusal
@@ -73,3 +80,8 @@ refusalNumber EraseTemperature = 8
 -- the generators of a code's number, where it is one
 unfoldable pub numbered : ℕ → Generators
 numbered code = cond (eqb code 3) short long
+
+-- 'Read, erase and census answer done or the refusal.'
+abbrev pub completionOf : Option Refusal → Completion
+completionOf none = C.Done
+completionOf (some r) = C.Refused r

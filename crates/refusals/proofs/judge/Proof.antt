@@ -3,10 +3,10 @@ use mathlib.Core.Path.{_≡_, sym, _∙_}
 use mathlib.Core.Option.{none}
 use borrow.Author.Needs.{needs}
 use Rattle.codes.specs.Layouts.{oneBit}
-use Rattle.page.specs.Refusals.{ground, first-of, sizesGround, limitsGround, pageGround, dataGround}
-use Rattle.page.proofs.Refusals.{done-none, done-next, refused-first, sizes-limits}
-use Rattle.page.proofs.shape.judge.Statement.{statement}
-use Rattle.page.proofs.shape.judge.Tie as tie
+use Rattle.refusals.specs.Refusals.{ground, first-of, sizesGround, limitsGround, pageGround, dataGround}
+use Rattle.refusals.proofs.Refusals.{done-none, done-next, refused-first, sizes-limits}
+use Rattle.refusals.proofs.judge.Statement.{statement}
+use Rattle.refusals.proofs.judge.Tie as tie
 
 -- past the first match the limits are kept
 limits-none : (c : tie.After-enum-told) → let a = c .before .before .before .args in limitsGround (a .bytes) (a .strips) ≡ none

@@ -2,10 +2,10 @@
 use native.Mathlib.Omega.{arith}
 use native.Mathlib.Nat.{mul-le-mul}
 use borrow.Author.Tests.{eq-eqb, ne-eqb}
-use Rattle.page.specs.Refusals.{dataGround}
-use Rattle.page.proofs.Refusals.{limits-most}
-use Rattle.page.proofs.shape.judge_data.Statement.{statement}
-use Rattle.page.proofs.shape.judge_data.Tie as tie
+use Rattle.refusals.specs.Refusals.{dataGround}
+use Rattle.refusals.proofs.Refusals.{limits-most}
+use Rattle.refusals.proofs.judge_data.Statement.{statement}
+use Rattle.refusals.proofs.judge_data.Tie as tie
 
 mul-if1 : tie.Need-mul-if1
 mul-if1 c =

@@ -2,10 +2,10 @@
 use mathlib.Core.Path.{sym, _∙_}
 use borrow.Author.Needs.{needs}
 use Rattle.codes.specs.Layouts.{oneBit}
-use Rattle.page.specs.Refusals.{shapeGround, limitsGround, pageGround}
-use Rattle.page.proofs.Refusals.{done-none, done-next, refused-first}
-use Rattle.page.proofs.shape.judge_shape.Statement.{statement}
-use Rattle.page.proofs.shape.judge_shape.Tie as tie
+use Rattle.refusals.specs.Refusals.{shapeGround, limitsGround, pageGround}
+use Rattle.refusals.proofs.Refusals.{done-none, done-next, refused-first}
+use Rattle.refusals.proofs.judge_shape.Statement.{statement}
+use Rattle.refusals.proofs.judge_shape.Tie as tie
 
 judge-limits-requires : tie.Need-judge-limits-requires
 judge-limits-requires c κs = search needs

@@ -4,9 +4,9 @@ use mathlib.Core.Logic.{⊎-elim}
 use mathlib.Core.Option.{none}
 use borrow.Author.Needs.{needs}
 use borrow.Author.Tests.{eq-eqb, ne-eqb}
-use Rattle.page.specs.Refusals.{sizesGround, codeGround}
-use Rattle.page.proofs.shape.judge_sizes.Statement.{statement}
-use Rattle.page.proofs.shape.judge_sizes.Tie as tie
+use Rattle.refusals.specs.Refusals.{sizesGround, codeGround}
+use Rattle.refusals.proofs.judge_sizes.Statement.{statement}
+use Rattle.refusals.proofs.judge_sizes.Tie as tie
 
 -- past the tests the code is known
 code-known : (c : tie.Joined1) → codeGround (c .before .args .code) ≡ none

@@ -3,10 +3,9 @@ use mathlib.Core.Path.{_≡_, sym, _∙_}
 use mathlib.Core.Bool.{true}
 use borrow.Author.Needs.{needs}
 use borrow.Author.Tests.{not-true, not-false}
-use Rattle.page.specs.Shape.{oneTo64}
-use Rattle.page.specs.Refusals.{limitsGround, bytesGround, stripsGround}
-use Rattle.page.proofs.shape.judge_limits.Statement.{statement}
-use Rattle.page.proofs.shape.judge_limits.Tie as tie
+use Rattle.refusals.specs.Refusals.{oneTo64, limitsGround, bytesGround, stripsGround}
+use Rattle.refusals.proofs.judge_limits.Statement.{statement}
+use Rattle.refusals.proofs.judge_limits.Tie as tie
 
 -- past the first test L is within its limits
 bytes-in : (c : tie.Else1) → oneTo64 (c .before .before .args .bytes) ≡ true

@@ -1,9 +1,9 @@
 -- The test is that of the number's generators.
 use borrow.Author.Needs.{needs}
 use borrow.Author.Tests.{eq-eqb, ne-eqb}
-use Rattle.page.specs.Refusals.{numbered}
-use Rattle.page.proofs.shape.code_of.Statement.{statement}
-use Rattle.page.proofs.shape.code_of.Tie as tie
+use Rattle.refusals.specs.Refusals.{numbered}
+use Rattle.refusals.proofs.code_of.Statement.{statement}
+use Rattle.refusals.proofs.code_of.Tie as tie
 
 short-requires : tie.Need-short-requires
 short-requires c κs = search needs

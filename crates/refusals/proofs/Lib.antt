@@ -1,0 +1,2 @@
+-- The laws of the grounds.
+pub mod Refusals

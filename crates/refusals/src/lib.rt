@@ -1,0 +1,134 @@
+// Which input is in order: the grounds of a refusal, each tested in one place, in the paper's order.
+use codes::Code;
+ghost use mathlib.Core.Path.{_≡_};
+ghost use mathlib.Core.Option.{none};
+ghost use Rattle.codes.specs.Layouts.{oneBit};
+ghost use Rattle.codes.specs.Codes.{generatorsOf};
+ghost use Rattle.refusals.specs.Refusals.{oneTo64, limitsGround, sizesGround, pageGround, dataGround, shapeGround, ground, eraseGround, first-of, numbered, completionOf};
+
+// Why a call is refused, in the order of the tests; the paper's numbers are 1 to 5 and 8.
+pub enum Refusal {
+    CodeUnknown,
+    BytesOutside,
+    StripsOutside,
+    PageLength,
+    DataLength,
+    EraseTemperature,
+}
+
+// The answer of a call that is done or refused.
+pub enum Completion {
+    Done,
+    Refused(Refusal),
+}
+
+// Whether n is from 1 to 64.
+fn one_to_64(n: u32) -> bool
+    ensures { λ r. ⌜ r ≡ oneTo64 n ⌝ }
+{
+    if n < 1 {
+        return false;
+    }
+    n <= 64
+}
+
+// Judges L and S, in this order.
+fn judge_limits(bytes: u32, strips: u32) -> Completion
+    ensures { λ r. ⌜ r ≡ completionOf (limitsGround bytes strips) ⌝ }
+{
+    if !one_to_64(bytes) {
+        return Completion::Refused(Refusal::BytesOutside);
+    }
+    if !one_to_64(strips) {
+        return Completion::Refused(Refusal::StripsOutside);
+    }
+    Completion::Done
+}
+
+// Judges the code, then L and S.
+pub fn judge_sizes(code: u32, bytes: u32, strips: u32) -> Completion
+    ensures { λ r. ⌜ r ≡ completionOf (sizesGround code bytes strips) ⌝ }
+{
+    if code != 3 {
+        if code != 7 {
+            return Completion::Refused(Refusal::CodeUnknown);
+        }
+    }
+    judge_limits(bytes, strips)
+}
+
+// Judges the page's length, where L and S are within their limits.
+fn judge_page(bytes: u32, strips: u32, page: usize) -> Completion
+    requires { ⌜ limitsGround bytes strips ≡ none ⌝ }
+    ensures { λ r. ⌜ r ≡ completionOf (pageGround oneBit bytes strips page) ⌝ }
+{
+    if page != codes::STRIP_BYTES * (bytes as usize) * (strips as usize) {
+        return Completion::Refused(Refusal::PageLength);
+    }
+    Completion::Done
+}
+
+// Judges the length of the data, or of the buffer for it.
+fn judge_data(bytes: u32, strips: u32, data: usize) -> Completion
+    requires { ⌜ limitsGround bytes strips ≡ none ⌝ }
+    ensures { λ r. ⌜ r ≡ completionOf (dataGround bytes strips «data») ⌝ }
+{
+    if data != (bytes as usize) * (strips as usize) {
+        return Completion::Refused(Refusal::DataLength);
+    }
+    Completion::Done
+}
+
+// Judges L, S and the page's length, in this order.
+pub fn judge_shape(bytes: u32, strips: u32, page: usize) -> Completion
+    ensures { λ r. ⌜ r ≡ completionOf (shapeGround bytes strips page) ⌝ }
+{
+    let judged = judge_limits(bytes, strips);
+    let Completion::Done = judged else {
+        return judged;
+    };
+    judge_page(bytes, strips, page)
+}
+
+// Judges the code, then the shape, then the data's length.
+pub fn judge(code: u32, bytes: u32, strips: u32, page: usize, data: usize) -> Completion
+    ensures { λ r. ⌜ r ≡ completionOf (ground code bytes strips page «data») ⌝ }
+{
+    let sizes = judge_sizes(code, bytes, strips);
+    let Completion::Done = sizes else {
+        return sizes;
+    };
+    let length = judge_page(bytes, strips, page);
+    let Completion::Done = length else {
+        return length;
+    };
+    judge_data(bytes, strips, data)
+}
+
+// The code of a number that is 3 or 7.
+pub fn code_of(code: u32) -> Code
+    ensures { λ r. ⌜ generatorsOf r ≡ numbered code ⌝ }
+{
+    if code == 3 {
+        Code::short()
+    } else {
+        Code::long()
+    }
+}
+
+// Judges the shape, then the temperature in tenths of a degree Celsius.
+pub fn judge_erase(bytes: u32, strips: u32, page: usize, tenths: i16) -> Completion
+    ensures { λ r. ⌜ r ≡ completionOf (first-of (shapeGround bytes strips page) (eraseGround tenths)) ⌝ }
+{
+    let judged = judge_shape(bytes, strips, page);
+    let Completion::Done = judged else {
+        return judged;
+    };
+    if tenths < 50 {
+        return Completion::Refused(Refusal::EraseTemperature);
+    }
+    if tenths > 400 {
+        return Completion::Refused(Refusal::EraseTemperature);
+    }
+    Completion::Done
+}
