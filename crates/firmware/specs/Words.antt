@@ -1,7 +1,8 @@
 -- The one number that an answer is to C.
 --   answerWord, completionWord
 use Prim.Native.Nat.{ℕ, _+_, _*_, _^_}
-use Rattle.page.specs.Answers.{numberOf, valueOf, completionNumber}
+use Rattle.page.specs.Answers.{numberOf, valueOf}
+use Rattle.refusals.specs.Refusals.{completionNumber}
 use Rattle.page.specs.declared.Answer.{Answer}
 use Rattle.refusals.specs.declared.Completion.{Completion}
 

@@ -31,7 +31,7 @@ fn answer_word(answer: Answer) -> u64
 fn completion_word(completion: Completion) -> u64
     ensures { λ r. ⌜ r ≡ completionWord completion ⌝ }
 {
-    packed(answers::completion_number(completion), 0)
+    packed(refusals::completion_number(completion), 0)
 }
 
 // Fills a buffer of L·S bytes with what the page reads as.

@@ -19,8 +19,6 @@ use Rattle.demand.specs.Computed.{pageWrite, spentStrip}
 use Rattle.refusals.specs.declared.Refusal.{Refusal}
 use Rattle.page.specs.declared.Answer.{Answer}
 use Rattle.page.specs.declared.Answer.the-variants as A
-use Rattle.refusals.specs.declared.Completion.{Completion}
-use Rattle.refusals.specs.declared.Completion.the-variants as C
 
 -- 'Page, data and buffers are unchanged' with any refusal
 abbrev pub kept : {A : Type 0} → Option Refusal → A → A → A
@@ -87,8 +85,3 @@ abbrev pub valueOf : Answer → ℕ
 valueOf (A.Done cost) = cost
 valueOf (A.Spent strip) = strip
 valueOf (A.Refused r) = 0
-
--- the number of a completion
-abbrev pub completionNumber : Completion → ℕ
-completionNumber C.Done = 0
-completionNumber (C.Refused r) = refusalNumber r

@@ -5,7 +5,7 @@
 --   shapeGround, ground  the grounds of erase and census; of read, price and write
 --   eraseGround          from the state: an erase outside 50 to 400
 --   refusalNumber        the paper's number of a refusal
---   completionOf         done, or the refusal
+--   completionOf         done, or the refusal; completionNumber, the paper's number of it
 use mathlib.Core.Bool.{Bool, cond, _&&_, _||_}
 use mathlib.Core.Option.{Option, none, some}
 use Prim.Native.Nat.{ℕ, _*_}
@@ -85,3 +85,8 @@ numbered code = cond (eqb code 3) short long
 abbrev pub completionOf : Option Refusal → Completion
 completionOf none = C.Done
 completionOf (some r) = C.Refused r
+
+-- the number of a completion
+abbrev pub completionNumber : Completion → ℕ
+completionNumber C.Done = 0
+completionNumber (C.Refused r) = refusalNumber r

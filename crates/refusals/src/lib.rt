@@ -4,7 +4,7 @@ ghost use mathlib.Core.Path.{_≡_};
 ghost use mathlib.Core.Option.{none};
 ghost use Rattle.codes.specs.Layouts.{oneBit};
 ghost use Rattle.codes.specs.Codes.{generatorsOf};
-ghost use Rattle.refusals.specs.Refusals.{oneTo64, limitsGround, sizesGround, pageGround, dataGround, shapeGround, ground, eraseGround, first-of, numbered, completionOf};
+ghost use Rattle.refusals.specs.Refusals.{oneTo64, limitsGround, sizesGround, pageGround, dataGround, shapeGround, ground, eraseGround, first-of, numbered, refusalNumber, completionOf, completionNumber};
 
 // Why a call is refused, in the order of the tests; the paper's numbers are 1 to 5 and 8.
 pub enum Refusal {
@@ -131,4 +131,28 @@ pub fn judge_erase(bytes: u32, strips: u32, page: usize, tenths: i16) -> Complet
         return Completion::Refused(Refusal::EraseTemperature);
     }
     Completion::Done
+}
+
+// The number of a refusal.
+pub fn refusal_number(refusal: Refusal) -> u32
+    ensures { λ r. ⌜ r ≡ refusalNumber refusal ⌝ }
+{
+    match refusal {
+        Refusal::CodeUnknown => 1,
+        Refusal::BytesOutside => 2,
+        Refusal::StripsOutside => 3,
+        Refusal::PageLength => 4,
+        Refusal::DataLength => 5,
+        Refusal::EraseTemperature => 8,
+    }
+}
+
+// The number of a completion.
+pub fn completion_number(completion: Completion) -> u32
+    ensures { λ r. ⌜ r ≡ completionNumber completion ⌝ }
+{
+    match completion {
+        Completion::Done => 0,
+        Completion::Refused(refusal) => refusal_number(refusal),
+    }
 }

@@ -2,7 +2,6 @@
 use crate::Turn;
 use crate::recording;
 use page::Completion;
-use page::answers;
 use text::Form;
 use text::Values;
 use text::decoding;
@@ -58,7 +57,7 @@ pub fn values_turn(v: Values, line: &[u8], buffer: &mut [u8]) -> Turn
             at: 96,
             on: true,
         },
-        Completion::Refused(r) => stop(v, answers::refusal_number(r) as u64, 2, buffer),
+        Completion::Refused(r) => stop(v, refusals::refusal_number(r) as u64, 2, buffer),
     }
 }
 
