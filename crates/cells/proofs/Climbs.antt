@@ -1,9 +1,9 @@
 -- What a climb costs, for any weights of the steps.
---   climb-stay     a cell that stays costs nothing
---   climb-step     a climb of one level costs its step
---   climb-more     one level more costs its last step more
---   climb-same     a climb costs what its number of steps from its level says
---   climb-rises    a higher climb costs more, where no step is free
+--   climb-stay    a cell that stays costs nothing
+--   climb-step    a climb of one level costs its step
+--   climb-more    one level more costs its last step more
+--   climb-same    a climb costs what its number of steps from its level says
+--   climb-rises   a higher climb costs more, where no step is free
 use mathlib.Core.Path.{_≡_, refl, _∙_, ap}
 use Prim.Native.Nat.{ℕ, zero, suc, _<_, _≤_, _+_, _-_}
 use native.Mathlib.Omega.{arith}

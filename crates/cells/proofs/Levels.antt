@@ -1,8 +1,8 @@
 -- Levels of cells.
---   level-bound      a level is at most 3
---   level-same       the same three bits, the same level
---   raisesOf-more    the levels of one cell more, added up
---   three-bits       three bits in a row are the ones of three digits of two bytes
+--   level-bound     a level is at most 3
+--   level-same      the same three bits, the same level
+--   raisesOf-more   the levels of one cell more, added up
+--   three-bits      three bits in a row are the ones of three digits of two bytes
 use mathlib.Core.Path.{_≡_, refl, sym, _∙_, ap}
 use mathlib.Core.List.{List}
 use Prim.Native.Nat.{ℕ, suc, _<_, _≤_, _+_, _*_, _/_, _%_, _^_}

@@ -1,16 +1,16 @@
 -- Lists, sums and numbers, made place by place.
---   length-listOf    listOf n f has n places, and f i at place i (listOf-at)
---   listOf-same      a list, a sum (sumOf-same) and a number (number-same) depend on their places alone
---   listOf-getD      a list is the list of its places
---   sumOf-more       a sum by its last place; of zeros (-zero); by parts (-parts); of two sums (-add)
---   sumOf-le         a sum of n numbers that are at most k each
---   number-more      a number by its last bit; by two runs of bits (-join); as the code adds them up (-next)
---   number-less      n bits make a number below 2 ^ n, which fits n bits and more (-fits)
---   one-shl          what 1 << i is
---   half-power       halving drops bit 0
---   store-more       what a loop that stores place by place has stored
---   same?            two numbers are the same, or not
---   each-first       what holds of every element holds of the first, and of the rest (each-rest)
+--   length-listOf   listOf n f has n places, and f i at place i (listOf-at)
+--   listOf-same     a list, a sum (sumOf-same) and a number (number-same) depend on their places alone
+--   listOf-getD     a list is the list of its places
+--   sumOf-more      a sum by its last place; of zeros (-zero); by parts (-parts); of two sums (-add)
+--   sumOf-le        a sum of n numbers that are at most k each
+--   number-more     a number by its last bit; by two runs of bits (-join); as the code adds them up (-next)
+--   number-less     n bits make a number below 2 ^ n, which fits n bits and more (-fits)
+--   one-shl         what 1 << i is
+--   half-power      halving drops bit 0
+--   store-more      what a loop that stores place by place has stored
+--   same?           two numbers are the same, or not
+--   each-first      what holds of every element holds of the first, and of the rest (each-rest)
 use mathlib.Core.Path.{_≡_, refl, sym, _∙_, ap, ap₂}
 use mathlib.Core.List.{List, _∷_}
 use mathlib.Core.Logic.{_⊎_, inl, inr, ⊎-elim}

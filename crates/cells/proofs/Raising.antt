@@ -1,14 +1,14 @@
 -- Raising to given levels is exact, wherever the raises of a cell start, and to raise one cell is to set its first zero from there on.
---   zeroFrom-first       the first zero of three bits from bit s on: s itself, or the next (-second), or the one after (-third)
---   raisedTo-length      a page raised is as long as before, and of bytes (-octets)
---   raisedTo-bit         bit i of cell c, and no other list of bytes has these bits (-only)
---   raisedTo-level       the levels after it are the given ones
---   raisedTo-keeps       a cell that isn't raised keeps its bits
---   raisedTo-same        it depends on the levels to reach, and on the starts (-start), of the page's own cells alone
---   raisedTo-none        to raise each cell to its own level changes nothing
---   canRise-yes          which cells can rise, and which cannot (-outside, -full)
---   raisedTo-more        raised to levels, and one cell that they leave (-still) then raised by one, which a full cell ignores (-full)
---   withBit-raises       to set the first zero of a cell, which is there (zeroFrom-unset), is to raise the cell
+--   zeroFrom-first    the first zero of three bits from bit s on: s itself, or the next (-second), or the one after (-third)
+--   raisedTo-length   a page raised is as long as before, and of bytes (-octets)
+--   raisedTo-bit      bit i of cell c, and no other list of bytes has these bits (-only)
+--   raisedTo-level    the levels after it are the given ones
+--   raisedTo-keeps    a cell that isn't raised keeps its bits
+--   raisedTo-same     it depends on the levels to reach, and on the starts (-start), of the page's own cells alone
+--   raisedTo-none     to raise each cell to its own level changes nothing
+--   canRise-yes       which cells can rise, and which cannot (-outside, -full)
+--   raisedTo-more     raised to levels, and one cell that they leave (-still) then raised by one, which a full cell ignores (-full)
+--   withBit-raises    to set the first zero of a cell, which is there (zeroFrom-unset), is to raise the cell
 use mathlib.Core.Path.{_≡_, refl, sym, _∙_, ap, ap₂}
 use mathlib.Core.Logic.{⊎-elim}
 use mathlib.Core.Bool.{Bool, true, false, _&&_, and-false}

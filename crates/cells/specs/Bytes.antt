@@ -1,9 +1,9 @@
 -- Bits of a list of bytes.
---   bitOf bytes k      bit k
---   bytesOf n f        the n bytes whose bit k is f k
---   Octets bytes       each number of the list is a byte
---   Unset bytes k      bit k lies in the list, and is 0
---   withBit bytes k    the list with that bit set
+--   bitOf bytes k     bit k
+--   bytesOf n f       the n bytes whose bit k is f k
+--   Octets bytes      each number of the list is a byte
+--   Unset bytes k     bit k lies in the list, and is 0
+--   withBit bytes k   the list with that bit set
 use mathlib.Core.Path.{_≡_}
 use mathlib.Core.List.{List}
 use Prim.Native.Nat.{ℕ, _+_, _*_, _/_, _%_, _^_, _<_}

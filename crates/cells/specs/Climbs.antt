@@ -1,7 +1,7 @@
 -- What a climb costs, for any weights of the steps.
---   climb weight from to                   the cost of one cell's climb
---   costOf weight n before after           the cost of a change of n cells
---   house, weightOf                        16, 20, 28, and three weights as a function of the level
+--   climb weight from to           the cost of one cell's climb
+--   costOf weight n before after   the cost of a change of n cells
+--   house, weightOf                16, 20, 28, and three weights as a function of the level
 use mathlib.Core.List.{List, [], _∷_}
 use Prim.Native.Nat.{ℕ, _+_, _-_}
 use lib.ListN.{getD}

@@ -1,8 +1,8 @@
 -- Laws of the two codes, by their names.
---   memory-bounds               a code's memory is from 2 to 6
---   proper                      data can be divided by G1, and a step of the division undone
---   second-leads                G2's first digit is 1
---   two-generators              G2 is the only generator after G1
+--   memory-bounds    a code's memory is from 2 to 6
+--   proper           data can be divided by G1, and a step of the division undone
+--   second-leads     G2's first digit is 1
+--   two-generators   G2 is the only generator after G1
 use mathlib.Core.Path.{_≡_, refl}
 use mathlib.Core.List.{[], _∷_}
 use Prim.Native.Nat.{_≤_}

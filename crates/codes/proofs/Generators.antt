@@ -1,10 +1,10 @@
 -- Laws of a generator's digits. For the reader: the digits of the four generators, and readings that tell one end of a generator from the
 -- other. No row of the paper's table does, as 7 and 5 are palindromes and 171 and 133 begin and end in one.
---   digit-bound                          a digit is 0 or 1
---   short-g1, short-g2                   7 and 5 by their digits
---   long-g1, long-g2                     171 and 133 by theirs
---   first-cell-long, second-cell-long    what the first cell alone reads as, and the second: code 7
---   first-cell-short, second-cell-short  code 3
+--   digit-bound                           a digit is 0 or 1
+--   short-g1, short-g2                    7 and 5 by their digits
+--   long-g1, long-g2                      171 and 133 by theirs
+--   first-cell-long, second-cell-long     what the first cell alone reads as, and the second: code 7
+--   first-cell-short, second-cell-short   code 3
 use mathlib.Core.Path.{_≡_, refl}
 use mathlib.Core.List.{[], _∷_}
 use Prim.Native.Nat.{ℕ, _<_}

@@ -1,8 +1,8 @@
 -- Laws of the layouts: a data bit is a bit that depends on the cells of its stages alone, and what one bit a cell comes to.
---   codeBit-same, dataBit-same   the code bits of s stages, and their data bits, depend on the cells of these stages
---   dataBit-bound                a data bit is 0 or 1
---   oneBit-first, oneBit-second  one bit a cell: the code bits are those of the two cells
---   oneBit-data                  and data bit t is the paper's sum of stage t
+--   codeBit-same, dataBit-same                  the code bits of s stages, and their data bits, depend on the cells of these stages
+--   dataBit-bound                               a data bit is 0 or 1
+--   oneBit-first, oneBit-second                 one bit a cell: the code bits are those of the two cells
+--   oneBit-data                                 and data bit t is the paper's sum of stage t
 --   oneBit-stages, oneBit-cells, oneBit-bytes   8·L stages, 16·L cells and 6·L bytes
 use mathlib.Core.Path.{_≡_, ap}
 use mathlib.Core.List.{List}
@@ -13,7 +13,7 @@ use Rattle.cells.specs.Places.{listOf}
 use Rattle.cells.proofs.Places.{listOf-same}
 use Rattle.cells.proofs.Parts.{place-inside}
 use Rattle.codes.specs.Generators.{Generators, g2}
-use Rattle.codes.specs.Layouts.{Layout, oneBit, stagesIn, cellsIn, bytesIn}
+use Rattle.codes.specs.Layouts.{Layout, oneBit, stageCount, cellCount, byteCount}
 use Rattle.codes.specs.Reading.{sumBit, codeBit, dataBit}
 use Rattle.codes.specs.Taps.{firstBit, secondBit}
 use Rattle.codes.proofs.Reading.{sumBit-bound, sumBit-same}
@@ -56,16 +56,16 @@ oneBit-data G v t =
     rw (r, q) (sumBit-same _ _ _ _ _ _ _ t (λ s k. oneBit-first v s) (λ s k. oneBit-second v s))
 
 -- 'It has 8·L stages'
-pub oneBit-stages : (L : ℕ) → stagesIn oneBit L ≡ 8 * L
-unfolding stagesIn
+pub oneBit-stages : (L : ℕ) → stageCount oneBit L ≡ 8 * L
+unfolding stageCount
 oneBit-stages L = omega arith
 
 -- 'and two cells for each stage'
-pub oneBit-cells : (L : ℕ) → cellsIn oneBit L ≡ 16 * L
-unfolding cellsIn
+pub oneBit-cells : (L : ℕ) → cellCount oneBit L ≡ 16 * L
+unfolding cellCount
 oneBit-cells L = omega (arith, oneBit-stages L)
 
 -- 'so 6·L bytes'
-pub oneBit-bytes : (L : ℕ) → bytesIn oneBit L ≡ 6 * L
-unfolding bytesIn
+pub oneBit-bytes : (L : ℕ) → byteCount oneBit L ≡ 6 * L
+unfolding byteCount
 oneBit-bytes L = omega (arith, oneBit-cells L)

@@ -1,13 +1,13 @@
 -- Laws of sequences of bits: the convolution is additive, commutes with the shift and with itself, depends on no later stage, and loses
 -- nothing where digit 0 is 1.
---   +₂-assoc, +₂-comm, ..      the sum of bits
---   odd-add, odd-mul           the oddness of a sum and of a product
---   odd-mod-two                oddness by the remainder mod 2
---   odd-only                   a number below 2 by its oddness
---   ⊕-assoc, ⊕-comm, ..        the sum of sequences
---   conv-⊕, conv-comm          the convolution of a sum, and of a convolution
---   agree-⊕, agree-conv, ..    what agrees below a stage still does after a sum, and after a convolution
---   conv-inj                   where digit 0 is 1, convolutions that agree are of sequences that agree
+--   +₂-assoc, +₂-comm, ..     the sum of bits
+--   odd-add, odd-mul          the oddness of a sum and of a product
+--   odd-mod-two               oddness by the remainder mod 2
+--   odd-only                  a number below 2 by its oddness
+--   ⊕-assoc, ⊕-comm, ..       the sum of sequences
+--   conv-⊕, conv-comm         the convolution of a sum, and of a convolution
+--   agree-⊕, agree-conv, ..   what agrees below a stage still does after a sum, and after a convolution
+--   conv-inj                  where digit 0 is 1, convolutions that agree are of sequences that agree
 use mathlib.Core.Path.{_≡_, refl, sym, _∙_, ap, ap₂, fun-ext}
 use mathlib.Core.Bool.{Bool, true, false, _&&_, not, Bool·not-not}
 use mathlib.Core.List.{List, [], _∷_}

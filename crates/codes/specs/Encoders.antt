@@ -1,9 +1,9 @@
 -- An encoder of any memory with any number of generators, its digits as bits: what the laws are about.
---   Encoder        the memory and the digits of G_1, .. G_n
---   InMemory E     no generator reaches back more than the memory
---   digitBits m g  the m + 1 digits of a generator, as bits
---   encoderOf G    the encoder of the paper's numbers
---   Proper G       G1's first and last digits are 1
+--   Encoder         the memory and the digits of G_1, .. G_n
+--   InMemory E      no generator reaches back more than the memory
+--   digitBits m g   the m + 1 digits of a generator, as bits
+--   encoderOf G     the encoder of the paper's numbers
+--   Proper G        G1's first and last digits are 1
 use mathlib.Core.Path.{_≡_}
 use mathlib.Core.Bool.{Bool}
 use mathlib.Core.List.{List, map}

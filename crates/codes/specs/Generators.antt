@@ -1,8 +1,8 @@
 -- The codes: their memories and generators, and a generator's digits.
---   Generators     a code's memory, G1, and the generators after it
---   g2 G           the second generator
---   short, long    the codes 3 and 7
---   digit m g i    digit i of the generator g of a code with memory m
+--   Generators    a code's memory, G1, and the generators after it
+--   g2 G          the second generator
+--   short, long   the codes 3 and 7
+--   digit m g i   digit i of the generator g of a code with memory m
 use mathlib.Core.List.{List, [], _∷_}
 use Prim.Native.Nat.{ℕ, _-_, _/_, _%_, _^_}
 use lib.ListN.{getD}

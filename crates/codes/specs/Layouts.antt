@@ -1,7 +1,7 @@
 -- How the cells of a strip carry its data.
---   Layout                       the cells and the data bits of a stage, and the code bits that its cells' levels show
---   oneBit                       two cells a stage, one bit a cell
---   stagesIn, cellsIn, bytesIn   the stages, the cells and the bytes of a strip that takes L bytes of data
+--   Layout                             the cells and the data bits of a stage, and the code bits that its cells' levels show
+--   oneBit                             two cells a stage, one bit a cell
+--   stageCount, cellCount, byteCount   the stages, the cells and the bytes of a strip that takes L bytes of data
 use mathlib.Core.List.{List, map}
 use Prim.Native.Nat.{ℕ, _*_, _/_, _%_}
 
@@ -16,13 +16,13 @@ abbrev pub oneBit : Layout
 oneBit = record { cells = 2; bits = 1; shows = map (λ l. l % 2) }
 
 -- 'A strip takes L bytes of data .. It has 8·L stages': 8·L data bits, so many a stage
-unfoldable pub stagesIn : Layout → ℕ → ℕ
-stagesIn lay L = 8 * L / lay .bits
+unfoldable pub stageCount : Layout → ℕ → ℕ
+stageCount lay L = 8 * L / lay .bits
 
 -- 'and two cells for each stage'
-unfoldable pub cellsIn : Layout → ℕ → ℕ
-cellsIn lay L = lay .cells * stagesIn lay L
+unfoldable pub cellCount : Layout → ℕ → ℕ
+cellCount lay L = lay .cells * stageCount lay L
 
 -- 'so 6·L bytes': three bits a cell
-unfoldable pub bytesIn : Layout → ℕ → ℕ
-bytesIn lay L = 3 * cellsIn lay L / 8
+unfoldable pub byteCount : Layout → ℕ → ℕ
+byteCount lay L = 3 * cellCount lay L / 8

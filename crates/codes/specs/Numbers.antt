@@ -1,6 +1,6 @@
 -- Bits and lists of bits as numbers: how the laws' registers and the program's stand for each other.
---   one-if b    a bit as a number
---   value s     a list of bits as a number, the first bit worth 1
+--   one-if b   a bit as a number
+--   value s    a list of bits as a number, the first bit worth 1
 use mathlib.Core.Bool.{Bool, true, false}
 use mathlib.Core.List.{List, [], _∷_}
 use Prim.Native.Nat.{ℕ, _+_, _*_}

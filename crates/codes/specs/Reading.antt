@@ -1,9 +1,9 @@
 -- Reading a strip: the paper's sums.
---   ago x t i               what x was i stages before stage t
---   sumBit m g1 g a b t     the sum of stage t by the generators g and g1, of the code bits a and b
---   codeBit lay v j t       code bit j of stage t, by the levels v of a strip's cells
---   dataBit lay G v n       bit n of the data
---   readStrip lay G L strip the L bytes that a strip reads as
+--   ago x t i                 what x was i stages before stage t
+--   sumBit m g1 g a b t       the sum of stage t by the generators g and g1, of the code bits a and b
+--   codeBit lay v j t         code bit j of stage t, by the levels v of a strip's cells
+--   dataBit lay G v n         bit n of the data
+--   readStrip lay G L strip   the L bytes that a strip reads as
 use mathlib.Core.Bool.{cond}
 use mathlib.Core.List.{List}
 use Prim.Native.Nat.{ℕ, suc, _+_, _*_, _-_, _/_, _%_}

@@ -1,8 +1,8 @@
 -- Sequences of bits, a bit for each stage, and what a generator makes of one.
---   a +₂ b, x ⊕ y    the sum of two bits, and of two sequences
---   conv gs x        the convolution of the generator's digits gs with x
---   Agree n x y      x and y are the same below stage n
---   odd n            whether a number is odd: a number's bit as a Bool
+--   a +₂ b, x ⊕ y   the sum of two bits, and of two sequences
+--   conv gs x       the convolution of the generator's digits gs with x
+--   Agree n x y     x and y are the same below stage n
+--   odd n           whether a number is odd: a number's bit as a Bool
 use mathlib.Core.Path.{_≡_}
 use mathlib.Core.Bool.{Bool, true, false, _&&_, not}
 use mathlib.Core.List.{List, [], _∷_}

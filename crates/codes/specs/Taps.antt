@@ -1,12 +1,12 @@
 -- What the code computes with: a generator's digits as the bits of one number, and windows of the last bits, the newest bit worth 1.
---   tapsOf m g           the generator's digits, digit i worth 2 ^ i
---   parityOf taps w      the sum mod 2 of digit i times bit i of the window w
---   wordOf G w           a branch's two output bits, by the window of its last input digits
---   labelOf taps r d     the label of a stage: the data divided by G1
---   forthOf, backOf      the register of the last labels, a stage on and a stage back
---   windowOf n x t       the last n of the bits x 0 .. x (t − 1)
---   firstBit, secondBit  the bits of a stage's two cells, by the levels
---   tappedBit g1 g2 v t  data bit t by the taps g1 and g2 and such windows of the cells' bits
+--   tapsOf m g            the generator's digits, digit i worth 2 ^ i
+--   parityOf taps w       the sum mod 2 of digit i times bit i of the window w
+--   wordOf G w            a branch's two output bits, by the window of its last input digits
+--   labelOf taps r d      the label of a stage: the data divided by G1
+--   forthOf, backOf       the register of the last labels, a stage on and a stage back
+--   windowOf n x t        the last n of the bits x 0 .. x (t − 1)
+--   firstBit, secondBit   the bits of a stage's two cells, by the levels
+--   tappedBit g1 g2 v t   data bit t by the taps g1 and g2 and such windows of the cells' bits
 use Prim.Native.Nat.{ℕ, zero, suc, _+_, _*_, _-_, _/_, _%_, _^_}
 use lib.Bits.{bitAnd}
 use lib.Count.{ones}

@@ -24,7 +24,7 @@ use Rattle.cells.proofs.Places.{length-listOf, listOf-at, sumOf-same}
 use Rattle.cells.proofs.Levels.{level-bound}
 use Rattle.cells.proofs.Raising.{raisedTo-length, raisedTo-level, raisedTo-same}
 use Rattle.cells.proofs.Parts.{place-inside}
-use Rattle.codes.specs.Layouts.{stagesIn, bytesIn}
+use Rattle.codes.specs.Layouts.{stageCount, byteCount}
 use Rattle.codes.specs.Encoders.{encoderOf}
 use Rattle.search.specs.Strip.{stepsOf, Rewrite}
 use Rattle.search.specs.Layouts.{meaningOf, dataBits, stripCells}
@@ -35,7 +35,7 @@ use Rattle.search.proofs.Trellis.{all-solves, none-first}
 use Rattle.search.proofs.Layouts.{strip-solves}
 use Rattle.demand.specs.Jobs.{part, Job, width, pageCells, stripJob, InOrder}
 use Rattle.demand.specs.Reading.{stripLevels}
-use Rattle.demand.specs.Demand.{Could, LowerAtFirst, costIn, Cheapest, Fits, SpentAt}
+use Rattle.demand.specs.Demand.{Could, LowerAtFirst, jobCost, Cheapest, Fits, SpentAt}
 use Rattle.demand.specs.Computed.{stripBytes, stripWrite, pageWrite, spentStrip}
 use Rattle.demand.proofs.Jobs.{part-length, part-octets}
 use Rattle.demand.proofs.Reading.{cells-same, reads-of, reads-only}
@@ -56,8 +56,8 @@ length-levels n page = length-listOf n (level page)
 
 -- what a change costs, by the levels after it
 costIn-levels : (J : Job) (after : List ℕ) (v : ℕ → ℕ) → ((c : ℕ) → c < pageCells J → level after c ≡ v c)
-    → costIn J after ≡ sumOf (pageCells J) (climbs J v)
-unfolding costIn costOf
+    → jobCost J after ≡ sumOf (pageCells J) (climbs J v)
+unfolding jobCost costOf
 costIn-levels J after v e = sumOf-same (pageCells J) _ _ (λ c h. ap (climb (weightOf (J .weights)) (level (J .page) c)) (e c h))
 
 -- nothing is asked of a strip's number
@@ -124,7 +124,7 @@ module _ (J : Job) (I : InOrder J) where
 
   -- the levels of a page that could be are admitted, at what the change costs
   could-all : (other : List ℕ) → Could J other
-      → All (stripProblem J) (listOf (J .strips) (λ k. k)) (costIn J other) (levelsOf (pageCells J) other)
+      → All (stripProblem J) (listOf (J .strips) (λ k. k)) (jobCost J other) (levelsOf (pageCells J) other)
   unfolding stripLevels
   could-all other p =
       rw (costIn-levels J other (levelAt (levelsOf (pageCells J) other)) (λ c h. sym (level-there (pageCells J) other c h)))
@@ -226,12 +226,12 @@ module _ (J : Job) (I : InOrder J) where
     unfolding stripProblem stripJob stripBytes
     same-problem =
         rw (
-          part-zero (bytesIn (J .layout) (J .bytes)) (part _ k (J .page)) (part-length _ (J .strips) k (J .page) (I .page-is) h),
+          part-zero (byteCount (J .layout) (J .bytes)) (part _ k (J .page)) (part-length _ (J .strips) k (J .page) (I .page-is) h),
           part-zero (J .bytes) (part _ k (J .content)) (part-length _ (J .strips) k (J .content) (I .data-is) h),
         )
         (ap (λ (m : ℕ → Bool). Rewrite (stepsOf (J .weights)) (meaningOf (J .layout)) (encoderOf (J .code))
         (dataBits (J .layout) (part (J .bytes) k (J .content)))
-        (stagesIn (J .layout) (J .bytes)) (stripCells (J .layout) (J .bytes) (stripBytes J k) m)) same-marks)
+        (stageCount (J .layout) (J .bytes)) (stripCells (J .layout) (J .bytes) (stripBytes J k) m)) same-marks)
       where
         same-marks : (λ c. J .marks (width J * k + (width J * 0 + c))) ≡ marksOf J k
         same-marks = fun-ext λ c. ap (J .marks) (omega arith)
@@ -250,7 +250,7 @@ module _ (J : Job) (I : InOrder J) where
     write-pattern : (d : ℕ) (y : List ℕ) → stripProblem J k d y → Fits J k
     unfolding stripJob
     write-pattern d y w = record {
-      pattern = raisedTo (startIn (width J)) (part (bytesIn (J .layout) (J .bytes)) k (J .page)) (levelAt y);
+      pattern = raisedTo (startIn (width J)) (part (byteCount (J .layout) (J .bytes)) k (J .page)) (levelAt y);
       could = levels-could (stripJob J k) alone y (all-levels (stripJob J k) (I .sound) (I .whole) _ y one .1);
     }
       where

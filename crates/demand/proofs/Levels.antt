@@ -1,10 +1,10 @@
 -- The levels of a page: what the strips' problems admit, one after the other, is what reads as the data with no level lowered and marked
 -- cells kept, by the page's places.
---   stripProblem      the writes of strip k
---   PageLevels        levels of all cells of a page that could be
---   problem-width     every write of a strip has a level for each cell
---   levels-all        levels that the page admits are valid for all strips, at the sum of their climbs
---   all-levels        and what is valid for all strips the page admits
+--   stripProblem    the writes of strip k
+--   PageLevels      levels of all cells of a page that could be
+--   problem-width   every write of a strip has a level for each cell
+--   levels-all      levels that the page admits are valid for all strips, at the sum of their climbs
+--   all-levels      and what is valid for all strips the page admits
 use mathlib.Core.Path.{_≡_, sym, _∙_, ap, ap₂}
 use mathlib.Core.Bool.{Bool, true}
 use mathlib.Core.List.{List}
@@ -20,7 +20,7 @@ use Rattle.cells.specs.Climbs.{climb, weightOf}
 use Rattle.cells.proofs.Places.{sumOf-same, sumOf-parts}
 use Rattle.cells.proofs.Bytes.{bit-bound}
 use Rattle.cells.proofs.Parts.{within, place-inside, part-number, part-place}
-use Rattle.codes.specs.Layouts.{stagesIn, cellsIn, bytesIn}
+use Rattle.codes.specs.Layouts.{stageCount, cellCount, byteCount}
 use Rattle.codes.specs.Reading.{dataBit}
 use Rattle.codes.specs.Encoders.{encoderOf}
 use Rattle.search.specs.Best.{Problem, Width, All}
@@ -48,7 +48,7 @@ jobCells J k = stripCells (J .layout) (J .bytes) (stripBytes J k) (marksOf J k)
 unfoldable pub stripProblem : Job → ℕ → Problem
 stripProblem J k =
     Rewrite (stepsOf (J .weights)) (meaningOf (J .layout)) (encoderOf (J .code)) (dataBits (J .layout) (part (J .bytes) k (J .content)))
-    (stagesIn (J .layout) (J .bytes)) (jobCells J k)
+    (stageCount (J .layout) (J .bytes)) (jobCells J k)
 
 -- what levels v of all cells cost
 abbrev pub climbs : Job → (ℕ → ℕ) → ℕ → ℕ
@@ -68,37 +68,37 @@ module _ (J : Job) (Z : Sound (J .layout) (J .code)) (F : Whole (J .layout) (J .
   cell-level : (k i : ℕ) → i < width J → cellAt (jobCells J k) i .level ≡ level (J .page) (width J * k + i)
   unfolding stripCells stripBytes
   cell-level k i h = ap (λ (x : Cell). x .level) (cells-at (width J) _ _ i h)
-      ∙ part-level (width J) (bytesIn (J .layout) (J .bytes)) (F .cells-fill) k (J .page) i h
+      ∙ part-level (width J) (byteCount (J .layout) (J .bytes)) (F .cells-fill) k (J .page) i h
 
   cell-mark : (k i : ℕ) → i < width J → cellAt (jobCells J k) i .mark ≡ J .marks (width J * k + i)
   unfolding stripCells
   cell-mark k i h = ap (λ (x : Cell). x .mark) (cells-at (width J) _ _ i h)
 
-  strip-size : (k : ℕ) → length (jobCells J k) ≡ J .layout .cells * stagesIn (J .layout) (J .bytes)
-  unfolding cellsIn
+  strip-size : (k : ℕ) → length (jobCells J k) ≡ J .layout .cells * stageCount (J .layout) (J .bytes)
+  unfolding cellCount
   strip-size k = length-strip (J .layout) (J .bytes) (stripBytes J k) (marksOf J k)
 
   -- a write of a strip is what could be, at what it pays
   problem-could : (k c : ℕ) (y : List ℕ) → stripProblem J k c y
-      → CouldBe (stepsOf (J .weights)) (J .layout) (J .code) (stagesIn (J .layout) (J .bytes)) (bitOf (part (J .bytes) k (J .content)))
+      → CouldBe (stepsOf (J .weights)) (J .layout) (J .code) (stageCount (J .layout) (J .bytes)) (bitOf (part (J .bytes) k (J .content)))
       (jobCells J k) y
       × (pays (stepsOf (J .weights)) (jobCells J k) y ≡ c)
   unfolding stripProblem dataBits
   problem-could k c y w = (
     rewrite-could (stepsOf (J .weights)) (J .layout) (J .code) Z
-        (stagesIn (J .layout) (J .bytes)) _ (bit-bound (part (J .bytes) k (J .content))) (jobCells J k) (strip-size k) c y w,
+        (stageCount (J .layout) (J .bytes)) _ (bit-bound (part (J .bytes) k (J .content))) (jobCells J k) (strip-size k) c y w,
     raised-pays (stepsOf (J .weights)) (w .raised),
   )
 
   -- and the other way
   could-problem : (k : ℕ) (y : List ℕ)
-      → CouldBe (stepsOf (J .weights)) (J .layout) (J .code) (stagesIn (J .layout) (J .bytes)) (bitOf (part (J .bytes) k (J .content)))
+      → CouldBe (stepsOf (J .weights)) (J .layout) (J .code) (stageCount (J .layout) (J .bytes)) (bitOf (part (J .bytes) k (J .content)))
       (jobCells J k) y
       → stripProblem J k (pays (stepsOf (J .weights)) (jobCells J k) y) y
   unfolding stripProblem dataBits
   could-problem k y p =
       could-rewrite (stepsOf (J .weights)) (J .layout) (J .code) Z
-      (stagesIn (J .layout) (J .bytes)) _ (bit-bound (part (J .bytes) k (J .content))) (jobCells J k) (strip-size k) y p
+      (stageCount (J .layout) (J .bytes)) _ (bit-bound (part (J .bytes) k (J .content))) (jobCells J k) (strip-size k) y p
 
   -- every write of a strip has a level for each cell
   pub problem-width : (k : ℕ) → Width (width J) (stripProblem J k)
@@ -117,7 +117,7 @@ module _ (J : Job) (Z : Sound (J .layout) (J .code)) (F : Whole (J .layout) (J .
   -- what strip j pays
   own-pays : (y : List ℕ) (j : ℕ)
       → pays (stepsOf (J .weights)) (jobCells J j) (own y j) ≡ sumOf (width J) (λ c. climbs J (levelAt y) (width J * j + c))
-  unfolding pays cellsIn
+  unfolding pays cellCount
   own-pays y j =
       ap (λ (n : ℕ). sumOf n (λ i. climb (weightOf (J .weights)) (cellAt (jobCells J j) i .level) (levelAt (own y j) i))) (strip-size j)
       ∙ sumOf-same (width J) _ _ (λ c h. ap₂ (climb (weightOf (J .weights))) (cell-level j c h) (own-level y j c h))
@@ -125,7 +125,7 @@ module _ (J : Job) (Z : Sound (J .layout) (J .code)) (F : Whole (J .layout) (J .
   -- levels that the page admits are valid for all strips, at the sum of their climbs
   pub levels-all : (y : List ℕ) → length y ≡ pageCells J → PageLevels J (levelAt y)
       → All (stripProblem J) (listOf (J .strips) (λ k. k)) (sumOf (pageCells J) (climbs J (levelAt y))) y
-  unfolding own cellsIn
+  unfolding own cellCount
   levels-all y e p =
       rw (sumOf-parts (width J) (J .strips) (climbs J (levelAt y)))
       (parts-all (stripProblem J) (width J) (J .strips) (λ k. k) (λ j. sumOf (width J) (λ c. climbs J (levelAt y) (width J * j + c))) y e
@@ -155,7 +155,7 @@ module _ (J : Job) (Z : Sound (J .layout) (J .code)) (F : Whole (J .layout) (J .
   -- and what is valid for all strips the page admits
   pub all-levels : (c : ℕ) (y : List ℕ) → All (stripProblem J) (listOf (J .strips) (λ k. k)) c y
       → (length y ≡ pageCells J) × PageLevels J (levelAt y) × (c ≡ sumOf (pageCells J) (climbs J (levelAt y)))
-  unfolding own cellsIn
+  unfolding own cellCount
   all-levels c y a = (
     q .size,
     record {
@@ -175,7 +175,8 @@ module _ (J : Job) (Z : Sound (J .layout) (J .code)) (F : Whole (J .layout) (J .
       q = all-parts (stripProblem J) (width J) problem-width (J .strips) (λ k. k) c y a
 
       could : (j : ℕ) → j < J .strips
-          → CouldBe (stepsOf (J .weights)) (J .layout) (J .code) (stagesIn (J .layout) (J .bytes)) (bitOf (part (J .bytes) j (J .content)))
+          → CouldBe (stepsOf (J .weights)) (J .layout) (J .code) (stageCount (J .layout) (J .bytes))
+          (bitOf (part (J .bytes) j (J .content)))
           (jobCells J j) (own y j)
           × (pays (stepsOf (J .weights)) (jobCells J j) (own y j) ≡ q .costs j)
       could j h = problem-could j (q .costs j) (own y j) (q .valid j h)

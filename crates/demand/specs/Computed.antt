@@ -1,12 +1,12 @@
 -- The write of a page as it is computed: each strip's search, one after the other.
---   stripWrite      the write of strip k
---   pageWrite       the writes of all strips: new levels and their cost, or none
---   spentStrip      the number of the first strip that has none
+--   stripWrite   the write of strip k
+--   pageWrite    the writes of all strips: new levels and their cost, or none
+--   spentStrip   the number of the first strip that has none
 use mathlib.Core.Option.{Option}
 use mathlib.Core.List.{List}
 use Prim.Native.Nat.{ℕ, _+_, _*_}
 use Rattle.cells.specs.Places.{listOf}
-use Rattle.codes.specs.Layouts.{bytesIn}
+use Rattle.codes.specs.Layouts.{byteCount}
 use Rattle.search.specs.Best.{Solution}
 use Rattle.search.specs.Trellis.{all, first-none}
 use Rattle.search.specs.Layouts.{rewriteOf}
@@ -15,7 +15,7 @@ use Rattle.demand.specs.Jobs.{part, Job, width}
 module _ (J : Job) where
   -- the bytes of strip k
   unfoldable pub stripBytes : ℕ → List ℕ
-  stripBytes k = part (bytesIn (J .layout) (J .bytes)) k (J .page)
+  stripBytes k = part (byteCount (J .layout) (J .bytes)) k (J .page)
 
   -- strip k's write, on its own bytes, marks and part of the data
   unfoldable pub stripWrite : ℕ → Option Solution

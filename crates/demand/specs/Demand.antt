@@ -29,8 +29,8 @@ pub record LowerAtFirst (cells : ℕ) (after other : List ℕ) : Type 0 where
   pub lower : level after cell < level other cell
 
 -- what a change of the job's page costs
-unfoldable pub costIn : Job → List ℕ → ℕ
-costIn J after = costOf (weightOf (J .weights)) (pageCells J) (J .page) after
+unfoldable pub jobCost : Job → List ℕ → ℕ
+jobCost J after = costOf (weightOf (J .weights)) (pageCells J) (J .page) after
 
 -- 'Write picks the page of least cost that reads as the data with no cell lowered. Among equals it takes the one with the lower level at
 -- the first cell whose levels differ.' 'A cell raised by one turns its lowest-numbered zero bit into a one; a cell that isn't raised keeps
@@ -38,9 +38,9 @@ costIn J after = costOf (weightOf (J .weights)) (pageCells J) (J .page) after
 pub record Cheapest (J : Job) (after : List ℕ) (cost : ℕ) : Type 0 where
   pub could : Could J after
   pub raised : after ≡ raisedTo (startIn (width J)) (J .page) (level after)
-  pub paid : costIn J after ≡ cost
-  pub least : (other : List ℕ) → Could J other → cost ≤ costIn J other
-  pub among-equals : (other : List ℕ) → Could J other → costIn J other ≡ cost
+  pub paid : jobCost J after ≡ cost
+  pub least : (other : List ℕ) → Could J other → cost ≤ jobCost J other
+  pub among-equals : (other : List ℕ) → Could J other → jobCost J other ≡ cost
       → (c : ℕ) → c < pageCells J → (level after c ≡ level other c → ⊥) → LowerAtFirst (pageCells J) after other
 
 -- strip k takes its own part of the data

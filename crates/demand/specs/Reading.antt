@@ -1,12 +1,12 @@
 -- Reading a page.
---   stripLevels n page k       the levels of the cells of strip k, which has n of them
---   readBy lay G L S page      the bytes that a page reads as
+--   stripLevels n page k    the levels of the cells of strip k, which has n of them
+--   readBy lay G L S page   the bytes that a page reads as
 use mathlib.Core.List.{List}
 use Prim.Native.Nat.{ℕ, _+_, _*_, _/_, _%_}
 use Rattle.cells.specs.Bytes.{bytesOf}
 use Rattle.cells.specs.Levels.{level}
 use Rattle.codes.specs.Generators.{Generators}
-use Rattle.codes.specs.Layouts.{Layout, cellsIn}
+use Rattle.codes.specs.Layouts.{Layout, cellCount}
 use Rattle.codes.specs.Reading.{dataBit}
 
 -- cell c of strip k is cell n·k + c of the page
@@ -15,4 +15,4 @@ stripLevels n page k c = level page (n * k + c)
 
 -- 'Strips are independent, and a page reads as the data whose bits are these sums': 8·L of them for each strip
 unfoldable pub readBy : Layout → Generators → ℕ → ℕ → List ℕ → List ℕ
-readBy lay G L S page = bytesOf (L * S) (λ n. dataBit lay G (stripLevels (cellsIn lay L) page (n / (8 * L))) (n % (8 * L)))
+readBy lay G L S page = bytesOf (L * S) (λ n. dataBit lay G (stripLevels (cellCount lay L) page (n / (8 * L))) (n % (8 * L)))

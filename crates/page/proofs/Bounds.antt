@@ -17,17 +17,17 @@ use Rattle.cells.specs.Raising.{startIn, raisedTo}
 use Rattle.cells.specs.Climbs.{climb, costOf, house, weightOf}
 use Rattle.cells.proofs.Places.{sumOf-le}
 use Rattle.cells.proofs.Climbs.{climb-stay, climb-step}
-use Rattle.codes.specs.Layouts.{oneBit, cellsIn}
+use Rattle.codes.specs.Layouts.{oneBit, cellCount}
 use Rattle.codes.proofs.Layouts.{oneBit-cells}
 use Rattle.search.specs.Best.{Solution}
 use Rattle.search.specs.Strip.{Dear, stepsOf}
 use Rattle.search.specs.Levels.{levelAt}
 use Rattle.search.proofs.Parity.{house-dear}
-use Rattle.demand.specs.Demand.{costIn}
+use Rattle.demand.specs.Demand.{jobCost}
 use Rattle.demand.specs.Computed.{pageWrite}
 use Rattle.demand.proofs.Demand.{solution-raised}
 use Rattle.refusals.specs.Refusals.{ground, numbered}
-use Rattle.page.specs.Answers.{callPage, pageIn, jobOf, pageOf, answerOf}
+use Rattle.page.specs.Answers.{callPage, jobPage, jobOf, pageOf, answerOf}
 use Rattle.page.specs.Promise.{Wrote, done}
 use Rattle.refusals.specs.declared.Refusal.{Refusal}
 use Rattle.page.specs.declared.Answer.the-variants as A
@@ -51,13 +51,13 @@ climb-most weight w b from to h k = go (to - from) refl
 
 module _ (W : List ℕ) (K : Weights W) (code L S : ℕ) (before content : List ℕ) (b : Octets content) where
   -- NO CELL RISES BY MORE THAN ONE in a write
-  pub write-near : (c : ℕ) → c < cellsIn oneBit L * S → level (pageOf W code L S before content) c ≤ suc (level before c)
-  unfolding pageOf pageIn
+  pub write-near : (c : ℕ) → c < cellCount oneBit L * S → level (pageOf W code L S before content) c ≤ suc (level before c)
+  unfolding pageOf jobPage
   write-near c h = go (ground code L S (length before) (length content)) refl (pageWrite (jobOf W code L S before content)) refl
     where
       go : (g : Option Refusal) → ground code L S (length before) (length content) ≡ g → (w : Option Solution)
           → pageWrite (jobOf W code L S before content) ≡ w
-          → level (callPage g w (λ a. raisedTo (startIn (cellsIn oneBit L)) before (levelAt (a .levels))) before) c ≤ suc (level before c)
+          → level (callPage g w (λ a. raisedTo (startIn (cellCount oneBit L)) before (levelAt (a .levels))) before) c ≤ suc (level before c)
       go (some r) e w f = omega arith
       go none e none f = omega arith
       go none e (some a) f =
@@ -71,15 +71,16 @@ module _ (W : List ℕ) (K : Weights W) (code L S : ℕ) (before content : List 
     promised : Wrote W code L S before content (pageOf W code L S before content) (A.Done cost)
     promised = rw answer at (wrote W code L S before content b)
 
-    pub write-most : cost ≤ cellsIn oneBit L * S * w
-    unfolding costIn costOf
+    pub write-most : cost ≤ cellCount oneBit L * S * w
+    unfolding jobCost costOf
     write-most = go promised
       where
-        go : Wrote W code L S before content (pageOf W code L S before content) (A.Done cost) → cost ≤ cellsIn oneBit L * S * w
+        go : Wrote W code L S before content (pageOf W code L S before content) (A.Done cost) → cost ≤ cellCount oneBit L * S * w
         go (done g p) =
             rw (← (p .paid))
             (sumOf-le
-            (cellsIn oneBit L * S) w _ (λ c h. climb-most (weightOf W) w most (level before c) (level (pageOf W code L S before content) c)
+            (cellCount oneBit L * S) w _ (λ c h. climb-most (weightOf W) w most (level before c)
+            (level (pageOf W code L S before content) c)
             (p .could .no-lower c h) (write-near c h)))
 
     -- the largest page has 65,536 cells

@@ -17,7 +17,7 @@ use borrow.Author.Tests.{lt-ltb, le-ltb, ltb-true, ltb-false}
 use Rattle.cells.specs.Places.{listOf, sumOf}
 use Rattle.cells.specs.Levels.{level}
 use Rattle.cells.proofs.Places.{listOf-same, sumOf-same, sumOf-more, sumOf-le}
-use Rattle.codes.specs.Layouts.{Layout, oneBit, cellsIn, bytesIn}
+use Rattle.codes.specs.Layouts.{Layout, oneBit, cellCount, byteCount}
 use Rattle.demand.specs.Jobs.{part}
 use Rattle.demand.specs.Reading.{stripLevels}
 use Rattle.demand.proofs.Jobs.{part-level}
@@ -63,16 +63,16 @@ module _ (n : ℕ) (v : ℕ → ℕ) where
   row-next (suc (suc (suc (suc l)))) e h = absurd (let z : ⊥ = omega arith in z)
 
 -- a strip's row is that of its cells of the page
-pub strip-row : (lay : Layout) (L k : ℕ) (page : List ℕ) → 3 * cellsIn lay L ≡ 8 * bytesIn lay L
-    → rowOf (cellsIn lay L) (level (part (bytesIn lay L) k page)) ≡ rowOf (cellsIn lay L) (stripLevels (cellsIn lay L) page k)
+pub strip-row : (lay : Layout) (L k : ℕ) (page : List ℕ) → 3 * cellCount lay L ≡ 8 * byteCount lay L
+    → rowOf (cellCount lay L) (level (part (byteCount lay L) k page)) ≡ rowOf (cellCount lay L) (stripLevels (cellCount lay L) page k)
 unfolding rowOf countOf stripLevels
 strip-row lay L k page fill = simp (count 0, count 1, count 2, count 3)
   where
-    count : (l : ℕ) → sumOf (cellsIn lay L) (λ c. cond (eqb (level (part (bytesIn lay L) k page) c) l) 1 0)
-        ≡ sumOf (cellsIn lay L) (λ c. cond (eqb (level page (cellsIn lay L * k + c)) l) 1 0)
+    count : (l : ℕ) → sumOf (cellCount lay L) (λ c. cond (eqb (level (part (byteCount lay L) k page) c) l) 1 0)
+        ≡ sumOf (cellCount lay L) (λ c. cond (eqb (level page (cellCount lay L * k + c)) l) 1 0)
     count l =
         sumOf-same
-        (cellsIn lay L) _ _ (λ c h. ap (λ (x : ℕ). cond (eqb x l) 1 0) (part-level (cellsIn lay L) (bytesIn lay L) fill k page c h))
+        (cellCount lay L) _ _ (λ c h. ap (λ (x : ℕ). cond (eqb x l) 1 0) (part-level (cellCount lay L) (byteCount lay L) fill k page c h))
 
 -- THE ROWS. A list with place k stored
 set-listOf : {A : Type 0} (n k : ℕ) (f g : ℕ → A) (x : A) → k < n → x ≡ g k → ((i : ℕ) → (i ≡ k → ⊥) → f i ≡ g i)
@@ -98,13 +98,14 @@ unfolding rowAt
 rows-none lay L page = listOf-same 64 _ _ (λ i h. rw (le-ltb i 0 (omega arith)))
 
 -- row k stored: the rows of k + 1 strips
-pub rows-more : (lay : Layout) (L k : ℕ) (page : List ℕ) (r : Row) → k < 64 → r ≡ rowOf (cellsIn lay L) (stripLevels (cellsIn lay L) page k)
+pub rows-more : (lay : Layout) (L k : ℕ) (page : List ℕ) (r : Row) → k < 64
+    → r ≡ rowOf (cellCount lay L) (stripLevels (cellCount lay L) page k)
     → set (listOf 64 (rowAt lay L k page)) k r ≡ listOf 64 (rowAt lay L (k + 1) page)
 unfolding rowAt
 rows-more lay L k page r h e =
     set-listOf 64 k _ _ r h
     (e ∙ rw (lt-ltb k (k + 1) (omega arith)))
-    (λ i d. ap (λ (b : Bool). cond b (rowOf (cellsIn lay L) (stripLevels (cellsIn lay L) page i)) zeroRow) (same-test i k d))
+    (λ i d. ap (λ (b : Bool). cond b (rowOf (cellCount lay L) (stripLevels (cellCount lay L) page i)) zeroRow) (same-test i k d))
 
 -- THE CENSUS. The judge's answer c beside the rows
 module _ (L S : ℕ) (page : List ℕ) (c : Completion) (e : c ≡ completionOf (shapeGround L S (length page))) where

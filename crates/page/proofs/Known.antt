@@ -18,7 +18,7 @@ use Rattle.cells.specs.Levels.{level}
 use Rattle.cells.specs.Raising.{startOf, startIn, zeroFrom, raise, raisedTimes, triple, raisedTo}
 use Rattle.cells.specs.Climbs.{house, weightOf}
 use Rattle.codes.specs.Generators.{digit}
-use Rattle.codes.specs.Layouts.{oneBit, stagesIn, cellsIn, bytesIn}
+use Rattle.codes.specs.Layouts.{oneBit, stageCount, cellCount, byteCount}
 use Rattle.codes.specs.Reading.{ago, sumBit, codeBit, dataBit}
 use Rattle.codes.specs.Sequences.{odd}
 use Rattle.codes.specs.Registers.{dot, push, register, quotient}
@@ -39,7 +39,7 @@ use Rattle.demand.specs.Reading.{stripLevels, readBy}
 use Rattle.demand.specs.Computed.{stripBytes, stripWrite, pageWrite, spentStrip}
 use Rattle.refusals.specs.Refusals.{oneTo64, codeGround, bytesGround, stripsGround, limitsGround, sizesGround, pageGround, dataGround, shapeGround, ground, numbered}
 use Rattle.page.specs.Reading.{readPage}
-use Rattle.page.specs.Answers.{callAnswer, callPage, answerIn, pageIn, jobOf, answerOf, pageOf}
+use Rattle.page.specs.Answers.{callAnswer, callPage, jobAnswer, jobPage, jobOf, answerOf, pageOf}
 use Rattle.page.specs.Known.{Case, Expected, reads, done, spent, Expects, Says, cases}
 use Rattle.page.specs.declared.Answer.{Answer}
 use Rattle.page.specs.declared.Answer.the-variants as A
@@ -49,17 +49,17 @@ module _ (code L S : ℕ) (page content : List ℕ) where
   -- the writes of the strips by tables of states
   unfoldable pub stripTabled : ℕ → Option Solution
   stripTabled k =
-      write-table (encoderOf (numbered code)) (dataBits oneBit (part L k content)) (parity-choice (stepsOf house)) 2 (stagesIn oneBit L)
-      (stripCells oneBit L (part (bytesIn oneBit L) k page) unmarked)
+      write-table (encoderOf (numbered code)) (dataBits oneBit (part L k content)) (parity-choice (stepsOf house)) 2 (stageCount oneBit L)
+      (stripCells oneBit L (part (byteCount oneBit L) k page) unmarked)
 
   -- they are the strips' writes
   strip-tabled : stripWrite (jobOf house code L S page content) ≡ stripTabled
   unfolding stripWrite stripBytes stripTabled encoderOf
   strip-tabled = fun-ext λ k.
       sym (write-by-table (encoderOf (numbered code)) (dataBits oneBit (part L k content)) (parity-choice (stepsOf house)) 2
-      (stagesIn oneBit L) _
+      (stageCount oneBit L) _
       ∙ oneBit-write (numbered code .memory) (numbered code) (numbered-sound code) (omega arith) house house-dear L
-      (part (bytesIn oneBit L) k page) unmarked (part L k content))
+      (part (byteCount oneBit L) k page) unmarked (part L k content))
 
   -- a call of write, evaluated
   unfoldable pub answerTabled : Answer
@@ -70,21 +70,21 @@ module _ (code L S : ℕ) (page content : List ℕ) where
   unfoldable pub pageTabled : List ℕ
   pageTabled =
       callPage (ground code L S (length page) (length content)) (all stripTabled (listOf S (λ k. k)))
-      (λ a. raisedTo (startIn (cellsIn oneBit L)) page (levelAt (a .levels))) page
+      (λ a. raisedTo (startIn (cellCount oneBit L)) page (levelAt (a .levels))) page
 
   -- THE EVALUATED DEFINITION IS THE ONE OF DEMAND 3: the answer
   pub answer-tabled : answerOf house code L S page content ≡ answerTabled
-  unfolding answerOf answerIn answerTabled pageWrite spentStrip
+  unfolding answerOf jobAnswer answerTabled pageWrite spentStrip
   answer-tabled =
       ap (λ (w : ℕ → Option Solution). callAnswer (ground code L S (length page) (length content)) (all w (listOf S (λ k. k)))
       (first-none w (listOf S (λ k. k)))) strip-tabled
 
   -- and the page
   pub page-tabled : pageOf house code L S page content ≡ pageTabled
-  unfolding pageOf pageIn pageTabled pageWrite
+  unfolding pageOf jobPage pageTabled pageWrite
   page-tabled =
       ap (λ (w : ℕ → Option Solution). callPage (ground code L S (length page) (length content)) (all w (listOf S (λ k. k)))
-      (λ a. raisedTo (startIn (cellsIn oneBit L)) page (levelAt (a .levels))) page) strip-tabled
+      (λ a. raisedTo (startIn (cellCount oneBit L)) page (levelAt (a .levels))) page) strip-tabled
 
 -- TESTS. Whether two lists of bytes are the same
 sameBytes : List ℕ → List ℕ → Bool
@@ -161,7 +161,7 @@ all-say (c ∷ cs) e = let p = each-true _ _ e in and-each (says c (c .expected)
 table-passes : allPass cases ≡ true
 unfolding allPass passes isDone isSpent sameBytes answerTabled pageTabled stripTabled write-table table step look grow stages labels
     quotient register push dot branch next wanted sums joined better beats before lexltb parity-choice keep-or-raise odd weightOf
-    cellsOf encoderOf digit listOf bitOf level dataBits stripCells stagesIn cellsIn bytesIn part all first-none numbered ground
+    cellsOf encoderOf digit listOf bitOf level dataBits stripCells stageCount cellCount byteCount part all first-none numbered ground
     codeGround limitsGround sizesGround bytesGround stripsGround pageGround dataGround oneTo64 startIn startOf raisedTo bytesOf number
     raisedTimes raise zeroFrom triple levelAt readPage readBy stripLevels dataBit sumBit codeBit sumOf ago
 table-passes = refl

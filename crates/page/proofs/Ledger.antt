@@ -14,7 +14,7 @@ use lib.ListN.{length, getD, replicate}
 use Rattle.cells.specs.Bytes.{bitOf}
 use Rattle.cells.specs.Levels.{level, raisesOf}
 use Rattle.cells.proofs.Places.{sumOf-same, sumOf-add, sumOf-zero}
-use Rattle.codes.specs.Layouts.{oneBit, cellsIn}
+use Rattle.codes.specs.Layouts.{oneBit, cellCount}
 use Rattle.codes.proofs.Layouts.{oneBit-cells, oneBit-bytes}
 use Rattle.refusals.specs.Refusals.{ground}
 use Rattle.page.specs.Answers.{kept, pageOf}

@@ -1,11 +1,11 @@
 -- One turn of the loops over a page's strips: what is lent, the strip's outcome, and what the total, the digits and the page are after it.
 -- Then what the whole write and its calls make of that.
---   turn-shaped, turn-outcome       what a turn lends is in order, and its outcome is that of the strip's write
---   PlannedTo, planned-more         the plans of the strips before k
---   Reached, reached-more, ..       the total after k strips
---   CarriedUpTo, carried-more       the page with the digits of the strips before k carried out
---   done-page, spent-page           the page that a write leaves
---   Judged, in-order-answer, ..     the calls
+--   turn-shaped, turn-outcome     what a turn lends is in order, and its outcome is that of the strip's write
+--   PlannedTo, planned-more       the plans of the strips before k
+--   Reached, reached-more, ..     the total after k strips
+--   CarriedUpTo, carried-more     the page with the digits of the strips before k carried out
+--   done-page, spent-page         the page that a write leaves
+--   Judged, in-order-answer, ..   the calls
 use mathlib.Core.Path.{_≡_, refl, sym, _∙_, ap}
 use mathlib.Core.Bool.{true}
 use mathlib.Core.List.{List, _++_}
@@ -21,7 +21,7 @@ use Rattle.cells.specs.Raising.{startOf, startIn, raisedTo}
 use Rattle.cells.proofs.Raising.{raisedTo-length}
 use Rattle.cells.proofs.Parts.{within}
 use Rattle.codes.specs.Generators.{Generators}
-use Rattle.codes.specs.Layouts.{oneBit, cellsIn, bytesIn}
+use Rattle.codes.specs.Layouts.{oneBit, cellCount, byteCount}
 use Rattle.search.specs.Best.{Solution}
 use Rattle.search.specs.Strip.{Dear, stepsOf}
 use Rattle.search.specs.Levels.{levelAt}
@@ -37,9 +37,9 @@ use Rattle.demand.proofs.Jobs.{part-length}
 use Rattle.page.specs.Shape.{stripOf, Sized}
 use Rattle.page.specs.Totals.{noTotal, added, totalFrom, answerFor}
 use Rattle.refusals.specs.Refusals.{ground, numbered, completionOf}
-use Rattle.page.specs.Answers.{callAnswer, callPage, plainJob, answerIn, pageIn, answerOf, pageOf}
+use Rattle.page.specs.Answers.{callAnswer, callPage, plainJob, jobAnswer, jobPage, answerOf, pageOf}
 use Rattle.page.specs.Promise.{Wrote}
-use Rattle.page.specs.Plans.{stripAt, Planned, Carried}
+use Rattle.page.specs.Plans.{stripPart, Planned, Carried}
 use Rattle.refusals.specs.declared.Refusal.{Refusal}
 use Rattle.page.specs.declared.Total.{Total}
 use Rattle.page.specs.declared.Answer.{Answer}
@@ -59,8 +59,8 @@ lent L k x = ap (λ (n : ℕ). take n (drop (L * k) x)) (add-sub-cancel-left (L 
 
 -- in a turn the strip ends within the page
 pub strip-fits : {L S : ℕ} {page content : List ℕ} → Sized oneBit L S page content → {k : ℕ} → k < S
-    → bytesIn oneBit L * k + bytesIn oneBit L ≤ length page
-strip-fits {L} {S} Z {k} h = omega (arith, Z .page-is, within (bytesIn oneBit L) k S h)
+    → byteCount oneBit L * k + byteCount oneBit L ≤ length page
+strip-fits {L} {S} Z {k} h = omega (arith, Z .page-is, within (byteCount oneBit L) k S h)
 
 -- and its part within the data
 pub part-fits : {L S : ℕ} {page content : List ℕ} → Sized oneBit L S page content → {k : ℕ} → k < S → L * k + L ≤ length content
@@ -69,7 +69,7 @@ part-fits {L} {S} Z {k} h = omega (arith, Z .data-is, within L k S h)
 -- THE PLANS of the strips before k
 pub record PlannedTo (G : Generators) (W : List ℕ) (L S : ℕ) (page content digits : List ℕ) (k : ℕ) : Type 0 where
   pub size : length digits ≡ L * S
-  pub so-far : (j : ℕ) → j < k → Plans G W (stripAt L j page) (part L j content) (part L j digits)
+  pub so-far : (j : ℕ) → j < k → Plans G W (stripPart L j page) (part L j content) (part L j digits)
 
 -- at first
 pub planned-none : {G : Generators} {W : List ℕ} {L S : ℕ} {page content digits : List ℕ} → length digits ≡ L * S
@@ -80,7 +80,7 @@ planned-none e = record { size = e; so-far = λ j h. absurd (not-suc-le-zero h) 
 module _ {L S : ℕ} {page content : List ℕ} (Z : Sized oneBit L S page content) {k : ℕ} (h : k < S) {x : List ℕ}
     (is : x ≡ stripOf L k page) where
   -- it is strip k
-  strip-is : x ≡ stripAt L k page
+  strip-is : x ≡ stripPart L k page
   strip-is = is ∙ strip-there L S k page (Z .bytes-in) (Z .page-is) h
 
   -- its part of the data has L bytes
@@ -92,7 +92,7 @@ module _ {L S : ℕ} {page content : List ℕ} (Z : Sized oneBit L S page conten
       → Shaped G W words x (take (L * k + L - L * k) (drop (L * k) content))
   turn-shaped w D = record {
     words-are = w;
-    size = ap length strip-is ∙ part-length (bytesIn oneBit L) S k page (Z .page-is) h ∙ ap (bytesIn oneBit) (sym data-length);
+    size = ap length strip-is ∙ part-length (byteCount oneBit L) S k page (Z .page-is) h ∙ ap (byteCount oneBit) (sym data-length);
     most = omega (arith, data-length, one-to-64 L (Z .bytes-in));
     dear = D;
   }
@@ -114,21 +114,21 @@ module _ {L S : ℕ} {page content : List ℕ} (Z : Sized oneBit L S page conten
   planned-more {G} {W} {digits} {ys} p e =
       let fits : L * k + L ≤ length digits = omega (arith, p .size, within L k S h) in
       let long : length ys ≡ L = e .0 ∙ data-length in
-      let own : Plans G W (stripAt L k page) (part L k content) ys = rw (lent L k content, strip-is) at (e .1) in
+      let own : Plans G W (stripPart L k page) (part L k content) ys = rw (lent L k content, strip-is) at (e .1) in
       record {
         size = stored-length L k digits ys fits long ∙ p .size;
-        so-far = part-more L k digits ys (λ j. Plans G W (stripAt L j page) (part L j content)) fits long own (p .so-far);
+        so-far = part-more L k digits ys (λ j. Plans G W (stripPart L j page) (part L j content)) fits long own (p .so-far);
       }
 
 -- THE TOTAL after k strips: with the outcomes of the others it comes to the page's answer
 pub record Reached (J : Job) (total : Total) (k : ℕ) : Type 0 where
-  pub comes-to : answerFor (totalFrom total (λ i. solutionOutcome (stripWrite J (k + i))) (J .strips - k)) ≡ answerIn none J
+  pub comes-to : answerFor (totalFrom total (λ i. solutionOutcome (stripWrite J (k + i))) (J .strips - k)) ≡ jobAnswer none J
 
 -- at first
 pub reached-none : {G : Generators} {W : List ℕ} {L S : ℕ} {page content : List ℕ} → Suits G W → Dear (stepsOf W)
     → Sized oneBit L S page content → {t : Total}
     → t ≡ noTotal → Reached (plainJob G W L S page content) t 0
-unfolding answerIn
+unfolding jobAnswer
 reached-none {G} {W} {L} {S} {page} {content} K D Z e =
     let J : Job = plainJob G W L S page content in
     record {
@@ -158,18 +158,18 @@ module _ {J : Job} where
       }
 
   -- a total that is spent answers
-  pub reached-spent : {t : Total} {k : ℕ} {r : Answer} → Reached J t k → t .spent ≡ true → r ≡ answerFor t → r ≡ answerIn none J
+  pub reached-spent : {t : Total} {k : ℕ} {r : Answer} → Reached J t k → t .spent ≡ true → r ≡ answerFor t → r ≡ jobAnswer none J
   reached-spent {t} {k} g e f = f ∙ sym (ap answerFor (total-spent t _ (J .strips - k) e)) ∙ g .comes-to
 
   -- and the page has no write
   pub spent-none : {t : Total} {k : ℕ} → Reached J t k → t .spent ≡ true → (a : Solution) → pageWrite J ≡ some a → ⊥
-  unfolding answerIn
+  unfolding jobAnswer
   spent-none {t} g e a f =
       let s : A.Spent (t .strips) ≡ callAnswer none (some a) (spentStrip J) = rw (e, f) at (reached-spent g e refl) in
       let z : _≡_ {A = ℕ} 0 1 = cc in omega arith
 
   -- after all strips it answers
-  pub reached-all : {t : Total} {k : ℕ} {r : Answer} → Reached J t k → J .strips ≤ k → r ≡ answerFor t → r ≡ answerIn none J
+  pub reached-all : {t : Total} {k : ℕ} {r : Answer} → Reached J t k → J .strips ≤ k → r ≡ answerFor t → r ≡ jobAnswer none J
   unfolding totalFrom
   reached-all {k = k} g h f = let z : J .strips - k ≡ 0 = omega arith in f ∙ (rw z at (g .comes-to))
 
@@ -177,9 +177,9 @@ module _ {J : Job} where
 pub record CarriedUpTo (G : Generators) (L S : ℕ) (before content digits page : List ℕ) (k : ℕ) : Type 0 where
   pub size : length page ≡ length before
   pub so-far : (j : ℕ) → j < k
-      → stripAt L j page
-      ≡ raisedTo startOf (stripAt L j before) (carriedTo G (stripAt L j before) (part L j content) (bitOf (part L j digits)))
-  pub rest : drop (bytesIn oneBit L * k) page ≡ drop (bytesIn oneBit L * k) before
+      → stripPart L j page
+      ≡ raisedTo startOf (stripPart L j before) (carriedTo G (stripPart L j before) (part L j content) (bitOf (part L j digits)))
+  pub rest : drop (byteCount oneBit L * k) page ≡ drop (byteCount oneBit L * k) before
 
 -- what is left of a list after part k is stored is what was left of the list before
 rest-more : (w k : ℕ) (x y before : List ℕ) → w * k + w ≤ length x → length y ≡ w → drop (w * k) x ≡ drop (w * k) before
@@ -205,7 +205,7 @@ carried-nothing = record { size = refl; so-far = λ j h. absurd (not-suc-le-zero
 -- with one more strip, where b is the bytes of a strip
 pub carried-more : {G : Generators} {L S b : ℕ} {before content digits page ys : List ℕ} {k : ℕ}
     → CarriedUpTo G L S before content digits page k
-    → b ≡ bytesIn oneBit L → length before ≡ bytesIn oneBit L * S → k < S
+    → b ≡ byteCount oneBit L → length before ≡ byteCount oneBit L * S → k < S
     → ys ≡ raisedTo startOf (take (b * k + b - b * k) (drop (b * k) page))
     (carriedTo G (take (b * k + b - b * k) (drop (b * k) page)) (take (L * k + L - L * k) (drop (L * k) content))
     (bitOf (take (L * k + L - L * k) (drop (L * k) digits))))
@@ -214,7 +214,7 @@ unfolding part
 carried-more {G} {L} {S} {b} {before} {content} {digits} {page} {ys} {k} p q z h e = rw q (go (rw q at e))
   where
     n : ℕ
-    n = bytesIn oneBit L
+    n = byteCount oneBit L
 
     go : ys ≡ raisedTo startOf (take (n * k + n - n * k) (drop (n * k) page))
         (carriedTo G (take (n * k + n - n * k) (drop (n * k) page)) (take (L * k + L - L * k) (drop (L * k) content))
@@ -227,8 +227,8 @@ carried-more {G} {L} {S} {b} {before} {content} {digits} {page} {ys} {k} p q z h
         record {
           size = stored-length n k page ys fits own-length ∙ p .size;
           so-far = part-more n k page ys
-              (λ j y. y ≡ raisedTo startOf (stripAt L j before)
-              (carriedTo G (stripAt L j before) (part L j content) (bitOf (part L j digits))))
+              (λ j y. y ≡ raisedTo startOf (stripPart L j before)
+              (carriedTo G (stripPart L j before) (part L j content) (bitOf (part L j digits))))
               fits own-length own (p .so-far);
           rest = rest-more n k page ys before fits own-length (p .rest);
         }
@@ -252,20 +252,20 @@ front-back n y rest e = rw (sub-zero n) (take-at y rest n e)
 -- THE PAGE that a write leaves, by the plans' answer
 module _ {G : Generators} {W : List ℕ} (K : Suits G W) (D : Dear (stepsOf W)) {L S : ℕ} {before content : List ℕ}
     (Z : Sized oneBit L S before content)
-    {r : Answer} (e : r ≡ answerIn none (plainJob G W L S before content)) where
+    {r : Answer} (e : r ≡ jobAnswer none (plainJob G W L S before content)) where
   -- the job
   abbrev J : Job
   J = plainJob G W L S before content
 
   -- the page raised to the levels of a write
   abbrev raised : Solution → List ℕ
-  raised a = raisedTo (startIn (cellsIn oneBit L)) before (levelAt (a .levels))
+  raised a = raisedTo (startIn (cellCount oneBit L)) before (levelAt (a .levels))
 
   -- where it is done, each strip is carried out as it was planned
   pub done-page : {digits after : List ℕ} {cost : ℕ} → r ≡ A.Done cost → Planned G W L S before content digits
       → Carried G L S before content digits after
-      → after ≡ pageIn none (plainJob G W L S before content)
-  unfolding pageIn answerIn
+      → after ≡ jobPage none (plainJob G W L S before content)
+  unfolding jobPage jobAnswer
   done-page {digits} {after} {cost} f p c = go (pageWrite J) refl
     where
       go : (w : Option Solution) → pageWrite J ≡ w → after ≡ callPage none w raised before
@@ -273,8 +273,8 @@ module _ {G : Generators} {W : List ℕ} (K : Suits G W) (D : Dear (stepsOf W)) 
       go none q = absurd (let z : _≡_ {A = ℕ} 0 1 = cc in omega arith)
 
   -- where it is spent, nothing is changed
-  pub spent-page : {n : ℕ} → r ≡ A.Spent n → before ≡ pageIn none (plainJob G W L S before content)
-  unfolding pageIn answerIn
+  pub spent-page : {n : ℕ} → r ≡ A.Spent n → before ≡ jobPage none (plainJob G W L S before content)
+  unfolding jobPage jobAnswer
   spent-page {n} f = go (pageWrite J) e
     where
       go : (w : Option Solution) → r ≡ callAnswer none w (spentStrip J) → before ≡ callPage none w raised before
@@ -283,7 +283,7 @@ module _ {G : Generators} {W : List ℕ} (K : Suits G W) (D : Dear (stepsOf W)) 
 
   -- and it is not refused
   pub not-refused : {q : Refusal} → r ≡ A.Refused q → ⊥
-  unfolding answerIn
+  unfolding jobAnswer
   not-refused {q} f = go (pageWrite J) e
     where
       go : (w : Option Solution) → r ≡ callAnswer none w (spentStrip J) → ⊥
@@ -307,13 +307,13 @@ module _ {code L S : ℕ} {before content : List ℕ} {j : Completion} (J : Judg
 
   -- answers as its strips do
   pub in-order-answer : j ≡ C.Done → {G : Generators} {W : List ℕ} {r : Answer} → G ≡ numbered code → W ≡ house
-      → r ≡ answerIn none (plainJob G W L S before content) → r ≡ answerOf house code L S before content
+      → r ≡ jobAnswer none (plainJob G W L S before content) → r ≡ answerOf house code L S before content
   unfolding answerOf
   in-order-answer e g w f = rw (no-ground e, ← g, ← w) f
 
   -- and leaves the page that they do
   pub in-order-page : j ≡ C.Done → {G : Generators} {W after : List ℕ} → G ≡ numbered code → W ≡ house
-      → after ≡ pageIn none (plainJob G W L S before content) → after ≡ pageOf house code L S before content
+      → after ≡ jobPage none (plainJob G W L S before content) → after ≡ pageOf house code L S before content
   unfolding pageOf
   in-order-page e g w f = rw (no-ground e, ← g, ← w) f
 
@@ -323,12 +323,12 @@ module _ {code L S : ℕ} {before content : List ℕ} {j : Completion} (J : Judg
 
   -- and the answer
   pub refused-answer : {q : Refusal} → j ≡ C.Refused q → A.Refused q ≡ answerOf house code L S before content
-  unfolding answerOf answerIn
+  unfolding answerOf jobAnswer
   refused-answer e = rw (the-ground e)
 
   -- and nothing is changed
   pub refused-page : {q : Refusal} → j ≡ C.Refused q → before ≡ pageOf house code L S before content
-  unfolding pageOf pageIn
+  unfolding pageOf jobPage
   refused-page e = rw (the-ground e)
 
 -- such an answer and such a page keep the promise

@@ -1,7 +1,7 @@
 -- Planned and carried out, strip by strip, the page is the one of the computed write; and what a page's write cannot do.
---   strip-below     no strip's write costs as much as closed
---   carried-page    the page after carrying out
---   page-near       no cell rises by more than one
+--   strip-below    no strip's write costs as much as closed
+--   carried-page   the page after carrying out
+--   page-near      no cell rises by more than one
 use mathlib.Core.Path.{_≡_, sym, _∙_, ap}
 use mathlib.Core.List.{List}
 use mathlib.Core.Option.{some}
@@ -16,7 +16,7 @@ use Rattle.cells.specs.Raising.{startOf, startIn, raisedTo}
 use Rattle.cells.proofs.Raising.{raisedTo-length, raisedTo-same, raisedTo-start}
 use Rattle.cells.proofs.Parts.{place-mod, part-number, part-place}
 use Rattle.codes.specs.Generators.{Generators}
-use Rattle.codes.specs.Layouts.{oneBit, bytesIn, cellsIn}
+use Rattle.codes.specs.Layouts.{oneBit, byteCount, cellCount}
 use Rattle.search.specs.Best.{Solution}
 use Rattle.search.specs.Strip.{Dear, stepsOf}
 use Rattle.search.specs.Levels.{levelAt}
@@ -34,90 +34,91 @@ use Rattle.demand.specs.Computed.{stripBytes, stripWrite, pageWrite}
 use Rattle.demand.proofs.Jobs.{part-length, part-level, part-raised, parts-same}
 use Rattle.demand.proofs.Strips.{PartOf, all-each}
 use Rattle.page.specs.Answers.{plainJob}
-use Rattle.page.specs.Plans.{stripAt, Planned, Carried}
+use Rattle.page.specs.Plans.{stripPart, Planned, Carried}
 use Rattle.page.proofs.Promise.{oneBit-whole}
 
 module _ (G : Generators) (W : List ℕ) (K : Suits G W) (D : Dear (stepsOf W)) (L S : ℕ) (most : L ≤ 64) (before content : List ℕ) where
   -- the write of strip k, as the functions of a strip speak of it
   pub write-same : (k : ℕ) → length (part L k content) ≡ L
-      → writeOf G W (stripAt L k before) (part L k content) ≡ stripWrite (plainJob G W L S before content) k
+      → writeOf G W (stripPart L k before) (part L k content) ≡ stripWrite (plainJob G W L S before content) k
   unfolding stripWrite stripBytes
-  write-same k e = ap (λ (n : ℕ). rewriteOf oneBit G W n (stripAt L k before) unmarked (part L k content)) e
+  write-same k e = ap (λ (n : ℕ). rewriteOf oneBit G W n (stripPart L k before) unmarked (part L k content)) e
 
   -- no strip's write costs as much as closed
   pub strip-below : (k : ℕ) (a : Solution) → stripWrite (plainJob G W L S before content) k ≡ some a → a .cost < closed
   unfolding stripWrite stripBytes
-  strip-below k a e = write-below G W K D L most (stripAt L k before) (part L k content) a e
+  strip-below k a e = write-below G W K D L most (stripPart L k before) (part L k content) a e
 
   -- a strip's write has a level for each cell
-  strip-levels : (k : ℕ) (b : Solution) → stripWrite (plainJob G W L S before content) k ≡ some b → length (b .levels) ≡ cellsIn oneBit L
+  strip-levels : (k : ℕ) (b : Solution) → stripWrite (plainJob G W L S before content) k ≡ some b → length (b .levels) ≡ cellCount oneBit L
   unfolding stripWrite stripBytes
   strip-levels k b e =
-      strip-width oneBit L (stripAt L k before) unmarked G (suits-sound K) W (part L k content) .width _ _
-      (the-best (rw e at (strip-solves oneBit L (stripAt L k before) unmarked G (suits-sound K) W (part L k content))) .valid)
+      strip-width oneBit L (stripPart L k before) unmarked G (suits-sound K) W (part L k content) .width _ _
+      (the-best (rw e at (strip-solves oneBit L (stripPart L k before) unmarked G (suits-sound K) W (part L k content))) .valid)
 
   module _ (a : Solution) (e : pageWrite (plainJob G W L S before content) ≡ some a) (k : ℕ) (h : k < S) where
     -- strip k's own write, whose levels stand at their place among all
-    own : PartOf (stripWrite (plainJob G W L S before content)) (cellsIn oneBit L) (λ j. j) a k
+    own : PartOf (stripWrite (plainJob G W L S before content)) (cellCount oneBit L) (λ j. j) a k
     unfolding pageWrite
-    own = all-each (stripWrite (plainJob G W L S before content)) (cellsIn oneBit L) strip-levels S (λ j. j) a e k h
+    own = all-each (stripWrite (plainJob G W L S before content)) (cellCount oneBit L) strip-levels S (λ j. j) a e k h
 
-    own-level : (i : ℕ) → i < cellsIn oneBit L → levelAt (own .own .levels) i ≡ levelAt (a .levels) (cellsIn oneBit L * k + i)
+    own-level : (i : ℕ) → i < cellCount oneBit L → levelAt (own .own .levels) i ≡ levelAt (a .levels) (cellCount oneBit L * k + i)
     unfolding levelAt
     own-level i l =
         ap (λ (y : List ℕ). levelAt y i) (sym (own .levels-are))
-        ∙ getD-take (cellsIn oneBit L) (drop (cellsIn oneBit L * k) (a .levels)) i 0 l ∙ getD-drop (cellsIn oneBit L * k) (a .levels) i 0
+        ∙ getD-take (cellCount oneBit L) (drop (cellCount oneBit L * k) (a .levels)) i 0 l
+        ∙ getD-drop (cellCount oneBit L * k) (a .levels) i 0
 
   -- THE PAGE AFTER IT, where there is a write
-  pub carried-page : length before ≡ bytesIn oneBit L * S → length content ≡ L * S → (digits after : List ℕ) (a : Solution)
+  pub carried-page : length before ≡ byteCount oneBit L * S → length content ≡ L * S → (digits after : List ℕ) (a : Solution)
       → pageWrite (plainJob G W L S before content) ≡ some a → Planned G W L S before content digits
       → Carried G L S before content digits after
-      → after ≡ raisedTo (startIn (cellsIn oneBit L)) before (levelAt (a .levels))
+      → after ≡ raisedTo (startIn (cellCount oneBit L)) before (levelAt (a .levels))
   unfolding startIn
   carried-page size fill digits after a e p c =
       parts-same b S after (raisedTo (startIn n) before (levelAt (a .levels))) (c .same-size ∙ size)
       (raisedTo-length (startIn n) before _ ∙ size) strip
     where
       n : ℕ
-      n = cellsIn oneBit L
+      n = cellCount oneBit L
 
       b : ℕ
-      b = bytesIn oneBit L
+      b = byteCount oneBit L
 
       -- a cell of strip k
-      cell : (k : ℕ) → k < S → (i : ℕ) → 3 * i < 8 * length (stripAt L k before) → i < n
+      cell : (k : ℕ) → k < S → (i : ℕ) → 3 * i < 8 * length (stripPart L k before) → i < n
       cell k h i l = omega (arith, part-length b S k before size h, oneBit-whole L .cells-fill)
 
       strip : (k : ℕ) → k < S → part b k after ≡ part b k (raisedTo (startIn n) before (levelAt (a .levels)))
       strip k h =
           c .carried k h
-          ∙ raisedTo-same startOf (stripAt L k before) _ (λ i. levelAt (a .levels) (n * k + i)) (λ i l. level-is i (cell k h i l))
+          ∙ raisedTo-same startOf (stripPart L k before) _ (λ i. levelAt (a .levels) (n * k + i)) (λ i l. level-is i (cell k h i l))
           ∙ raisedTo-start startOf (λ i. startIn n (n * k + i))
-          (stripAt L k before) _ (λ i l. ap startOf (sym (place-mod n k i (cell k h i l))))
+          (stripPart L k before) _ (λ i l. ap startOf (sym (place-mod n k i (cell k h i l))))
           ∙ sym (part-raised n b (oneBit-whole L .cells-fill) k before (startIn n) (levelAt (a .levels)) S size h)
         where
           long : length (part L k content) ≡ L
           long = part-length L S k content fill h
 
-          level-is : (i : ℕ) → i < n → carriedTo G (stripAt L k before) (part L k content) (bitOf (part L k digits)) i
+          level-is : (i : ℕ) → i < n → carriedTo G (stripPart L k before) (part L k content) (bitOf (part L k digits)) i
               ≡ levelAt (a .levels) (n * k + i)
           level-is i l =
               p .planned a e k h .leads (own a e k h .own) (write-same k long ∙ own a e k h .is) i (rw long l) ∙ own-level a e k h i l
 
   -- NO CELL RISES BY MORE THAN ONE
-  pub page-near : (a : Solution) → pageWrite (plainJob G W L S before content) ≡ some a → (c : ℕ) → c < cellsIn oneBit L * S
+  pub page-near : (a : Solution) → pageWrite (plainJob G W L S before content) ≡ some a → (c : ℕ) → c < cellCount oneBit L * S
       → levelAt (a .levels) c ≤ suc (level before c)
   unfolding stripWrite stripBytes
   page-near a e c h = rw (div-add-mod c n) at (near (c / n) (c % n) (part-number n S c h) (part-place n S c h))
     where
       n : ℕ
-      n = cellsIn oneBit L
+      n = cellCount oneBit L
 
       near : (k i : ℕ) → k < S → i < n → levelAt (a .levels) (n * k + i) ≤ suc (level before (n * k + i))
       near k i h l =
           omega (
             arith,
             own-level a e k h i l,
-            part-level n (bytesIn oneBit L) (oneBit-whole L .cells-fill) k before i l,
-            strip-near G W K D L most (stripAt L k before) (part L k content) (own a e k h .own) (own a e k h .is) i l,
+            part-level n (byteCount oneBit L) (oneBit-whole L .cells-fill) k before i l,
+            strip-near G W K D L most (stripPart L k before) (part L k content) (own a e k h .own) (own a e k h .is) i l,
           )

@@ -29,7 +29,7 @@ use Rattle.demand.specs.Demand.{Could}
 use Rattle.demand.specs.Computed.{pageWrite, spentStrip}
 use Rattle.demand.proofs.Demand.{cheapest, spent-at}
 use Rattle.refusals.specs.Refusals.{ground, numbered}
-use Rattle.page.specs.Answers.{callAnswer, callPage, answerIn, pageIn, jobOf, answerOf, pageOf}
+use Rattle.page.specs.Answers.{callAnswer, callPage, jobAnswer, jobPage, jobOf, answerOf, pageOf}
 use Rattle.page.specs.Promise.{Promised, Wrote, done, spent, refused}
 use Rattle.refusals.specs.declared.Refusal.{Refusal}
 use Rattle.page.specs.declared.Answer.{Answer}
@@ -37,8 +37,8 @@ use Rattle.page.specs.declared.Answer.the-variants as A
 use Rattle.refusals.proofs.Refusals.{in-order}
 
 -- ANY JOB that is in order where it has no ground
-pub promise-kept : (g : Option Refusal) (J : Job) → (g ≡ none → InOrder J) → Promised g J (pageIn g J) (answerIn g J)
-unfolding pageIn answerIn
+pub promise-kept : (g : Option Refusal) (J : Job) → (g ≡ none → InOrder J) → Promised g J (jobPage g J) (jobAnswer g J)
+unfolding jobPage jobAnswer
 promise-kept g J I = go g refl (pageWrite J) refl
   where
     go : (h : Option Refusal) → g ≡ h → (w : Option Solution) → pageWrite J ≡ w

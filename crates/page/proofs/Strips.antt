@@ -1,7 +1,7 @@
 -- A strip within the page: which strips lie in a page, and parts that are stored one by one.
---   part-ends                                          where a part of a list ends
+--   part-ends                               where a part of a list ends
 --   strip-outside, strip-beyond, strip-inside, strip-there   which strips lie in a page
---   lent-length, stored-length, part-more              parts that a loop lends and stores
+--   lent-length, stored-length, part-more   parts that a loop lends and stores
 use mathlib.Core.Path.{_≡_, refl, sym, _∙_, ap, subst⁻¹}
 use mathlib.Core.Bool.{Bool, true, false, _&&_}
 use mathlib.Core.List.{List, [], _++_}
@@ -14,7 +14,7 @@ use lib.Seq.{ext-getD, getD-take, getD-drop, length-take-le, take-at, drop-at, t
 use borrow.Rule.Slice.PartMut.{same-len-mid}
 use borrow.Author.Count.{below-more}
 use borrow.Author.Tests.{le-leb, lt-leb, leb-true}
-use Rattle.codes.specs.Layouts.{oneBit, bytesIn}
+use Rattle.codes.specs.Layouts.{oneBit, byteCount}
 use Rattle.codes.proofs.Layouts.{oneBit-bytes}
 use Rattle.demand.specs.Jobs.{part}
 use Rattle.page.specs.Shape.{inPage, stripOf}
@@ -40,23 +40,23 @@ module _ (L k : ℕ) (page : List ℕ) where
   strip-outside e = simp e
 
   -- none where it ends beyond the page's end
-  pub strip-beyond : oneTo64 L ≡ true → length page / (bytesIn oneBit L) ≤ k → stripOf L k page ≡ []
+  pub strip-beyond : oneTo64 L ≡ true → length page / (byteCount oneBit L) ≤ k → stripOf L k page ≡ []
   unfolding stripOf inPage
   strip-beyond e h =
-      let l : length page < bytesIn oneBit L * suc k =
-      omega (arith, part-beyond (bytesIn oneBit L) k (length page) (omega (arith, one-to-64 L e, oneBit-bytes L)) h) in
+      let l : length page < byteCount oneBit L * suc k =
+      omega (arith, part-beyond (byteCount oneBit L) k (length page) (omega (arith, one-to-64 L e, oneBit-bytes L)) h) in
       simp (e, lt-leb _ _ l)
 
   -- the strip where it ends within the page
-  pub strip-inside : oneTo64 L ≡ true → bytesIn oneBit L * k + bytesIn oneBit L ≤ length page
-      → stripOf L k page ≡ part (bytesIn oneBit L) k page
+  pub strip-inside : oneTo64 L ≡ true → byteCount oneBit L * k + byteCount oneBit L ≤ length page
+      → stripOf L k page ≡ part (byteCount oneBit L) k page
   unfolding stripOf inPage
-  strip-inside e h = let l : bytesIn oneBit L * suc k ≤ length page = omega arith in simp (e, le-leb _ _ l)
+  strip-inside e h = let l : byteCount oneBit L * suc k ≤ length page = omega arith in simp (e, le-leb _ _ l)
 
 -- each of the S strips of a page lies in it
-pub strip-there : (L S k : ℕ) (page : List ℕ) → oneTo64 L ≡ true → length page ≡ bytesIn oneBit L * S → k < S
-    → stripOf L k page ≡ part (bytesIn oneBit L) k page
-strip-there L S k page e p h = strip-inside L k page e (omega (arith, within (bytesIn oneBit L) k S h))
+pub strip-there : (L S k : ℕ) (page : List ℕ) → oneTo64 L ≡ true → length page ≡ byteCount oneBit L * S → k < S
+    → stripOf L k page ≡ part (byteCount oneBit L) k page
+strip-there L S k page e p h = strip-inside L k page e (omega (arith, within (byteCount oneBit L) k S h))
 
 -- PARTS STORED ONE BY ONE. Part j of a list is that of its front where it lies there
 part-front : (w j : ℕ) (p q : List ℕ) → w * j + w ≤ length p → part w j (p ++ q) ≡ part w j p

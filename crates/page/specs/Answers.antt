@@ -1,5 +1,5 @@
 -- The answers of the calls on every input, with the paper's number and values for each case.
---   answerIn, pageIn     the answer of a job and the page after it, by the ground of a refusal
+--   jobAnswer, jobPage   the answer of a job and the page after it, by the ground of a refusal
 --   answerOf, pageOf     a write's answer, and the page after it
 --   numberOf, valueOf    an answer's number and value in the paper
 --   kept                 what a refusal leaves as it was
@@ -53,12 +53,12 @@ plainJob G W L S page content = record {
 -- a job, refused by a ground or carried out
 module _ (g : Option Refusal) (J : Job) where
   -- what it answers
-  unfoldable pub answerIn : Answer
-  answerIn = callAnswer g (pageWrite J) (spentStrip J)
+  unfoldable pub jobAnswer : Answer
+  jobAnswer = callAnswer g (pageWrite J) (spentStrip J)
 
   -- the page after it: its cells are raised to the levels of the computed write
-  unfoldable pub pageIn : List ℕ
-  pageIn = callPage g (pageWrite J) (λ a. raisedTo (startIn (width J)) (J .page) (levelAt (a .levels))) (J .page)
+  unfoldable pub jobPage : List ℕ
+  jobPage = callPage g (pageWrite J) (λ a. raisedTo (startIn (width J)) (J .page) (levelAt (a .levels))) (J .page)
 
 -- a call of write or price with these three weights, one bit a cell and no cell marked
 module _ (W : List ℕ) (code L S : ℕ) (before content : List ℕ) where
@@ -68,11 +68,11 @@ module _ (W : List ℕ) (code L S : ℕ) (before content : List ℕ) where
 
   -- THE ANSWER of a write, and of a price
   unfoldable pub answerOf : Answer
-  answerOf = answerIn (ground code L S (length before) (length content)) jobOf
+  answerOf = jobAnswer (ground code L S (length before) (length content)) jobOf
 
   -- THE PAGE after a write
   unfoldable pub pageOf : List ℕ
-  pageOf = pageIn (ground code L S (length before) (length content)) jobOf
+  pageOf = jobPage (ground code L S (length before) (length content)) jobOf
 
 -- the number of an answer: 0, 7 where the page is spent, or the refusal's
 abbrev pub numberOf : Answer → ℕ

@@ -1,7 +1,7 @@
 -- The census of a page: how many cells of each strip are at each level.
---   countOf n v l    how many of the first n levels v are l
---   rowOf, rowAt     a strip's row; row k of a page of S strips
---   censusOf         the census on every input
+--   countOf n v l   how many of the first n levels v are l
+--   rowOf, rowAt    a strip's row; row k of a page of S strips
+--   censusOf        the census on every input
 use mathlib.Core.Bool.{cond}
 use mathlib.Core.List.{List, [], _∷_}
 use mathlib.Core.Option.{Option, none, some}
@@ -9,7 +9,7 @@ use Prim.Native.Nat.{ℕ}
 use lib.Dec.{eqb, ltb}
 use lib.ListN.{length}
 use Rattle.cells.specs.Places.{listOf, sumOf}
-use Rattle.codes.specs.Layouts.{Layout, oneBit, cellsIn}
+use Rattle.codes.specs.Layouts.{Layout, oneBit, cellCount}
 use Rattle.demand.specs.Reading.{stripLevels}
 use Rattle.refusals.specs.Refusals.{shapeGround, completionOf}
 use Rattle.refusals.specs.declared.Refusal.{Refusal}
@@ -30,7 +30,7 @@ zeroRow = record { counts = 0 ∷ 0 ∷ 0 ∷ 0 ∷ [] }
 
 -- 'one row for each strip'; 'the rows from S to 63 are zero'
 unfoldable pub rowAt : Layout → ℕ → ℕ → List ℕ → ℕ → Row
-rowAt lay L S page k = cond (ltb k S) (rowOf (cellsIn lay L) (stripLevels (cellsIn lay L) page k)) zeroRow
+rowAt lay L S page k = cond (ltb k S) (rowOf (cellCount lay L) (stripLevels (cellCount lay L) page k)) zeroRow
 
 -- the rows of a page, or all zeros with a refusal
 unfoldable pub rowsOf : Layout → Option Refusal → ℕ → ℕ → List ℕ → List Row

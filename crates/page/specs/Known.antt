@@ -1,8 +1,8 @@
 -- THE TABLE of the cases marked P in the paper: one row a case, the sequence of seven writes a row each.
---   Expected    reads as the data; done with this cost and page; spent with this strip
---   Case        code, L, S, page, data, and what is expected
---   Says        what a case says of the answers and pages of a write, and of the reading
---   cases       the table
+--   Expected   reads as the data; done with this cost and page; spent with this strip
+--   Case       code, L, S, page, data, and what is expected
+--   Says       what a case says of the answers and pages of a write, and of the reading
+--   cases      the table
 use mathlib.Core.Path.{_≡_}
 use mathlib.Core.List.{List, [], _∷_, _++_}
 use Prim.Native.Nat.{ℕ}

@@ -1,6 +1,6 @@
 -- What a write keeps between planning and carrying out: the plan of each strip, in its own part.
---   Planned     each strip's part of the digits is its plan
---   Carried     each strip of the page is raised to what its digits want
+--   Planned   each strip's part of the digits is its plan
+--   Carried   each strip of the page is raised to what its digits want
 use mathlib.Core.Path.{_≡_}
 use mathlib.Core.List.{List}
 use mathlib.Core.Option.{some}
@@ -9,7 +9,7 @@ use lib.ListN.{length}
 use Rattle.cells.specs.Bytes.{bitOf}
 use Rattle.cells.specs.Raising.{startOf, raisedTo}
 use Rattle.codes.specs.Generators.{Generators}
-use Rattle.codes.specs.Layouts.{oneBit, bytesIn}
+use Rattle.codes.specs.Layouts.{oneBit, byteCount}
 use Rattle.search.specs.Best.{Solution}
 use Rattle.trellis.specs.Forward.{carriedTo}
 use Rattle.trellis.specs.Plans.{Plans}
@@ -18,17 +18,17 @@ use Rattle.demand.specs.Computed.{pageWrite}
 use Rattle.page.specs.Answers.{plainJob}
 
 -- strip k of a page
-abbrev pub stripAt : ℕ → ℕ → List ℕ → List ℕ
-stripAt L k page = part (bytesIn oneBit L) k page
+abbrev pub stripPart : ℕ → ℕ → List ℕ → List ℕ
+stripPart L k page = part (byteCount oneBit L) k page
 
 -- where every strip has a write, strip k's part of the digits is its plan
 pub record Planned (G : Generators) (W : List ℕ) (L S : ℕ) (page content digits : List ℕ) : Type 0 where
   pub planned : (a : Solution) → pageWrite (plainJob G W L S page content) ≡ some a → (k : ℕ) → k < S
-      → Plans G W (stripAt L k page) (part L k content) (part L k digits)
+      → Plans G W (stripPart L k page) (part L k content) (part L k digits)
 
 -- strip k of the page after is strip k before, raised to what its part of the digits wants
 pub record Carried (G : Generators) (L S : ℕ) (before content digits after : List ℕ) : Type 0 where
   pub same-size : length after ≡ length before
   pub carried : (k : ℕ) → k < S
-      → stripAt L k after
-      ≡ raisedTo startOf (stripAt L k before) (carriedTo G (stripAt L k before) (part L k content) (bitOf (part L k digits)))
+      → stripPart L k after
+      ≡ raisedTo startOf (stripPart L k before) (carriedTo G (stripPart L k before) (part L k content) (bitOf (part L k digits)))

@@ -1,5 +1,5 @@
 -- WHAT A WRITE PROMISES, on every input: for each case of its answer, what holds of the page before and after.
---   Promised g J after r                    of a job, by the ground of a refusal
+--   Promised g J after r                      of a job, by the ground of a refusal
 --   Wrote W code L S before content after r   of a write
 use mathlib.Core.Path.{_≡_}
 use mathlib.Core.List.{List}

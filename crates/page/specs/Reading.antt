@@ -1,5 +1,5 @@
 -- Reading a page, one bit a cell.
---   readPage G L S page    the bytes that a page reads as
+--   readPage G L S page   the bytes that a page reads as
 use mathlib.Core.List.{List}
 use Prim.Native.Nat.{ℕ}
 use Rattle.codes.specs.Generators.{Generators}

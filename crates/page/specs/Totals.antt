@@ -1,7 +1,7 @@
 -- The running total of a page: it is handed a strip's outcome and comes back with it added.
---   added t o           the total with an outcome added; once spent it stays
---   totalFrom t f n     with the outcomes f 0 .. f (n − 1) added, one after the other
---   answerFor t         what a total answers
+--   added t o         the total with an outcome added; once spent it stays
+--   totalFrom t f n   with the outcomes f 0 .. f (n − 1) added, one after the other
+--   answerFor t       what a total answers
 use mathlib.Core.Bool.{Bool, true, false}
 use Prim.Native.Nat.{ℕ, zero, suc, _+_, _%_, _^_}
 use Rattle.trellis.specs.declared.Outcome.{Outcome}

@@ -17,7 +17,7 @@ ghost use Rattle.codes.specs.Codes.{generatorsOf};
 ghost use Rattle.codes.specs.Layouts.{oneBit};
 ghost use Rattle.search.specs.Strip.{Dear, stepsOf};
 ghost use Rattle.page.specs.Shape.{Sized};
-ghost use Rattle.page.specs.Answers.{plainJob, answerIn, pageIn, answerOf, pageOf};
+ghost use Rattle.page.specs.Answers.{plainJob, jobAnswer, jobPage, answerOf, pageOf};
 ghost use Rattle.page.specs.Promise.{Wrote};
 ghost use Rattle.page.specs.Plans.{Planned, Carried};
 
@@ -32,7 +32,7 @@ fn price_strips(
 ) -> Answer
     requires { ⌜ Sized oneBit bytes strips (now page) (now «data») ⌝ }
     requires { ⌜ Dear (stepsOf weights) ⌝ }
-    ensures { λ r. ⌜ r ≡ answerIn none (plainJob (generatorsOf code) weights bytes strips (now (page .entry)) (now («data» .entry))) ⌝ }
+    ensures { λ r. ⌜ r ≡ jobAnswer none (plainJob (generatorsOf code) weights bytes strips (now (page .entry)) (now («data» .entry))) ⌝ }
 {
     let words = words_of(code);
     let mut total = Total::new();
@@ -68,7 +68,7 @@ fn plan_strips(
     requires { ⌜ Sized oneBit bytes strips (now page) (now «data») ⌝ }
     requires { ⌜ Dear (stepsOf weights) ⌝ }
     requires { ⌜ length (now digits) ≡ bytes * strips ⌝ }
-    ensures { λ r. ⌜ r ≡ answerIn none (plainJob (generatorsOf code) weights bytes strips (now (page .entry)) (now («data» .entry))) ⌝ }
+    ensures { λ r. ⌜ r ≡ jobAnswer none (plainJob (generatorsOf code) weights bytes strips (now (page .entry)) (now («data» .entry))) ⌝ }
     ensures { λ r. ⌜ Planned (generatorsOf code) weights bytes strips (now (page .entry)) (now («data» .entry)) (now (digits .exit)) ⌝ }
 {
     let words = words_of(code);
@@ -133,9 +133,9 @@ fn write_strips(
 ) -> Answer
     requires { ⌜ Sized oneBit bytes strips (now page) (now «data») ⌝ }
     requires { ⌜ Dear (stepsOf weights) ⌝ }
-    ensures { λ r. ⌜ r ≡ answerIn none (plainJob (generatorsOf code) weights bytes strips (now (page .entry)) (now («data» .entry))) ⌝ }
+    ensures { λ r. ⌜ r ≡ jobAnswer none (plainJob (generatorsOf code) weights bytes strips (now (page .entry)) (now («data» .entry))) ⌝ }
     ensures { λ _. ⌜ now (page .exit)
-        ≡ pageIn none (plainJob (generatorsOf code) weights bytes strips (now (page .entry)) (now («data» .entry))) ⌝ }
+        ≡ jobPage none (plainJob (generatorsOf code) weights bytes strips (now (page .entry)) (now («data» .entry))) ⌝ }
 {
     let mut digits = [0u8; 4096];
     let whole = bytes * strips;

@@ -11,7 +11,7 @@ use Prim.Native.Nat.{ℕ, _*_, _<_, _≤_}
 use native.Mathlib.Omega.{arith}
 use lib.Dec.{eqb, leb}
 use borrow.Author.Tests.{eqb-true, le-leb, lt-leb, leb-true}
-use Rattle.codes.specs.Layouts.{oneBit, bytesIn}
+use Rattle.codes.specs.Layouts.{oneBit, byteCount}
 use Rattle.refusals.specs.Refusals.{oneTo64, first-of, codeGround, bytesGround, stripsGround, pageGround, dataGround, limitsGround, sizesGround, shapeGround, ground, completionOf}
 use Rattle.refusals.specs.declared.Refusal.{Refusal}
 use Rattle.refusals.specs.declared.Completion.{Completion}
@@ -65,12 +65,13 @@ pub limits-most : (L S : ℕ) → limitsGround L S ≡ none → (L ≤ 64) × (S
 limits-most L S e = let l = limits-in-order L S e in (one-to-64 L (l .0) .1, one-to-64 S (l .1) .1)
 
 -- L, S and the page's length where the shape is in order
-pub shape-in-order : (L S page : ℕ) → shapeGround L S page ≡ none → (oneTo64 L ≡ true) × (oneTo64 S ≡ true) × (page ≡ bytesIn oneBit L * S)
+pub shape-in-order : (L S page : ℕ) → shapeGround L S page ≡ none
+    → (oneTo64 L ≡ true) × (oneTo64 S ≡ true) × (page ≡ byteCount oneBit L * S)
 unfolding shapeGround pageGround
 shape-in-order L S page e =
     let p = neither (limitsGround L S) (pageGround oneBit L S page) e in
     let l = limits-in-order L S (p .0) in
-    (l .0, l .1, eqb-true page (bytesIn oneBit L * S) (no-ground (eqb page (bytesIn oneBit L * S)) _ (p .1)))
+    (l .0, l .1, eqb-true page (byteCount oneBit L * S) (no-ground (eqb page (byteCount oneBit L * S)) _ (p .1)))
 
 -- the limits are kept where the code and the limits have no ground
 pub sizes-limits : (code L S : ℕ) → sizesGround code L S ≡ none → limitsGround L S ≡ none
@@ -79,7 +80,7 @@ sizes-limits code L S e = neither (codeGround code) (limitsGround L S) e .1
 
 -- L, S and both lengths where a call has no ground
 pub in-order : (code L S page content : ℕ) → ground code L S page content ≡ none
-    → (oneTo64 L ≡ true) × (oneTo64 S ≡ true) × (page ≡ bytesIn oneBit L * S) × (content ≡ L * S)
+    → (oneTo64 L ≡ true) × (oneTo64 S ≡ true) × (page ≡ byteCount oneBit L * S) × (content ≡ L * S)
 unfolding ground pageGround dataGround
 in-order code L S page content e =
     let p = neither (sizesGround code L S) (first-of (pageGround oneBit L S page) (dataGround L S content)) e in
@@ -87,7 +88,7 @@ in-order code L S page content e =
     let l = limits-in-order L S (sizes-limits code L S (p .0)) in (
       l .0,
       l .1,
-      eqb-true page (bytesIn oneBit L * S) (no-ground (eqb page (bytesIn oneBit L * S)) _ (q .0)),
+      eqb-true page (byteCount oneBit L * S) (no-ground (eqb page (byteCount oneBit L * S)) _ (q .0)),
       eqb-true content (L * S)
           (no-ground (eqb content (L * S)) _ (q .1)),
     )

@@ -1,11 +1,11 @@
 -- When a call is refused, and by which number.
---   oneTo64              the limits of L and of S
---   first-of             of two grounds, the one that is tested first
+--   oneTo64                     the limits of L and of S
+--   first-of                    of two grounds, the one that is tested first
 --   limitsGround, sizesGround   the grounds of L and S; of the code, L and S
---   shapeGround, ground  the grounds of erase and census; of read, price and write
---   eraseGround          from the state: an erase outside 50 to 400
---   refusalNumber        the paper's number of a refusal
---   completionOf         done, or the refusal; completionNumber, the paper's number of it
+--   shapeGround, ground         the grounds of erase and census; of read, price and write
+--   eraseGround                 from the state: an erase outside 50 to 400
+--   refusalNumber               the paper's number of a refusal
+--   completionOf                done, or the refusal; completionNumber, the paper's number of it
 use mathlib.Core.Bool.{Bool, cond, _&&_, _||_}
 use mathlib.Core.Option.{Option, none, some}
 use Prim.Native.Nat.{ℕ, _*_}
@@ -13,7 +13,7 @@ use lib.Dec.{eqb, leb}
 use lib.IntN.{ℤ, pos}
 use lib.Signed.{ltZ}
 use Rattle.codes.specs.Generators.{Generators, short, long}
-use Rattle.codes.specs.Layouts.{Layout, oneBit, bytesIn}
+use Rattle.codes.specs.Layouts.{Layout, oneBit, byteCount}
 use Rattle.refusals.specs.declared.Refusal.{Refusal}
 use Rattle.refusals.specs.declared.Refusal.the-variants.{CodeUnknown, BytesOutside, StripsOutside, PageLength, DataLength, EraseTemperature}
 use Rattle.refusals.specs.declared.Completion.{Completion}
@@ -42,7 +42,7 @@ stripsGround S = cond (oneTo64 S) none (some StripsOutside)
 
 -- '4: the page is not 6·L·S bytes long': a strip of the layout has so many bytes for L bytes of data
 unfoldable pub pageGround : Layout → ℕ → ℕ → ℕ → Option Refusal
-pageGround lay L S size = cond (eqb size (bytesIn lay L * S)) none (some PageLength)
+pageGround lay L S size = cond (eqb size (byteCount lay L * S)) none (some PageLength)
 
 -- '5: the data, or the buffer for it, is not L·S bytes long'
 unfoldable pub dataGround : ℕ → ℕ → ℕ → Option Refusal

@@ -16,7 +16,7 @@ use Rattle.page.specs.Answers.{numberOf}
 use Rattle.refusals.proofs.Refusals.{limits-most, sizes-limits}
 use Rattle.text.specs.declared.Values.{Values}
 use Rattle.text.specs.Text.{rowText}
-use Rattle.script.specs.Rows.{sizeOf, answerBy, pageBy, answerCost, rowAfter, writeRow}
+use Rattle.script.specs.Rows.{sizeOf, valuesAnswer, valuesPage, answerCost, rowAfter, writeRow}
 
 module _ (v : Values) where
   -- L·S is at most 4096
@@ -41,7 +41,7 @@ module _ (v : Values) where
       by (some r) e = omega (arith, size-refused e)
 
 module _ (v : Values) (before content : List ℕ) (answer : Answer) (after : List ℕ)
-    (a : answer ≡ answerBy v before content) (p : after ≡ pageBy v before content) where
+    (a : answer ≡ valuesAnswer v before content) (p : after ≡ valuesPage v before content) where
   pub row-is : (number n cost levels size : ℕ) → n ≡ numberOf answer → cost ≡ answerCost answer → size ≡ sizeOf v
       → levels ≡ raisesOf (16 * size) after → rowText number n cost levels ≡ writeRow number v before content
   unfolding writeRow rowAfter

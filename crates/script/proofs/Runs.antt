@@ -1,6 +1,6 @@
 -- The run of the paper's example, and the runs of faulty inputs.
---   example-holds    THE EXAMPLE prints exactly what the paper writes
---   faults-hold      FAULTS and what they print
+--   example-holds   THE EXAMPLE prints exactly what the paper writes
+--   faults-hold     FAULTS and what they print
 use mathlib.Core.Path.{_≡_, refl, _∙_, ap₂}
 use mathlib.Core.List.{List, [], _∷_, _++_}
 use Prim.Native.Nat.{ℕ}
@@ -15,7 +15,7 @@ use Rattle.text.specs.declared.Values.{Values}
 use Rattle.text.specs.Text.{onto, decimal, namesText, valuesText, headText, rowText, faultHead, faultText}
 use Rattle.text.specs.Lines.{same, stepOf, scanOf, fiveDigits, checked, valuesOf}
 use Rattle.text.specs.Hex.{isHex, allHex, nibble, pairs, isData}
-use Rattle.script.specs.Rows.{sizeOf, answerBy, pageBy, rowAfter, writeRow}
+use Rattle.script.specs.Rows.{sizeOf, valuesAnswer, valuesPage, rowAfter, writeRow}
 use Rattle.script.specs.Turns.{namesTurn, valuesTurn, dataTurn, writeTurn, lineTurn}
 use Rattle.script.specs.Runs.{linesFrom, linesOf, runFrom, runOf, exampleInput, exampleOutput}
 
@@ -28,7 +28,7 @@ six last = 0 ∷ 0 ∷ 0 ∷ 0 ∷ 0 ∷ last ∷ []
 
 -- a write with the example's values
 writes : List ℕ → List ℕ → ℕ → List ℕ → Type 0
-writes before content cost after = (answerBy v before content ≡ A.Done cost) × (pageBy v before content ≡ after)
+writes before content cost after = (valuesAnswer v before content ≡ A.Done cost) × (valuesPage v before content ≡ after)
 
 -- the rows of a table from row 5 on
 from-5 : {G : Type 0} {P : G → Type 0} {a b c d e : G} {gs : List G} → Each P (a ∷ b ∷ c ∷ d ∷ e ∷ gs) → Each P gs
@@ -57,7 +57,7 @@ row-of n before content cost after s = ap₂ (rowAfter n v) (s .0) (s .1)
 rows : List ℕ → List ℕ → List ℕ
 rows one two = headText ++ (writeRow 1 v (six 0) (128 ∷ []) ++ (writeRow 2 v one (0 ∷ []) ++ (writeRow 3 v two (128 ∷ []) ++ [])))
 
-listed : runOf exampleInput ≡ rows (pageBy v (six 0) (128 ∷ [])) (pageBy v (pageBy v (six 0) (128 ∷ [])) (0 ∷ []))
+listed : runOf exampleInput ≡ rows (valuesPage v (six 0) (128 ∷ [])) (valuesPage v (valuesPage v (six 0) (128 ∷ [])) (0 ∷ []))
 unfolding exampleInput runOf linesOf linesFrom runFrom lineTurn namesTurn valuesTurn dataTurn writeTurn same valuesOf checked
     scanOf stepOf fiveDigits valuesText decimal onto sizesGround limitsGround codeGround bytesGround stripsGround oneTo64 sizeOf
     isData allHex isHex pairs nibble six v rows

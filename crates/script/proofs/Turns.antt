@@ -1,7 +1,7 @@
 -- What a line does. The values that a line 2 gives are in order, so that a write of data in form is never refused for its input; and a line
 -- of more than 8,192 bytes is in no form, so that the program need not keep more of it.
---   answers-0-or-7           THE ANSWER of a row is 0 or 7
---   long-line                A LONG LINE is refusal 6
+--   answers-0-or-7                                THE ANSWER of a row is 0 or 7
+--   long-line                                     A LONG LINE is refusal 6
 --   values-broken, values-given, values-refused   line 2, by what the functions answer of its form and of its values
 use mathlib.Core.Path.{_≡_, refl, sym, _∙_, ap}
 use mathlib.Core.Bool.{Bool, true, false, cond, and-false}
@@ -21,7 +21,7 @@ use Rattle.refusals.specs.declared.Completion.the-variants.{Done, Refused}
 use Rattle.refusals.specs.Refusals.{sizesGround, pageGround, dataGround, ground, refusalNumber, completionOf}
 use Rattle.codes.proofs.Layouts.{oneBit-bytes}
 use Rattle.demand.specs.Computed.{pageWrite, spentStrip}
-use Rattle.page.specs.Answers.{callAnswer, answerIn, jobOf, answerOf, numberOf}
+use Rattle.page.specs.Answers.{callAnswer, jobAnswer, jobOf, answerOf, numberOf}
 use Rattle.refusals.proofs.Refusals.{done-none, refused-some}
 use Rattle.text.specs.declared.Values.{Values}
 use Rattle.text.specs.declared.Form.{Form}
@@ -32,7 +32,7 @@ use Rattle.text.specs.Hex.{isData, contentOf}
 use Rattle.text.proofs.Text.{size-most}
 use Rattle.text.proofs.Lines.{same-lengths, text-of-values}
 use Rattle.text.proofs.Hex.{data-odd, text-of-data}
-use Rattle.script.specs.Rows.{sizeOf, answerBy}
+use Rattle.script.specs.Rows.{sizeOf, valuesAnswer}
 use Rattle.script.specs.Turns.{Progress, Turned, halt, goes, namesTurn, judgedTurn, formTurn, valuesTurn, dataTurn, writeTurn, lineTurn}
 use Rattle.script.proofs.Rows.{size-given, size-bound}
 
@@ -86,8 +86,8 @@ zero-or-seven none k = inr refl
 -- 'one row a write: its number from 1, 0 or 7'
 pub answers-0-or-7 : (p : Progress) (line text page content : List ℕ) (v : Values) → valuesTurn p line ≡ goes p [] v (p .page)
     → length page ≡ 6 * sizeOf v → contentOf (sizeOf v) text ≡ some content
-    → (numberOf (answerBy v page content) ≡ 0) ⊎ (numberOf (answerBy v page content) ≡ 7)
-unfolding answerOf answerIn valuesTurn
+    → (numberOf (valuesAnswer v page content) ≡ 0) ⊎ (numberOf (valuesAnswer v page content) ≡ 7)
+unfolding answerOf jobAnswer valuesTurn
 answers-0-or-7 p line text page content v e h t =
     rw (write-in-order v (length page) (length content) (form-goes p v (valuesOf line) e) h (text-of-data (sizeOf v) text content t .1))
     (zero-or-seven (pageWrite (jobOf house (v .code) (v .bytes) (v .strips) page content))

@@ -1,8 +1,8 @@
 -- The row of a write.
---   sizeOf               the bytes of a page's data
---   answerBy, pageBy     a write's answer and the page after it, by the values of line 2
---   answerCost           an answer's cost
---   writeRow             the row
+--   sizeOf                     the bytes of a page's data
+--   valuesAnswer, valuesPage   a write's answer and the page after it, by the values of line 2
+--   answerCost                 an answer's cost
+--   writeRow                   the row
 use mathlib.Core.List.{List}
 use Prim.Native.Nat.{ℕ, _*_}
 use Rattle.cells.specs.Levels.{raisesOf}
@@ -19,11 +19,11 @@ unfoldable pub sizeOf : Values → ℕ
 sizeOf v = kept (sizesGround (v .code) (v .bytes) (v .strips)) (v .bytes * v .strips) 0
 
 -- a write with the values of line 2
-abbrev pub answerBy : Values → List ℕ → List ℕ → Answer
-answerBy v before content = answerOf house (v .code) (v .bytes) (v .strips) before content
+abbrev pub valuesAnswer : Values → List ℕ → List ℕ → Answer
+valuesAnswer v before content = answerOf house (v .code) (v .bytes) (v .strips) before content
 
-abbrev pub pageBy : Values → List ℕ → List ℕ → List ℕ
-pageBy v before content = pageOf house (v .code) (v .bytes) (v .strips) before content
+abbrev pub valuesPage : Values → List ℕ → List ℕ → List ℕ
+valuesPage v before content = pageOf house (v .code) (v .bytes) (v .strips) before content
 
 -- 'With any refusal the cost is 0'
 abbrev pub answerCost : Answer → ℕ
@@ -37,4 +37,4 @@ rowAfter number v answer after = rowText number (numberOf answer) (answerCost an
 
 -- THE ROW of a write of this data to this page
 unfoldable pub writeRow : ℕ → Values → List ℕ → List ℕ → List ℕ
-writeRow number v before content = rowAfter number v (answerBy v before content) (pageBy v before content)
+writeRow number v before content = rowAfter number v (valuesAnswer v before content) (valuesPage v before content)

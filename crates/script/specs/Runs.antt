@@ -1,8 +1,8 @@
 -- The whole run, from the input's bytes to the output's.
---   linesOf      the input's lines
---   onward       what is printed from a turn on
---   runFrom      what is printed from a line on
---   runOf        THE RUN
+--   linesOf   the input's lines
+--   onward    what is printed from a turn on
+--   runFrom   what is printed from a line on
+--   runOf     THE RUN
 use mathlib.Core.Bool.{cond}
 use mathlib.Core.List.{List, [], _∷_, _++_}
 use mathlib.Core.Option.{Option, none, some}

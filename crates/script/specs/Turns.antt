@@ -17,7 +17,7 @@ use Rattle.text.specs.declared.Values.{Values}
 use Rattle.text.specs.Text.{namesText, dataText, headText, faultText, Tail}
 use Rattle.text.specs.Lines.{same, valuesOf}
 use Rattle.text.specs.Hex.{isData, pairs}
-use Rattle.script.specs.Rows.{sizeOf, pageBy, writeRow}
+use Rattle.script.specs.Rows.{sizeOf, valuesPage, writeRow}
 use Rattle.script.specs.declared.Turn.{Turn}
 
 pub record Progress : Type 0 where
@@ -66,7 +66,7 @@ dataTurn p line = cond (same line dataText) (goes p headText (p .values) (replic
 unfoldable pub writeTurn : ℕ → Progress → List ℕ → Turned
 writeTurn n p line =
     cond (leb (p .number) 1003 && isData n line)
-    (goes p (writeRow (p .number - 3) (p .values) (p .page) (pairs line)) (p .values) (pageBy (p .values) (p .page) (pairs line)))
+    (goes p (writeRow (p .number - 3) (p .values) (p .page) (pairs line)) (p .values) (valuesPage (p .values) (p .page) (pairs line)))
     (halt 6 p)
 
 unfoldable pub lineTurn : Progress → List ℕ → Turned

@@ -9,7 +9,7 @@ ghost use mathlib.Core.Path.{_≡_};
 ghost use Prim.Native.Nat.{_≤_};
 ghost use lib.ListN.{length};
 ghost use Rattle.text.specs.Text.{Tail};
-ghost use Rattle.script.specs.Rows.{sizeOf, answerCost, pageBy, writeRow};
+ghost use Rattle.script.specs.Rows.{sizeOf, answerCost, valuesPage, writeRow};
 
 // The bytes of a page's data, L·S; 0 where the values are refused.
 pub fn size(v: Values) -> usize
@@ -37,7 +37,7 @@ fn answer_cost(a: Answer) -> u64
 pub fn write_row(number: u64, v: Values, page: &mut [u8], data: &[u8], buffer: &mut [u8]) -> usize
     requires { ⌜ 96 ≡ length (now buffer) ⌝ }
     ensures { λ r. ⌜ Tail (writeRow number v (now (page .entry)) (now («data» .entry))) r (now (buffer .exit)) ⌝ }
-    ensures { λ _. ⌜ now (page .exit) ≡ pageBy v (now (page .entry)) (now («data» .entry)) ⌝ }
+    ensures { λ _. ⌜ now (page .exit) ≡ valuesPage v (now (page .entry)) (now («data» .entry)) ⌝ }
 {
     let answer = writing::write(v.code, v.bytes, v.strips, page, data);
     let n = size(v);

@@ -18,7 +18,7 @@ use Rattle.cells.specs.Levels.{level}
 use Rattle.cells.proofs.Places.{listOf-same, listOf-getD}
 use Rattle.cells.proofs.Parts.{within}
 use Rattle.codes.specs.Generators.{Generators, digit}
-use Rattle.codes.specs.Layouts.{Layout, oneBit, stagesIn, cellsIn}
+use Rattle.codes.specs.Layouts.{Layout, oneBit, stageCount, cellCount}
 use Rattle.codes.specs.Reading.{codeBit, dataBit}
 use Rattle.codes.specs.Sequences.{Agree, odd}
 use Rattle.codes.specs.Encoders.{InMemory, encoderOf}
@@ -104,25 +104,26 @@ room G m h =
 -- THE STRIP
 module _ (lay : Layout) (L : ℕ) (strip : List ℕ) (marks : ℕ → Bool) where
   -- its cells
-  pub length-strip : length (stripCells lay L strip marks) ≡ cellsIn lay L
+  pub length-strip : length (stripCells lay L strip marks) ≡ cellCount lay L
   unfolding stripCells
-  length-strip = length-cells (cellsIn lay L) (level strip) marks
+  length-strip = length-cells (cellCount lay L) (level strip) marks
 
   module _ (G : Generators) (Z : Sound lay G) (W content : List ℕ) where
     -- the search solves it
     pub strip-solves : Solves
-        (Rewrite (stepsOf W) (meaningOf lay) (encoderOf G) (dataBits lay content) (stagesIn lay L) (stripCells lay L strip marks))
+        (Rewrite (stepsOf W) (meaningOf lay) (encoderOf G) (dataBits lay content) (stageCount lay L) (stripCells lay L strip marks))
         (rewriteOf lay G W L strip marks content)
-    unfolding rewriteOf cellsIn meaningOf
+    unfolding rewriteOf cellCount meaningOf
     strip-solves =
         write-solves (encoderOf G) (encoder-in-memory G) (dataBits lay content) (stepsOf W) (meaningOf lay)
         (choiceOf (stepsOf W) (meaningOf lay))
-        (choice-chooses (stepsOf W) (meaningOf lay) _ (sized lay G Z)) (stagesIn lay L) (stripCells lay L strip marks)
-        (full-length (lay .cells) (stagesIn lay L) (stripCells lay L strip marks) (length-strip ∙ mul-comm (lay .cells) (stagesIn lay L)))
+        (choice-chooses (stepsOf W) (meaningOf lay) _ (sized lay G Z)) (stageCount lay L) (stripCells lay L strip marks)
+        (full-length (lay .cells) (stageCount lay L) (stripCells lay L strip marks) (length-strip
+        ∙ mul-comm (lay .cells) (stageCount lay L)))
 
     -- and every write of it has a level for each cell
-    pub strip-width : Width (cellsIn lay L)
-        (Rewrite (stepsOf W) (meaningOf lay) (encoderOf G) (dataBits lay content) (stagesIn lay L) (stripCells lay L strip marks))
+    pub strip-width : Width (cellCount lay L)
+        (Rewrite (stepsOf W) (meaningOf lay) (encoderOf G) (dataBits lay content) (stageCount lay L) (stripCells lay L strip marks))
     strip-width = record { width = λ c y w. raised-length (w .raised) ∙ length-strip }
 
 -- ONE BIT A CELL. The bits that levels show are their parities
@@ -141,16 +142,16 @@ oneBit-sound G e f = record { leads = e; generators = f; shown = λ y h. length-
 -- THE WRITE with one bit a cell, where no step is free: each cell is kept or raised by one, and states may have room for more digits
 pub oneBit-write : (m : ℕ) (G : Generators) → Sound oneBit G → G .memory ≤ m → (W : List ℕ) → Dear (stepsOf W)
     → (L : ℕ) (strip : List ℕ) (marks : ℕ → Bool) (content : List ℕ)
-    → write (withMemory m (encoderOf G)) (dataBits oneBit content) (parity-choice (stepsOf W)) 2 (stagesIn oneBit L)
+    → write (withMemory m (encoderOf G)) (dataBits oneBit content) (parity-choice (stepsOf W)) 2 (stageCount oneBit L)
     (stripCells oneBit L strip marks)
     ≡ rewriteOf oneBit G W L strip marks content
-unfolding rewriteOf cellsIn meaningOf
+unfolding rewriteOf cellCount meaningOf
 oneBit-write m G Z h W D L strip marks content =
-    ap (λ (c : Choice). write (withMemory m (encoderOf G)) (dataBits oneBit content) c 2 (stagesIn oneBit L)
+    ap (λ (c : Choice). write (withMemory m (encoderOf G)) (dataBits oneBit content) c 2 (stageCount oneBit L)
     (stripCells oneBit L strip marks))
     (sym (ap (choiceOf (stepsOf W)) oneBit-parity ∙ parity-chosen (stepsOf W) D 2))
     ∙ room-same (encoderOf G) m (encoder-in-memory G) (room G m h) (dataBits oneBit content) (stepsOf W) (meaningOf oneBit)
     (choiceOf (stepsOf W) (meaningOf oneBit))
-    (choice-chooses (stepsOf W) (meaningOf oneBit) _ (sized oneBit G Z)) (stagesIn oneBit L) (stripCells oneBit L strip marks)
-    (full-length 2 (stagesIn oneBit L) (stripCells oneBit L strip marks) (length-strip oneBit L strip marks
-    ∙ mul-comm 2 (stagesIn oneBit L)))
+    (choice-chooses (stepsOf W) (meaningOf oneBit) _ (sized oneBit G Z)) (stageCount oneBit L) (stripCells oneBit L strip marks)
+    (full-length 2 (stageCount oneBit L) (stripCells oneBit L strip marks) (length-strip oneBit L strip marks
+    ∙ mul-comm 2 (stageCount oneBit L)))

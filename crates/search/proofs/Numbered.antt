@@ -1,7 +1,7 @@
 -- The trellis with its states as numbers is the trellis with its states as registers.
---   best-same       states as other things have the same best
+--   best-same                  states as other things have the same best
 --   branch-value, next-value   a branch and the next state by the state's number
---   write-numbers   the best from state 0 is the write of the strip
+--   write-numbers              the best from state 0 is the write of the strip
 use mathlib.Core.Path.{_≡_, refl, sym, _∙_, ap, ap₂}
 use mathlib.Core.Bool.{Bool, true, false}
 use mathlib.Core.List.{List, [], _∷_}

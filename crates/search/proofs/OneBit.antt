@@ -1,9 +1,9 @@
 -- THE TWO FACTS about one bit a cell: the prices of a stage are the least costs of its words, and the bit that the first cell shows decides
 -- ties.
---   Pair              a stage of two cells and one label
---   oneBit-wants      the word that a window wants at such a stage
---   oneBit-held       the levels of an open branch
---   oneBit-quotes     the two facts
+--   Pair            a stage of two cells and one label
+--   oneBit-wants    the word that a window wants at such a stage
+--   oneBit-held     the levels of an open branch
+--   oneBit-quotes   the two facts
 use mathlib.Core.Path.{_≡_, refl, sym, _∙_, ap, ap₂}
 use mathlib.Core.Bool.{Bool, true, false, not, cond, Bool·beq}
 use mathlib.Core.List.{List, [], _∷_, _++_}
@@ -24,9 +24,9 @@ use Rattle.search.specs.Strip.{Steps, Cell}
 use Rattle.search.specs.Levels.{cellAt}
 use Rattle.search.specs.Search.{Stage, withMemory}
 use Rattle.search.specs.Parity.{keep-or-raise, parity-choice}
-use Rattle.search.specs.Plan.{cost-of, add, Decides}
+use Rattle.search.specs.Plan.{solutionCost, add, Decides}
 use Rattle.search.specs.Numbered.{sumsN, wantedN, branchN}
-use Rattle.search.specs.Plain.{wordBy, priceBy, tieBy, Quotes}
+use Rattle.search.specs.Plain.{branchWord, branchPrice, branchTie, Quotes}
 use Rattle.search.specs.OneBit.{bitPrice, oneBitPrices}
 use Rattle.search.proofs.Plan.{cost-joined}
 use Rattle.search.proofs.Best.{joined-both}
@@ -44,8 +44,8 @@ pub record Both (G : Generators) : Type 0 where
   pub two : G .others ≡ g2 G ∷ []
 
 -- nothing more to pay
-free-after : (r : Option Solution) → add (cost-of r) (cost-of (some free)) ≡ cost-of r
-unfolding add cost-of
+free-after : (r : Option Solution) → add (solutionCost r) (solutionCost (some free)) ≡ solutionCost r
+unfolding add solutionCost
 free-after none = refl
 free-after (some b) = ap some (omega arith)
 
@@ -56,8 +56,8 @@ module _ (m : ℕ) (G : Generators) (K : Both G) where
   oneBit-wants w x = rw (K .two, first-digits G (K .g1-leads), ← taps-value (G .memory) (G .g1), ← taps-value (G .memory) (g2 G))
 
   -- the word of a state and a digit
-  word-by : (s : ℕ) (u : Bool) → wordBy (λ s. wordOf G (2 * s)) s u ≡ wordOf G (2 * s + one-if u)
-  unfolding wordBy one-if
+  word-by : (s : ℕ) (u : Bool) → branchWord (λ s. wordOf G (2 * s)) s u ≡ wordOf G (2 * s + one-if u)
+  unfolding branchWord one-if
   word-by s true = word-flip G s (K .g1-leads) (K .g2-leads)
   word-by s false = ap (wordOf G) (omega arith)
 
@@ -88,30 +88,31 @@ module _ (m : ℕ) (G : Generators) (K : Both G) where
 
     -- the price of a branch, by the bits that it wants
     pub oneBit-price : (x y : Cell) (a : Bool) (s : ℕ) (u : Bool)
-        → priceBy (λ s. wordOf G (2 * s)) (oneBitPrices S (record { adds = a ∷ []; cells = x ∷ y ∷ [] })) s u
+        → branchPrice (λ s. wordOf G (2 * s)) (oneBitPrices S (record { adds = a ∷ []; cells = x ∷ y ∷ [] })) s u
         ≡ add (bitPrice S x (firstOf G (2 * s + one-if u))) (bitPrice S y (secondOf G (2 * s + one-if u) +₂ a))
-    unfolding priceBy oneBitPrices cellAt
+    unfolding branchPrice oneBitPrices cellAt
     oneBit-price x y a s u = rw (word-by s u, word-odd G (2 * s + one-if u), word-half G (2 * s + one-if u))
 
     -- the digit 1 wins a tie where its first bit is the one that the first cell shows
     pub oneBit-tie : (x y : Cell) (a : Bool) (s : ℕ)
-        → tieBy (λ s. wordOf G (2 * s)) (oneBitPrices S (record { adds = a ∷ []; cells = x ∷ y ∷ [] })) s
+        → branchTie (λ s. wordOf G (2 * s)) (oneBitPrices S (record { adds = a ∷ []; cells = x ∷ y ∷ [] })) s
         ≡ Bool·beq (odd (x .level)) (firstOf G (2 * s + 1))
-    unfolding tieBy oneBitPrices cellAt one-if
+    unfolding branchTie oneBitPrices cellAt one-if
     oneBit-tie x y a s = rw (word-by s true, word-odd G (2 * s + 1))
 
     -- THE PRICES are the costs of the branches
     priced : (g : Stage) → Pair g → (s : ℕ) (u : Bool)
-        → priceBy (λ s. wordOf G (2 * s)) (oneBitPrices S g) s u ≡ cost-of (branchN (withMemory m (encoderOf G)) (parity-choice S) g s u)
+        → branchPrice (λ s. wordOf G (2 * s)) (oneBitPrices S g) s u
+        ≡ solutionCost (branchN (withMemory m (encoderOf G)) (parity-choice S) g s u)
     unfolding bitPrice
     priced g (pair {x = x} {y = y} {a = a}) s u =
         oneBit-price x y a s u
-        ∙ sym (ap cost-of (branch-cells x y a s u) ∙ cost-joined _ _ ∙ ap (add _) (cost-joined _ _ ∙ free-after (keep-or-raise S y _)))
+        ∙ sym (ap solutionCost (branch-cells x y a s u) ∙ cost-joined _ _ ∙ ap (add _) (cost-joined _ _ ∙ free-after (keep-or-raise S y _)))
 
     -- THE TIES are decided by the bit that the first cell shows
     tied : (g : Stage) → Pair g → (s : ℕ) (r q : Solution) → branchN (withMemory m (encoderOf G)) (parity-choice S) g s false ≡ some r
         → branchN (withMemory m (encoderOf G)) (parity-choice S) g s true ≡ some q
-        → Decides (tieBy (λ s. wordOf G (2 * s)) (oneBitPrices S g) s) (r .levels) (q .levels)
+        → Decides (branchTie (λ s. wordOf G (2 * s)) (oneBitPrices S g) s) (r .levels) (q .levels)
     unfolding one-if
     tied g (pair {x = x} {y = y} {a = a}) s r q e f =
         rw (

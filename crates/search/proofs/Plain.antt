@@ -11,9 +11,9 @@ use Rattle.codes.specs.Sequences.{Bits}
 use Rattle.codes.specs.Encoders.{Encoder}
 use Rattle.search.specs.Strip.{Cell}
 use Rattle.search.specs.Search.{Stage, Choice, stages, write}
-use Rattle.search.specs.Plan.{cost-of, costs, plan, play}
+use Rattle.search.specs.Plan.{solutionCost, costs, plan, play}
 use Rattle.search.specs.Numbered.{branchN, nextN}
-use Rattle.search.specs.Plain.{Prices, priceBy, tieBy, Quotes}
+use Rattle.search.specs.Plain.{Prices, branchPrice, branchTie, Quotes}
 use Rattle.search.proofs.Plan.{costs-best, plan-best}
 use Rattle.search.proofs.Numbered.{write-numbers}
 
@@ -24,13 +24,14 @@ module _ (E : Encoder) (choose : Choice) (words : ℕ → ℕ) (quote : Stage �
   gg = stages E d k 0 n old
 
   -- what state 0 costs before the first stage
-  pub plain-cost : costs (λ g. priceBy words (quote g)) (nextN E) gg 0 ≡ cost-of (write E d choose k n old)
-  plain-cost = costs-best (branchN E choose) (nextN E) (λ g. priceBy words (quote g)) Ok (Q .priced) ok 0
-      ∙ ap cost-of (write-numbers E choose d k n old)
+  pub plain-cost : costs (λ g. branchPrice words (quote g)) (nextN E) gg 0 ≡ solutionCost (write E d choose k n old)
+  plain-cost = costs-best (branchN E choose) (nextN E) (λ g. branchPrice words (quote g)) Ok (Q .priced) ok 0
+      ∙ ap solutionCost (write-numbers E choose d k n old)
 
   -- the solution of the digits that it takes
   pub plain-write : play (branchN E choose) (nextN E) gg 0
-      (plan (λ g. priceBy words (quote g)) (λ g. tieBy words (quote g)) (nextN E) gg 0) ≡ write E d choose k n old
+      (plan (λ g. branchPrice words (quote g)) (λ g. branchTie words (quote g)) (nextN E) gg 0) ≡ write E d choose k n old
   plain-write =
-      plan-best (branchN E choose) (nextN E) (λ g. priceBy words (quote g)) Ok (Q .priced) (λ g. tieBy words (quote g)) (Q .tied) ok 0
+      plan-best (branchN E choose) (nextN E) (λ g. branchPrice words (quote g)) Ok (Q .priced) (λ g. branchTie words (quote g))
+      (Q .tied) ok 0
       ∙ write-numbers E choose d k n old

@@ -15,18 +15,18 @@ use borrow.Author.Tests.{eqb-true, ne-eqb, lt-ltb, le-ltb}
 use Rattle.cells.specs.Places.{Each, no-more, and-each}
 use Rattle.search.specs.Best.{Solution}
 use Rattle.search.specs.Trellis.{before, lexltb, beats, better, joined, best}
-use Rattle.search.specs.Plan.{cost-of, add, lesser, turn, way, costs, digit-at, plan, play, Decides, second-lower, first-lower}
+use Rattle.search.specs.Plan.{solutionCost, add, lesser, turn, way, costs, digit-at, plan, play, Decides, second-lower, first-lower}
 use Rattle.search.proofs.Best.{some-none}
 
 -- the cost of two one after the other
-pub cost-joined : (r s : Option Solution) → cost-of (joined r s) ≡ add (cost-of r) (cost-of s)
-unfolding cost-of joined add
+pub cost-joined : (r s : Option Solution) → solutionCost (joined r s) ≡ add (solutionCost r) (solutionCost s)
+unfolding solutionCost joined add
 cost-joined none s = refl
 cost-joined (some a) none = refl
 cost-joined (some a) (some b) = refl
 
-cost-better : (r s : Option Solution) → cost-of (better r s) ≡ lesser (cost-of r) (cost-of s)
-unfolding cost-of better lesser beats before
+cost-better : (r s : Option Solution) → solutionCost (better r s) ≡ lesser (solutionCost r) (solutionCost s)
+unfolding solutionCost better lesser beats before
 cost-better none s = refl
 cost-better (some a) none = refl
 cost-better (some a) (some b) = ap some (go (ltb (b .cost) (a .cost)) (eqb (b .cost) (a .cost)) (lexltb (b .levels) (a .levels)) refl refl)
@@ -47,8 +47,8 @@ cond-of f true = refl
 cond-of f false = refl
 
 better-turn : (x y : Option Solution) (t : Bool) → ((a b : Solution) → x ≡ some a → y ≡ some b → lexltb (b .levels) (a .levels) ≡ t)
-    → cond (turn (cost-of x) (cost-of y) t) y x ≡ better x y
-unfolding cost-of turn better beats
+    → cond (turn (solutionCost x) (solutionCost y) t) y x ≡ better x y
+unfolding solutionCost turn better beats
 better-turn none none t h = refl
 better-turn none (some b) t h = refl
 better-turn (some a) none t h = refl
@@ -89,23 +89,23 @@ either-shut o = go (o false) (o true) refl refl
 
 -- THE PRICES are the costs of the branches
 module _ {G S : Type 0} (branch : G → S → Bool → Option Solution) (next : G → S → Bool → S) (price : G → S → Bool → Option ℕ)
-    (Ok : G → Type 0) (priced : (g : G) → Ok g → (s : S) (u : Bool) → price g s u ≡ cost-of (branch g s u)) where
+    (Ok : G → Type 0) (priced : (g : G) → Ok g → (s : S) (u : Bool) → price g s u ≡ solutionCost (branch g s u)) where
   -- a branch and what follows it
-  way-best : (g : G) → Ok g → (gs : List G) → ((s : S) → costs price next gs s ≡ cost-of (best branch next gs s)) → (s : S) (u : Bool)
-      → way price next g (costs price next gs) s u ≡ cost-of (joined (branch g s u) (best branch next gs (next g s u)))
+  way-best : (g : G) → Ok g → (gs : List G) → ((s : S) → costs price next gs s ≡ solutionCost (best branch next gs s)) → (s : S) (u : Bool)
+      → way price next g (costs price next gs) s u ≡ solutionCost (joined (branch g s u) (best branch next gs (next g s u)))
   unfolding way
   way-best g o gs e s u = ap₂ add (priced g o s u) (e (next g s u)) ∙ sym (cost-joined _ _)
 
   -- the costs are those of the best path
-  pub costs-best : {gs : List G} → Each Ok gs → (s : S) → costs price next gs s ≡ cost-of (best branch next gs s)
-  unfolding costs best cost-of
+  pub costs-best : {gs : List G} → Each Ok gs → (s : S) → costs price next gs s ≡ solutionCost (best branch next gs s)
+  unfolding costs best solutionCost
   costs-best no-more s = refl
   costs-best (and-each {g = g} {gs = gs} o os) s =
       ap₂ lesser (way-best g o gs (costs-best os) s false) (way-best g o gs (costs-best os) s true) ∙ sym (cost-better _ _)
 
   -- no digits are open from a state that has no cost
   pub play-shut : {gs : List G} → Each Ok gs → (s : S) (us : List Bool) → costs price next gs s ≡ none → play branch next gs s us ≡ none
-  unfolding play costs way add cost-of joined
+  unfolding play costs way add solutionCost joined
   play-shut no-more s us e = absurd (let z : _≡_ {A = ℕ} 0 1 = cc in omega arith)
   play-shut (and-each o os) s [] e = refl
   play-shut (and-each {g = g} {gs = gs} o os) s (u ∷ us) e =
@@ -114,7 +114,7 @@ module _ {G S : Type 0} (branch : G → S → Bool → Option Solution) (next : 
       ∙ either-shut (way price next g (costs price next gs) s) e u)
       (play-shut os (next g s u) us)
     where
-      go : (r : Option Solution) (k : Option ℕ) → add (cost-of r) k ≡ none → (k ≡ none → play branch next gs (next g s u) us ≡ none)
+      go : (r : Option Solution) (k : Option ℕ) → add (solutionCost r) k ≡ none → (k ≡ none → play branch next gs (next g s u) us ≡ none)
           → joined r (play branch next gs (next g s u) us) ≡ none
       go none k e f = refl
       go (some a) none e f = rw (f refl)
@@ -137,6 +137,6 @@ module _ {G S : Type 0} (branch : G → S → Bool → Option Solution) (next : 
         X : Bool → Option Solution
         X v = joined (branch g s v) (best branch next gs (next g s v))
 
-        same-digit : u ≡ turn (cost-of (X false)) (cost-of (X true)) (tie g s)
+        same-digit : u ≡ turn (solutionCost (X false)) (solutionCost (X true)) (tie g s)
         same-digit =
             ap₂ (λ (x y : Option ℕ). turn x y (tie g s)) (way-best g o gs (costs-best os) s false) (way-best g o gs (costs-best os) s true)

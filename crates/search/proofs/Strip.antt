@@ -1,9 +1,9 @@
 -- Raised cells: lengths stay, and a raising goes apart and together by groups of cells.
---   raised-length, raised-append   a raising has as many levels as cells; two make one, one after the other
---   Split, raised-split            a raising splits after any number of cells
---   group-width                    a stage's levels are as many as its cells
+--   raised-length, raised-append              a raising has as many levels as cells; two make one, one after the other
+--   Split, raised-split                       a raising splits after any number of cells
+--   group-width                               a stage's levels are as many as its cells
 --   full-raised, full-length, length-groups   groups of k cells stay groups of k cells; n times k cells are n groups
---   length-words, words-sized      n words, each of as many bits as a stage shows
+--   length-words, words-sized                 n words, each of as many bits as a stage shows
 use mathlib.Core.Path.{_≡_, refl, _∙_, ap}
 use mathlib.Core.Bool.{Bool}
 use mathlib.Core.List.{List, [], _∷_, _++_}

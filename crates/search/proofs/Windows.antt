@@ -1,8 +1,8 @@
 -- The bits that a window of the last digits gives, on numbers.
---   firstOf, secondOf        the bit of a window by the first generator, and by the second
---   parity-flip              the two newest digits give two bits
---   word-first, word-second  the bits of a window's word
---   word-flip                the words of the two newest digits have no bit in common
+--   firstOf, secondOf         the bit of a window by the first generator, and by the second
+--   parity-flip               the two newest digits give two bits
+--   word-first, word-second   the bits of a window's word
+--   word-flip                 the words of the two newest digits have no bit in common
 use mathlib.Core.Path.{_≡_, refl, sym, _∙_, ap, ap₂}
 use mathlib.Core.Bool.{Bool, true, false, not}
 use Prim.Native.Nat.{ℕ, suc, _<_, _+_, _*_, _-_, _/_, _%_, _^_}

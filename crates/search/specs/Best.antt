@@ -1,12 +1,12 @@
 -- Problems and their best solutions. A problem says which level lists are valid, and at what cost; its best solution is the cheapest, and
 -- of the cheapest the one with the lower level at the first place that differs.
---   Problem, Solution        which levels are valid at which cost; some levels and their cost
+--   Problem, Solution      which levels are valid at which cost; some levels and their cost
 --   Best A a               a is valid for A, and no worse than any other that is
 --   Solves A r             r is the best solution of A, or there is none and nothing is valid
 --   Settles A r            the same, strictly: any other valid level list costs more
 --   Product, Either, All   problems put together: one after the other, one of two, a list of independent parts
 --   FirstClosed            the first part for which nothing is valid
---   LexLower x y         x has the lower level at the first place where x and y differ
+--   LexLower x y           x has the lower level at the first place where x and y differ
 use mathlib.Core.Path.{_≡_}
 use mathlib.Core.Bool.{Bool}
 use mathlib.Core.List.{List, [], _∷_, _++_}

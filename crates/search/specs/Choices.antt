@@ -1,9 +1,9 @@
 -- The best levels of a stage's cells for a wanted word, for any meaning of levels: every level of every cell is tried.
---   least n f       the best of f 0 .. f (n − 1)
---   toLevel         one cell raised to a level, where it may be
---   tried           the best of all levels of the cells that pass a test
---   sameWord        whether two words are the same
---   choiceOf S M    the choice: the best levels that mean the wanted word
+--   least n f      the best of f 0 .. f (n − 1)
+--   toLevel        one cell raised to a level, where it may be
+--   tried          the best of all levels of the cells that pass a test
+--   sameWord       whether two words are the same
+--   choiceOf S M   the choice: the best levels that mean the wanted word
 use mathlib.Core.Bool.{Bool, true, false, cond, not, _&&_, _||_, Bool·beq}
 use mathlib.Core.List.{List, [], _∷_}
 use mathlib.Core.Option.{Option, none, some}

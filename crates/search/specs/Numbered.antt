@@ -1,7 +1,7 @@
 -- The trellis with its states as numbers, the newest digit worth 1: what a program computes with.
---   wantedN     the word that a window of the last digits wants
---   branchN     a branch by the state's number
---   nextN       the next state's number
+--   wantedN   the word that a window of the last digits wants
+--   branchN   a branch by the state's number
+--   nextN     the next state's number
 use mathlib.Core.Bool.{Bool, true}
 use mathlib.Core.List.{List, [], _∷_}
 use mathlib.Core.Option.{Option}

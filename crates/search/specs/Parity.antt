@@ -1,8 +1,8 @@
 -- ONE BIT A CELL: a cell's bit is its level mod 2; the choice keeps a cell or raises it by one.
---   parity n             the meaning of n cells a stage
---   One S x b            the problem of one cell that must show the bit b
---   keep-or-raise        its choice
---   parity-choice        a stage's choice: each cell's
+--   parity n        the meaning of n cells a stage
+--   One S x b       the problem of one cell that must show the bit b
+--   keep-or-raise   its choice
+--   parity-choice   a stage's choice: each cell's
 use mathlib.Core.Path.{_≡_}
 use mathlib.Core.Bool.{Bool, cond, Bool·beq}
 use mathlib.Core.List.{List, [], _∷_, map}

@@ -1,11 +1,11 @@
 -- The best path from prices alone: what a program keeps is a cost for each state, and a digit for each stage and state.
---   add                      two optional costs one after the other, closed as soon as one is
---   lesser, turn             the lesser of two costs, and the digit that goes with it
---   costs price next gs s    the least cost over the stages gs from the state s, by the price of each branch
---   digit-at                 the digit at a stage, by the costs from the stage after it; a tie goes by the stage's own rule
---   plan                     the digits of the best path
---   play                     the solution of given digits
---   Decides t xs ys          which of two level lists has the lower first level
+--   add                     two optional costs one after the other, closed as soon as one is
+--   lesser, turn            the lesser of two costs, and the digit that goes with it
+--   costs price next gs s   the least cost over the stages gs from the state s, by the price of each branch
+--   digit-at                the digit at a stage, by the costs from the stage after it; a tie goes by the stage's own rule
+--   plan                    the digits of the best path
+--   play                    the solution of given digits
+--   Decides t xs ys         which of two level lists has the lower first level
 use mathlib.Core.Bool.{Bool, true, false, cond}
 use mathlib.Core.List.{List, [], _∷_}
 use Prim.Native.Nat.{ℕ, _+_, _<_}
@@ -15,9 +15,9 @@ use Rattle.search.specs.Best.{Solution}
 use Rattle.search.specs.Trellis.{before, joined, free}
 
 -- the cost alone
-unfoldable pub cost-of : Option Solution → Option ℕ
-cost-of none = none
-cost-of (some a) = some (a .cost)
+unfoldable pub solutionCost : Option Solution → Option ℕ
+solutionCost none = none
+solutionCost (some a) = some (a .cost)
 
 -- two costs one after the other
 unfoldable pub add : Option ℕ → Option ℕ → Option ℕ

@@ -1,9 +1,9 @@
 -- The search over digits that finds the best write of a strip, for any choice of a stage's levels.
---   Choice, Chooses     the cheapest levels of a stage for a wanted word, and what makes a choice that
---   labels, wanted      the data divided by G_1, and the word that a branch wants
---   Stage, branch, next a stage of the trellis, its branches and its next states
---   withMemory m E      the encoder with room for m digits in its states
---   write               the write of a strip: the best over its stages from state zero
+--   Choice, Chooses       the cheapest levels of a stage for a wanted word, and what makes a choice that
+--   labels, wanted        the data divided by G_1, and the word that a branch wants
+--   Stage, branch, next   a stage of the trellis, its branches and its next states
+--   withMemory m E        the encoder with room for m digits in its states
+--   write                 the write of a strip: the best over its stages from state zero
 use mathlib.Core.Path.{_≡_}
 use mathlib.Core.Bool.{Bool, true, false}
 use mathlib.Core.List.{List, [], _∷_}

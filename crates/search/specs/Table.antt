@@ -1,8 +1,8 @@
 -- The best of every state at once: a table for each stage, made from the table of the stage after it. It is the recursion `best`, and it
 -- computes in the checker where the recursion would take a step for each digit sequence.
---   Tree, grow, look     a value for each list of m bits, made and looked up
---   table                the table of a list of stages
---   write-table          the write of a strip by tables
+--   Tree, grow, look   a value for each list of m bits, made and looked up
+--   table              the table of a list of stages
+--   write-table        the write of a strip by tables
 use mathlib.Core.Bool.{Bool, true, false}
 use mathlib.Core.List.{List, [], _∷_}
 use mathlib.Core.Option.{Option, none, some}

@@ -1,10 +1,10 @@
 -- The best solution computed: the better of two, two one after the other, and over a trellis of states and digits. Closed is `none`, a case
 -- of its own, and no number.
---   better r s                the better of two solutions
---   joined r s                two solutions one after the other, closed as soon as one is
---   best branch next gs s     the best over the stages gs from the state s
---   Valid admit next gs s     what is valid over these stages: some digits admit it
---   all solution is           the parts' solutions, one after the other; first-none: the first part that has none
+--   better r s              the better of two solutions
+--   joined r s              two solutions one after the other, closed as soon as one is
+--   best branch next gs s   the best over the stages gs from the state s
+--   Valid admit next gs s   what is valid over these stages: some digits admit it
+--   all solution is         the parts' solutions, one after the other; first-none: the first part that has none
 use mathlib.Core.Bool.{Bool, true, false, _&&_, cond, _||_}
 use mathlib.Core.List.{List, [], _∷_, _++_}
 use Prim.Native.Nat.{ℕ, suc, _+_}

@@ -1,9 +1,9 @@
 -- Data in hexadecimal. A data line gives bytes exactly where it is the text of them.
---   data-of-text, text-of-data            DATA IN FORM: the text of bytes gives them, and nothing else does
---   all-hex-stop, all-hex-on              the digits of a line, one byte on
---   pair-more, pair-all                   the pairs of a line, one byte on, and all of them
---   data-odd, data-even                   whether a line is data, by the tests that it meets
---   data-kept, data-made, data-decoded    the data that a line leaves as they were, and that it makes
+--   data-of-text, text-of-data           DATA IN FORM: the text of bytes gives them, and nothing else does
+--   all-hex-stop, all-hex-on             the digits of a line, one byte on
+--   pair-more, pair-all                  the pairs of a line, one byte on, and all of them
+--   data-odd, data-even                  whether a line is data, by the tests that it meets
+--   data-kept, data-made, data-decoded   the data that a line leaves as they were, and that it makes
 use mathlib.Core.Path.{_≡_, refl, sym, _∙_, ap, subst}
 use mathlib.Core.Bool.{Bool, true, false, _&&_, _||_}
 use mathlib.Core.List.{List, [], _∷_, _++_, append-assoc, append-nil}

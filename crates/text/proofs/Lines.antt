@@ -1,12 +1,12 @@
 -- Lines 1 to 3, byte by byte and whole. A line 2 gives values exactly where it is the text of them.
---   values-of-text, text-of-values    LINE 2 IN FORM: the text of values of at most five digits gives them, and nothing else does
---   and-both                          both of two tests hold
---   given-some                        what is given under a test that holds
---   same-stop, same-on, same-lengths  two texts are compared byte by byte; texts of two lengths differ
---   scan-next                         the values of a line, one byte on
---   form-by                           what a line 2 gives, by the tests that it meets
---   five-last                         the last of three tests decides where the first two hold
---   part-end                          the part of a buffer to its end is all that is left
+--   values-of-text, text-of-values     LINE 2 IN FORM: the text of values of at most five digits gives them, and nothing else does
+--   and-both                           both of two tests hold
+--   given-some                         what is given under a test that holds
+--   same-stop, same-on, same-lengths   two texts are compared byte by byte; texts of two lengths differ
+--   scan-next                          the values of a line, one byte on
+--   form-by                            what a line 2 gives, by the tests that it meets
+--   five-last                          the last of three tests decides where the first two hold
+--   part-end                           the part of a buffer to its end is all that is left
 use mathlib.Core.Path.{_≡_, refl, sym, _∙_, ap, ap₂, subst}
 use mathlib.Core.Bool.{Bool, true, false, cond, _&&_, and-false}
 use mathlib.Core.List.{List, [], _∷_}

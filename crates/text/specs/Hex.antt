@@ -1,7 +1,7 @@
 -- Data in hexadecimal; the laws of proofs/Hex.antt tie what a line says to the text.
---   hexText            the text of bytes
---   isData, pairs      whether a line is the text of n bytes, and the bytes
---   contentOf          the data of a line, if it is in form
+--   hexText         the text of bytes
+--   isData, pairs   whether a line is the text of n bytes, and the bytes
+--   contentOf       the data of a line, if it is in form
 use mathlib.Core.Bool.{Bool, true, cond, _&&_, _||_}
 use mathlib.Core.List.{List, [], _∷_}
 use mathlib.Core.Option.{Option, none, some}

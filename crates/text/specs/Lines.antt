@@ -1,8 +1,8 @@
 -- What lines 1 to 3 say, computed; the laws of proofs/Lines.antt tie it to the text.
---   same               whether two texts are the same
---   stepOf, scanOf     the values that stand in a line, byte by byte
---   valuesOf           the values of a line 2, if it is in form
---   formOf             the same as a function's answer
+--   same             whether two texts are the same
+--   stepOf, scanOf   the values that stand in a line, byte by byte
+--   valuesOf         the values of a line 2, if it is in form
+--   formOf           the same as a function's answer
 use mathlib.Core.Bool.{Bool, true, false, cond, _&&_}
 use mathlib.Core.List.{List, [], _∷_}
 use mathlib.Core.Option.{Option, none, some}

@@ -1,10 +1,10 @@
 -- Text, as lists of bytes.
---   decimal                      a number in decimal
---   valuesText                   line 2
---   namesText, dataText          lines 1 and 3
---   headText, rowText            what is printed after line 3, and for each write
---   faultHead, faultText         what is printed at a fault
---   Put, Tail                    where a text stands in a buffer: in front of another one, and at the end
+--   decimal                a number in decimal
+--   valuesText             line 2
+--   namesText, dataText    lines 1 and 3
+--   headText, rowText      what is printed after line 3, and for each write
+--   faultHead, faultText   what is printed at a fault
+--   Put, Tail              where a text stands in a buffer: in front of another one, and at the end
 use mathlib.Core.Path.{_≡_}
 use mathlib.Core.Bool.{cond}
 use mathlib.Core.List.{List, [], _∷_, _++_}

@@ -1,8 +1,8 @@
 -- What the program carries out is the write: along the digits that it follows every state is open, so they are the digits of the plan, and
 -- each cell comes to the level that the plan gives it.
---   Onward           a stage that is carried out as planned
---   carried-is       the digits that are followed, carried out, raise the cells to the levels of the write
---   followed-plans   so the bytes of these digits are a plan
+--   Onward                    a stage that is carried out as planned
+--   carried-is                the digits that are followed, carried out, raise the cells to the levels of the write
+--   followed-plans            so the bytes of these digits are a plan
 --   strip-near, write-below   a write raises no cell by more than one, and costs less than closed
 use mathlib.Core.Path.{_≡_, refl, sym, _∙_, ap, ap₂}
 use mathlib.Core.Bool.{Bool, true, false}
@@ -18,7 +18,7 @@ use Rattle.cells.specs.Bytes.{bitOf, bytesOf}
 use Rattle.cells.specs.Levels.{level}
 use Rattle.cells.proofs.Bytes.{bytesOf-bit}
 use Rattle.codes.specs.Generators.{Generators}
-use Rattle.codes.specs.Layouts.{oneBit, stagesIn, cellsIn}
+use Rattle.codes.specs.Layouts.{oneBit, stageCount, cellCount}
 use Rattle.codes.specs.Taps.{wordOf}
 use Rattle.codes.specs.Sequences.{_+₂_}
 use Rattle.codes.specs.Numbers.{one-if}
@@ -162,7 +162,7 @@ module _ (G : Generators) (W : List ℕ) (K : Suits G W) (L : ℕ) (most : L ≤
         rw (← (stages-are G strip content (K .both) L))
         (plain-write (wideFor G) (parity-choice (stepsOf W)) (λ s. wordOf G (2 * s)) (oneBitPrices (stepsOf W)) Pair
         (oneBit-quotes 6 G (K .both) (stepsOf W))
-        (dataBits oneBit content) 2 (stagesIn oneBit L) (stripCells oneBit L strip unmarked)
+        (dataBits oneBit content) 2 (stageCount oneBit L) (stripCells oneBit L strip unmarked)
         (rw (stages-are G strip content (K .both) L) (stages-pairs G strip content 0 (8 * L)))
         ∙ oneBit-write 6 G (suits-sound K) (K .reach) W D L strip unmarked content)
 
@@ -215,7 +215,7 @@ done-below v c = go (ltb v closed) refl
 module _ (G : Generators) (W : List ℕ) (K : Suits G W) (D : Dear (stepsOf W)) (L : ℕ) (most : L ≤ 64) (strip content : List ℕ)
     (a : Solution)
     (e : rewriteOf oneBit G W L strip unmarked content ≡ some a) where
-  pub strip-near : (c : ℕ) → c < cellsIn oneBit L → levelAt (a .levels) c ≤ suc (level strip c)
+  pub strip-near : (c : ℕ) → c < cellCount oneBit L → levelAt (a .levels) c ≤ suc (level strip c)
   unfolding carriedTo
   strip-near c h =
       let l : c < 16 * L = rw (oneBit-cells L) at h in

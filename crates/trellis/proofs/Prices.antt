@@ -1,9 +1,9 @@
 -- What the program's numbers of one stage tell: the plain search's prices, ways and digits, for one bit a cell and no cell marked.
---   Suits                      what the program asks of a code and its weights
+--   Suits                          what the program asks of a code and its weights
 --   stageFor, pricesFor, tiesFor   a stage of a strip, and the plain search's prices and ties
---   label-told                 the label of a stage
---   stage-told                 the number of a state tells its cost
---   digit-told                 the bit of a state that has a cost is its digit
+--   label-told                     the label of a stage
+--   stage-told                     the number of a state tells its cost
+--   digit-told                     the bit of a state that has a cost is its digit
 use mathlib.Core.Path.{_≡_, refl, sym, _∙_, ap, fun-ext}
 use mathlib.Core.Bool.{Bool, true, false, cond, not, _&&_, _||_, Bool·beq}
 use mathlib.Core.List.{List, [], _∷_, _++_}
@@ -34,9 +34,9 @@ use Rattle.search.specs.Strip.{Cell, stepsOf}
 use Rattle.search.specs.Search.{Stage, withMemory}
 use Rattle.search.specs.Layouts.{dataBits}
 use Rattle.search.specs.Parity.{keep-or-raise}
-use Rattle.search.specs.Plan.{cost-of, add, lesser, turn, way, digit-at}
+use Rattle.search.specs.Plan.{solutionCost, add, lesser, turn, way, digit-at}
 use Rattle.search.specs.Numbered.{nextN}
-use Rattle.search.specs.Plain.{priceBy, tieBy}
+use Rattle.search.specs.Plain.{branchPrice, branchTie}
 use Rattle.search.specs.OneBit.{bitPrice, oneBitPrices}
 use Rattle.search.proofs.OneBit.{Both, oneBit-price, oneBit-tie}
 use Rattle.search.proofs.Windows.{mod-odd, firstOf, secondOf, parity-flip, word-first, word-second}
@@ -85,10 +85,10 @@ stageFor G strip content t = record { adds = labelFor G content t ∷ []; cells 
 
 -- the prices of its branches, and its ties, in the plain search
 abbrev pub pricesFor : Generators → List ℕ → Stage → ℕ → Bool → Option ℕ
-pricesFor G W g = priceBy (λ s. wordOf G (2 * s)) (oneBitPrices (stepsOf W) g)
+pricesFor G W g = branchPrice (λ s. wordOf G (2 * s)) (oneBitPrices (stepsOf W) g)
 
 abbrev pub tiesFor : Generators → List ℕ → Stage → ℕ → Bool
-tiesFor G W g = tieBy (λ s. wordOf G (2 * s)) (oneBitPrices (stepsOf W) g)
+tiesFor G W g = branchTie (λ s. wordOf G (2 * s)) (oneBitPrices (stepsOf W) g)
 
 module _ (G : Generators) (W strip content : List ℕ) (t : ℕ) where
   -- what the state s costs by the digit u at stage t, where `cost` is what the states after it cost
@@ -133,11 +133,11 @@ module _ (G : Generators) (W : List ℕ) (K : Suits G W) where
   -- the price of a bit tells the price of the plain search
   price-told : (l : ℕ) (b : Bool) → l ≤ 3
       → Tells closed 255 (priceFor (stepList W) l (one-if b)) (bitPrice (stepsOf W) (record { level = l; mark = false }) b)
-  unfolding priceFor bitPrice keep-or-raise cost-of stepList weightOf
+  unfolding priceFor bitPrice keep-or-raise solutionCost stepList weightOf
   price-told l b h = rw (shows l b, le-ltb 3 l h) (go (Bool·beq (odd l) b) (ltb l 3) refl)
     where
       go : (q r : Bool) → ltb l 3 ≡ r → Tells closed 255 (cond q 0 (getD (W ++ (closed ∷ [])) l 0))
-          (cost-of (cond q (some (record { cost = 0; levels = l ∷ [] }))
+          (solutionCost (cond q (some (record { cost = 0; levels = l ∷ [] }))
           (cond r (some (record { cost = getD W l 0; levels = suc l ∷ [] })) none)))
       go true r e = open-at {c = 0} (omega arith)
       go false true e = rw (List·getD-append W (closed ∷ []) 0 l (omega (arith, ltb-true))) (open-at {c = getD W l 0} (K .bytes l))

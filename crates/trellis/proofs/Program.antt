@@ -17,7 +17,7 @@ use Rattle.codes.specs.Generators.{Generators}
 use Rattle.codes.specs.Codes.{generatorsOf}
 use Rattle.codes.specs.declared.Code.{Code}
 use Rattle.codes.proofs.Codes.{memory-bounds, proper, second-leads, two-generators}
-use Rattle.codes.specs.Layouts.{oneBit, stagesIn}
+use Rattle.codes.specs.Layouts.{oneBit, stageCount}
 use Rattle.codes.specs.Taps.{wordOf}
 use Rattle.codes.specs.Encoders.{encoderOf}
 use Rattle.codes.proofs.Layouts.{oneBit-stages, oneBit-cells}
@@ -25,7 +25,7 @@ use Rattle.search.specs.Best.{Solution}
 use Rattle.search.specs.Strip.{Dear, cellsOf, stepsOf}
 use Rattle.search.specs.Search.{Stage, labels, stages}
 use Rattle.search.specs.Parity.{parity-choice}
-use Rattle.search.specs.Plan.{cost-of, costs}
+use Rattle.search.specs.Plan.{solutionCost, costs}
 use Rattle.search.specs.Numbered.{nextN}
 use Rattle.search.specs.OneBit.{oneBitPrices}
 use Rattle.search.specs.Layouts.{dataBits, unmarked, stripCells, stagesOf, rewriteOf, Sound}
@@ -81,8 +81,8 @@ module _ (G : Generators) (strip content : List ℕ) where
         ∙ stages-from 0 (8 * L))
 
 -- the number that tells the cost of a solution tells its outcome
-outcome-told : (m v : ℕ) (r : Option Solution) → m < closed → Tells closed m v (cost-of r) → toldOutcome v ≡ solutionOutcome r
-unfolding cost-of solutionOutcome
+outcome-told : (m v : ℕ) (r : Option Solution) → m < closed → Tells closed m v (solutionCost r) → toldOutcome v ≡ solutionOutcome r
+unfolding solutionCost solutionOutcome
 outcome-told m v none l (shut h) = rw (le-ltb v closed h)
 outcome-told m v (some a) l (open-at h) = rw (lt-ltb v closed (omega arith))
 
@@ -115,15 +115,15 @@ module _ (G : Generators) (W : List ℕ) (K : Suits G W) (L : ℕ) (most : L ≤
   module _ (D : Dear (stepsOf W)) where
     -- THE OUTCOME. State 0 before the first stage costs what the write costs
     cost-start : costs (pricesFor G W) (nextN (wideFor G)) (stagesFrom G strip content 0 (8 * L)) 0
-        ≡ cost-of (rewriteOf oneBit G W L strip unmarked content)
+        ≡ solutionCost (rewriteOf oneBit G W L strip unmarked content)
     unfolding stagesOf
     cost-start =
         rw (← (stages-are G strip content (K .both) L))
         (plain-cost (wideFor G) (parity-choice (stepsOf W)) (λ s. wordOf G (2 * s)) (oneBitPrices (stepsOf W)) Pair
         (oneBit-quotes 6 G (K .both) (stepsOf W))
-        (dataBits oneBit content) 2 (stagesIn oneBit L) (stripCells oneBit L strip unmarked)
+        (dataBits oneBit content) 2 (stageCount oneBit L) (stripCells oneBit L strip unmarked)
         (rw (stages-are G strip content (K .both) L) (stages-pairs G strip content 0 (8 * L)))
-        ∙ ap cost-of (oneBit-write 6 G (suits-sound K) (K .reach) W D L strip unmarked content))
+        ∙ ap solutionCost (oneBit-write 6 G (suits-sound K) (K .reach) W D L strip unmarked content))
 
     -- so its number tells the outcome
     pub outcome-is : toldOutcome (getD (costsOver G W strip content (8 * L) (8 * L)) 0 0)

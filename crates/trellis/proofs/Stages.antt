@@ -1,8 +1,8 @@
 -- Laws of one stage on numbers, for any number of states: its widths, its costs and its digits state by state.
---   pick-second, pick-bit, pick-other   what a digit picks of two
+--   pick-second, pick-bit, pick-other            what a digit picks of two
 --   below-yes, below-no, takes-first, takes-second, takes-tie   what the tests of two costs give
---   half-after, halves, half-more       64 states and 64 digits as two halves of 32
---   lesser-is, digit-le, digits-bit     the lesser branch of a state and its digit
+--   half-after, halves, half-more                64 states and 64 digits as two halves of 32
+--   lesser-is, digit-le, digits-bit              the lesser branch of a state and its digit
 --   length-stage, stage-at, is-stage, stage-le   a stage's costs, one for each state, and their bound
 use mathlib.Core.Path.{_≡_, refl, sym, ap, ap₂, _∙_}
 use mathlib.Core.Bool.{Bool, true, false, not}

@@ -1,12 +1,12 @@
 -- What the program computes from the last stage to the first, on numbers: prices, labels, the costs of the states and the digits that they
 -- take.
---   closed               from this number on there is no cost: more than any write of a strip costs
---   stepList W           the weights W of the three steps, and closed for a step from level 3
---   priceFor steps l v   what it costs that a cell at level l shows the bit v
---   wordsOf G            the word that each of 64 states wants for the digit 0
---   registerAt, labelAt  the register of the labels before a stage, and a stage's label
+--   closed                   from this number on there is no cost: more than any write of a strip costs
+--   stepList W               the weights W of the three steps, and closed for a step from level 3
+--   priceFor steps l v       what it costs that a cell at level l shows the bit v
+--   wordsOf G                the word that each of 64 states wants for the digit 0
+--   registerAt, labelAt      the register of the labels before a stage, and a stage's label
 --   costsBefore, costsOver   a stage's costs by those after it; the costs over the last k stages
---   decisionAt, Decided  the digits that the states take at a stage, state s at bit s, and of all stages
+--   decisionAt, Decided      the digits that the states take at a stage, state s at bit s, and of all stages
 use mathlib.Core.Bool.{cond}
 use mathlib.Core.List.{List, [], _∷_, _++_}
 use Prim.Native.Nat.{ℕ, zero, suc, _+_, _*_, _-_, _%_, _<_, _≤_}
@@ -17,7 +17,7 @@ use Rattle.cells.specs.Places.{listOf}
 use Rattle.cells.specs.Bytes.{bitOf}
 use Rattle.cells.specs.Levels.{level}
 use Rattle.codes.specs.Generators.{Generators}
-use Rattle.codes.specs.Layouts.{oneBit, bytesIn}
+use Rattle.codes.specs.Layouts.{oneBit, byteCount}
 use Rattle.search.specs.Strip.{Dear, stepsOf}
 use Rattle.codes.specs.Taps.{tapsOf, wordOf, forthOf}
 use Rattle.trellis.specs.Stage.{mostCost, stageOf, digitsOf}
@@ -83,7 +83,7 @@ pub record Decided (G : Generators) (W strip content decisions : List ℕ) : Typ
 -- what the functions of a strip ask: the words of the code, data of at most 64 bytes, a strip for them, and no step that is free
 pub record Shaped (G : Generators) (W words strip content : List ℕ) : Type 0 where
   pub words-are : words ≡ wordsOf G
-  pub size : length strip ≡ bytesIn oneBit (length content)
+  pub size : length strip ≡ byteCount oneBit (length content)
   pub most : length content ≤ 64
   pub dear : Dear (stepsOf W)
 

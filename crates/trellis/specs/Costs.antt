@@ -1,6 +1,6 @@
 -- Costs as a program holds them: a number for each optional cost. Closed is any number from `top` on, never a cost, and no sum brings it
 -- back among the costs.
---   Tells             the number v tells an optional cost
+--   Tells   the number v tells an optional cost
 use Prim.Native.Nat.{ℕ, _≤_}
 use mathlib.Core.Option.{Option, none, some}
 

@@ -1,10 +1,10 @@
 -- What the program does from the first stage to the last, on numbers: it follows the digits that the states took, and raises the cells that
 -- the digits want raised.
---   stateAt u t        the state before stage t, by the digits u
---   followed dec       the digits that are taken from state 0 by the decisions dec
+--   stateAt u t                 the state before stage t, by the digits u
+--   followed dec                the digits that are taken from state 0 by the decisions dec
 --   wantedFirst, wantedSecond   the bits that the digits want of a stage's cells
---   shown              a page with one cell raised where it does not show the bit that is wanted
---   carriedTo          the level of each cell after the digits are carried out
+--   shown                       a page with one cell raised where it does not show the bit that is wanted
+--   carriedTo                   the level of each cell after the digits are carried out
 use mathlib.Core.Path.{_≡_}
 use Prim.Native.Nat.{ℕ, zero, suc, _+_, _*_, _/_, _%_, _^_, _≤_}
 use lib.ListN.{length}
@@ -14,7 +14,7 @@ use lib.Dec.{eqb}
 use Rattle.cells.specs.Levels.{level}
 use Rattle.cells.specs.Raising.{startOf, raisedCell, canRise}
 use Rattle.codes.specs.Generators.{Generators, g2}
-use Rattle.codes.specs.Layouts.{oneBit, bytesIn}
+use Rattle.codes.specs.Layouts.{oneBit, byteCount}
 use Rattle.codes.specs.Taps.{tapsOf, parityOf}
 use Rattle.trellis.specs.Stage.{pick}
 use Rattle.trellis.specs.Backward.{labelAt}
@@ -57,4 +57,4 @@ shown page c wanted = cond (eqb (level page c % 2) wanted) page (cond (canRise p
 pub record CarryAsked (strip content digits : List ℕ) : Type 0 where
   pub digits-are : length digits ≡ length content
   pub most : length content ≤ 64
-  pub size : length strip ≡ bytesIn oneBit (length content)
+  pub size : length strip ≡ byteCount oneBit (length content)

@@ -1,6 +1,6 @@
 -- A plan: the digits of a strip's write, a bit a stage.
---   writeOf      the write of a strip of bytes, one bit a cell and no cell marked
---   Plans        digits that lead to the levels of the write
+--   writeOf   the write of a strip of bytes, one bit a cell and no cell marked
+--   Plans     digits that lead to the levels of the write
 use mathlib.Core.Path.{_≡_}
 use mathlib.Core.List.{List}
 use mathlib.Core.Option.{Option, some}
@@ -8,7 +8,7 @@ use Prim.Native.Nat.{ℕ, _<_}
 use lib.ListN.{length}
 use Rattle.cells.specs.Bytes.{bitOf}
 use Rattle.codes.specs.Generators.{Generators}
-use Rattle.codes.specs.Layouts.{oneBit, cellsIn}
+use Rattle.codes.specs.Layouts.{oneBit, cellCount}
 use Rattle.search.specs.Best.{Solution}
 use Rattle.search.specs.Levels.{levelAt}
 use Rattle.search.specs.Layouts.{unmarked, rewriteOf}
@@ -21,4 +21,4 @@ writeOf G W strip content = rewriteOf oneBit G W (length content) strip unmarked
 -- where the strip has a write, the digits carried out raise its cells to the write's levels
 pub record Plans (G : Generators) (W strip content digits : List ℕ) : Type 0 where
   pub leads : (a : Solution) → writeOf G W strip content ≡ some a
-      → (c : ℕ) → c < cellsIn oneBit (length content) → carriedTo G strip content (bitOf digits) c ≡ levelAt (a .levels) c
+      → (c : ℕ) → c < cellCount oneBit (length content) → carriedTo G strip content (bitOf digits) c ≡ levelAt (a .levels) c

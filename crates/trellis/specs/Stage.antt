@@ -1,11 +1,11 @@
 -- One backward stage of the search on numbers: what each state costs to the end, and the digit that it takes, from what the states after it
 -- cost.
 --   mostPrice, mostCost   the most that a price and a cost may be
---   pick d x y       x for the digit 0, else y
---   below x y        1 where x is below y, else 0
---   branchCost       a branch: the prices of its two cells and the cost after it
---   stageOf          the costs of all states, a stage earlier
---   digitsOf         the digits that the states take, as one number, state s at bit s
+--   pick d x y            x for the digit 0, else y
+--   below x y             1 where x is below y, else 0
+--   branchCost            a branch: the prices of its two cells and the cost after it
+--   stageOf               the costs of all states, a stage earlier
+--   digitsOf              the digits that the states take, as one number, state s at bit s
 use Prim.Native.Nat.{ℕ, zero, suc, _+_, _-_, _*_, _/_, _%_, _≤_, _<_, min}
 use mathlib.Core.List.{List}
 use mathlib.Core.Path.{_≡_}

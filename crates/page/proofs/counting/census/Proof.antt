@@ -8,7 +8,7 @@ use lib.ListN.{length}
 use borrow.Author.Needs.{needs}
 use Rattle.cells.specs.Places.{listOf}
 use Rattle.cells.specs.Levels.{level}
-use Rattle.codes.specs.Layouts.{oneBit, bytesIn}
+use Rattle.codes.specs.Layouts.{oneBit, byteCount}
 use Rattle.codes.proofs.Layouts.{oneBit-cells}
 use Rattle.demand.specs.Jobs.{part}
 use Rattle.refusals.specs.Refusals.{shapeGround}
@@ -88,7 +88,7 @@ loop-again c =
     let t = strip-there (a .bytes) (a .strips) (l .loop .k) (a .page .now) (s .0) (s .2) (c .before .before .loop-test .taken) in
     let r =
     c .row-of .ensures ∙ ap (λ (x : List ℕ). rowOf (16 * a .bytes) (level x)) (c .before .strip .ensures ∙ t)
-    ∙ ap (λ (n : ℕ). rowOf n (level (part (bytesIn oneBit (a .bytes)) (l .loop .k) (a .page .now)))) (sym (oneBit-cells (a .bytes)))
+    ∙ ap (λ (n : ℕ). rowOf n (level (part (byteCount oneBit (a .bytes)) (l .loop .k) (a .page .now)))) (sym (oneBit-cells (a .bytes)))
     ∙ strip-row oneBit (a .bytes) (l .loop .k) (a .page .now) (oneBit-whole (a .bytes) .cells-fill) in (
       omega arith,
       rw (l .loop .inv .1)

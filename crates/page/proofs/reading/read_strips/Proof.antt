@@ -11,7 +11,7 @@ use Rattle.codes.specs.Layouts.{oneBit}
 use Rattle.demand.specs.Jobs.{part}
 use Rattle.demand.proofs.Reading.{parts-read}
 use Rattle.page.specs.Reading.{readPage}
-use Rattle.page.specs.Plans.{stripAt}
+use Rattle.page.specs.Plans.{stripPart}
 use Rattle.page.proofs.Promise.{oneBit-whole}
 use Rattle.cells.proofs.Parts.{within}
 use Rattle.page.proofs.Strips.{strip-there, lent-length, stored-length, part-more}
@@ -23,7 +23,7 @@ abbrev Inv-loop : tie.InvT-loop
 Inv-loop code bytes strips page data₀ k₀ «data» k =
     (length «data» ≡ length data₀)
     × (k ≤ strips)
-    × ((j : ℕ) → j < k → part bytes j «data» ≡ readStrip oneBit (generatorsOf code) bytes (stripAt bytes j page))
+    × ((j : ℕ) → j < k → part bytes j «data» ≡ readStrip oneBit (generatorsOf code) bytes (stripPart bytes j page))
 
 abbrev μ-loop : tie.MeasureT-loop
 μ-loop code bytes strips page data₀ k₀ «data» k = strips - k
@@ -77,14 +77,14 @@ loop-again c =
     let r = c .before .before .read-strip in
     let m = lent-length (a .bytes) (l .k) (l .«data») (fit t) in
     let n = r .kept .1 .1 .0 ∙ m in
-    let y : r .last .1 .1 .0 ≡ readStrip oneBit (generatorsOf (a .code)) (a .bytes) (stripAt (a .bytes) (l .k) (a .page .now)) =
+    let y : r .last .1 .1 .0 ≡ readStrip oneBit (generatorsOf (a .code)) (a .bytes) (stripPart (a .bytes) (l .k) (a .page .now)) =
     r .ensures
     ∙ ap₂ (readStrip oneBit (generatorsOf (a .code))) m (c .before .before .before .before .strip .ensures
     ∙ strip-there (a .bytes) (a .strips) (l .k) (a .page .now) (s .pre .bytes-in) (s .pre .page-is) (t .loop-test .taken)) in (
       stored-length (a .bytes) (l .k) (l .«data») (r .last .1 .1 .0) (fit t) n ∙ l .inv .0,
       omega arith,
       part-more (a .bytes) (l .k) (l .«data») (r .last .1 .1 .0)
-          (λ j z. z ≡ readStrip oneBit (generatorsOf (a .code)) (a .bytes) (stripAt (a .bytes) j (a .page .now))) (fit t) n y (l .inv .2),
+          (λ j z. z ≡ readStrip oneBit (generatorsOf (a .code)) (a .bytes) (stripPart (a .bytes) j (a .page .now))) (fit t) n y (l .inv .2),
     )
 
 same-length : tie.Need-same-length Inv-loop μ-loop

@@ -5,7 +5,7 @@ use native.Mathlib.Omega.{arith}
 use lib.ListN.{length}
 use borrow.Author.Needs.{needs}
 use Rattle.codes.specs.Codes.{generatorsOf}
-use Rattle.codes.specs.Layouts.{oneBit, bytesIn}
+use Rattle.codes.specs.Layouts.{oneBit, byteCount}
 use Rattle.codes.proofs.Layouts.{oneBit-bytes}
 use Rattle.page.proofs.Strips.{lent-length}
 use Rattle.refusals.proofs.Refusals.{one-to-64}
@@ -97,7 +97,7 @@ carry-strip-requires c κs =
     record {
       digits-are = g ∙ sym d;
       most = omega (arith, d, one-to-64 (a .bytes) (s .pre .0 .bytes-in));
-      size = p ∙ sym (oneBit-bytes (a .bytes)) ∙ ap (bytesIn oneBit) (sym d);
+      size = p ∙ sym (oneBit-bytes (a .bytes)) ∙ ap (byteCount oneBit) (sym d);
     }
 
 add-k : tie.Need-add-k Inv-loop μ-loop
