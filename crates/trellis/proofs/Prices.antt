@@ -92,7 +92,7 @@ tiesFor G W g = branchTie (λ s. wordOf G (2 * s)) (oneBitPrices (stepsOf W) g)
 
 module _ (G : Generators) (W strip content : List ℕ) (t : ℕ) where
   -- what the state s costs by the digit u at stage t, where `cost` is what the states after it cost
-  abbrev pub wayFor : (ℕ → Option ℕ) → ℕ → Bool → Option ℕ
+  abbrev wayFor : (ℕ → Option ℕ) → ℕ → Bool → Option ℕ
   wayFor cost = way (pricesFor G W) (nextN (wideFor G)) (stageFor G strip content t) cost
 
   -- what the first cell of the stage costs to show a bit, and what the second costs

@@ -6,7 +6,7 @@ ghost use Rattle.cells.specs.Places.{number};
 ghost use Rattle.trellis.specs.Stage.{mostPrice, mostCost, pick, below, branchCost, lesserOf, stageOf, digitOf, digitsOf, Capped, HalfAsked};
 
 // The first for the digit 0, else the second.
-pub fn pick(d: u8, x: u32, y: u32) -> u32
+fn pick(d: u8, x: u32, y: u32) -> u32
     requires { ⌜ (x ≤ mostPrice) × (y ≤ mostPrice) ⌝ }
     ensures { λ r. ⌜ (r ≡ pick d x y) × (r ≤ mostPrice) ⌝ }
 {
