@@ -27,7 +27,6 @@ use Rattle.search.specs.Best.{Problem, Width, All}
 use Rattle.search.specs.Strip.{Cell, stepsOf, Rise, Rewrite}
 use Rattle.search.specs.Levels.{cellAt, levelAt, CouldBe, pays}
 use Rattle.search.specs.Layouts.{meaningOf, dataBits, stripCells, Sound}
-use Rattle.search.proofs.Strip.{raised-length}
 use Rattle.search.proofs.Levels.{cells-at, raised-pays}
 use Rattle.search.proofs.Layouts.{could-rewrite, rewrite-could, length-strip, strip-width}
 use Rattle.demand.specs.Jobs.{part, Job, width, pageCells, Whole}

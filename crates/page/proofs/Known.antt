@@ -5,9 +5,9 @@
 --   cases-hold                   THE THEOREM
 use mathlib.Core.Path.{_≡_, refl, sym, _∙_, ap, ap₂, subst₂, fun-ext}
 use mathlib.Core.Bool.{Bool, true, false, _&&_, false≢true}
-use mathlib.Core.List.{List, [], _∷_, map}
+use mathlib.Core.List.{List, [], _∷_}
 use mathlib.Core.Option.{Option}
-use Prim.Native.Nat.{ℕ, _*_}
+use Prim.Native.Nat.{ℕ}
 use native.Mathlib.Omega.{arith}
 use lib.Dec.{eqb}
 use lib.ListN.{length}
@@ -29,7 +29,7 @@ use Rattle.search.specs.Trellis.{before, lexltb, beats, better, joined, all, fi
 use Rattle.search.specs.Search.{labels, sums, wanted, branch, next, stages}
 use Rattle.search.specs.Parity.{keep-or-raise, parity-choice}
 use Rattle.search.specs.Levels.{levelAt}
-use Rattle.search.specs.Layouts.{unmarked, dataBits, stripCells, rewriteOf}
+use Rattle.search.specs.Layouts.{unmarked, dataBits, stripCells}
 use Rattle.search.specs.Table.{grow, look, step, table, write-table}
 use Rattle.search.proofs.Parity.{house-dear}
 use Rattle.search.proofs.Table.{write-by-table}
@@ -37,7 +37,7 @@ use Rattle.search.proofs.Layouts.{oneBit-write}
 use Rattle.demand.specs.Jobs.{part}
 use Rattle.demand.specs.Reading.{stripLevels, readBy}
 use Rattle.demand.specs.Computed.{stripBytes, stripWrite, pageWrite, spentStrip}
-use Rattle.refusals.specs.Refusals.{oneTo64, codeGround, bytesGround, stripsGround, limitsGround, sizesGround, pageGround, dataGround, shapeGround, ground, numbered}
+use Rattle.refusals.specs.Refusals.{oneTo64, codeGround, bytesGround, stripsGround, limitsGround, sizesGround, pageGround, dataGround, ground, numbered}
 use Rattle.page.specs.Reading.{readPage}
 use Rattle.page.specs.Answers.{callAnswer, callPage, jobAnswer, jobPage, jobOf, answerOf, pageOf}
 use Rattle.page.specs.Known.{Case, Expected, reads, done, spent, Expects, Says, cases}

@@ -14,10 +14,8 @@ use lib.ListN.{length, getD, replicate}
 use Rattle.cells.specs.Bytes.{bitOf}
 use Rattle.cells.specs.Levels.{level, raisesOf}
 use Rattle.cells.proofs.Places.{sumOf-same, sumOf-add, sumOf-zero}
-use Rattle.codes.specs.Layouts.{oneBit, cellCount}
 use Rattle.codes.proofs.Layouts.{oneBit-cells, oneBit-bytes}
-use Rattle.refusals.specs.Refusals.{ground}
-use Rattle.page.specs.Answers.{kept, pageOf}
+use Rattle.page.specs.Answers.{kept}
 use Rattle.page.specs.Promise.{Wrote, done, spent, refused}
 use Rattle.page.specs.Ledger.{cellsOn, raisesMade, Event, raised, erased, looked, Fair, fair-raise, fair-erase, fair-look, pageAfter, counted, Call, write, erase, look, erasing, eventOf, played, tallied}
 use Rattle.refusals.specs.declared.Refusal.{Refusal}

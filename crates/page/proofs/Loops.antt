@@ -13,7 +13,7 @@ use mathlib.Core.Option.{Option, none, some}
 use Prim.Native.Nat.{ℕ, suc, _+_, _*_, _-_, _<_, _≤_}
 use native.Mathlib.Omega.{arith}
 use native.Mathlib.Nat.{not-suc-le-zero, add-sub-cancel-left, sub-zero, mul-le-mul}
-use lib.ListN.{length, getD, take, drop, length-append}
+use lib.ListN.{length, take, drop, length-append}
 use lib.Seq.{drop-drop, take-at, drop-at, length-take-le}
 use Rattle.cells.specs.Bytes.{bitOf, Octets}
 use Rattle.cells.specs.Climbs.{house}

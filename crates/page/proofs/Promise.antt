@@ -7,13 +7,13 @@ use mathlib.Core.Path.{_≡_, refl}
 use mathlib.Core.Bool.{Bool, true, false, cond}
 use mathlib.Core.List.{List}
 use mathlib.Core.Option.{Option, none, some}
-use Prim.Native.Nat.{ℕ, _≤_, _*_}
+use Prim.Native.Nat.{ℕ, _≤_}
 use native.Mathlib.Omega.{arith}
 use lib.Dec.{eqb}
 use lib.ListN.{length, getD}
 use Rattle.cells.specs.Bytes.{Octets}
 use Rattle.cells.specs.Raising.{startIn, raisedTo}
-use Rattle.codes.specs.Generators.{short, long, g2, digit}
+use Rattle.codes.specs.Generators.{short, long, digit}
 use Rattle.codes.specs.Layouts.{oneBit}
 use Rattle.codes.specs.Encoders.{Proper}
 use Rattle.codes.proofs.Codes.{short-proper, long-proper}

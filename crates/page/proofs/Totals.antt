@@ -5,7 +5,6 @@
 --   page-answers    the total over a page's strips answers as its write does
 use mathlib.Core.Path.{_≡_, refl, _∙_, ap, ap₂}
 use mathlib.Core.Bool.{Bool, true, false}
-use mathlib.Core.List.{List}
 use mathlib.Core.Option.{Option, none, some}
 use Prim.Native.Nat.{ℕ, zero, suc, _<_, _≤_, _+_, _*_, _%_, _^_}
 use native.Mathlib.Omega.{arith}

@@ -6,8 +6,7 @@ use refusals::Completion;
 ghost use mathlib.Core.Path.{_≡_};
 ghost use Prim.Native.Nat.{_≤_};
 ghost use Rattle.cells.specs.Levels.{level};
-ghost use Rattle.page.specs.Counting.{rowOf, rowsOf, censusOf};
-ghost use Rattle.refusals.specs.Refusals.{shapeGround};
+ghost use Rattle.page.specs.Counting.{rowOf, censusOf};
 
 // The row of a strip of this many cells.
 fn row_of(strip: &[u8], cells: u32) -> Row

@@ -3,10 +3,10 @@
 --   tried-solves     the best of all levels that pass a test
 --   choice-chooses   so the choice is one for the search
 use mathlib.Core.Path.{_≡_, refl, sym, _∙_, ap}
-use mathlib.Core.Bool.{Bool, true, false, cond, not, _&&_, _||_, Bool·beq, true≢false, false≢true}
+use mathlib.Core.Bool.{Bool, true, false, cond, not, _&&_, _||_, false≢true}
 use mathlib.Core.List.{List, [], _∷_, _++_}
 use mathlib.Core.Option.{Option, none, some}
-use mathlib.Core.Logic.{_⊎_, inl, inr, _↔_}
+use mathlib.Core.Logic.{inr, _↔_}
 use Prim.Native.Nat.{ℕ, zero, suc, _<_, _≤_, _+_}
 use native.Mathlib.Omega.{arith}
 use native.Mathlib.Nat.{not-suc-le-zero}
@@ -14,10 +14,10 @@ use lib.Dec.{leb, eqb}
 use lib.ListN.{length}
 use borrow.Author.Tests.{leb-true, le-leb, eqb-true, eqb-false, eq-eqb}
 use Rattle.cells.specs.Climbs.{climb}
-use Rattle.search.specs.Best.{Problem, Solution, Solves, nothing, just, Product, Width, Empty, empty, Either, digit, NoWorse}
-use Rattle.search.specs.Trellis.{joined, free}
+use Rattle.search.specs.Best.{Problem, Solution, Solves, nothing, just, Product, Either, digit, NoWorse}
+use Rattle.search.specs.Trellis.{free}
 use Rattle.search.specs.Strip.{Steps, Cell, Rise, Raised, still, rise, Meaning, Group}
-use Rattle.search.specs.Search.{Choice, Chooses}
+use Rattle.search.specs.Search.{Chooses}
 use Rattle.search.specs.Choices.{least, toLevel, tried, sameWord, choiceOf}
 use Rattle.search.proofs.Best.{solves-either, solves-product, solves-iff, best-strict, no-worse-refl}
 

@@ -4,7 +4,7 @@
 --   strip-solves, strip-width      the write of a strip is the best of what could be, and as wide as the strip has cells
 --   oneBit-parity, oneBit-sound    one bit a cell: a cell's bit is its level's parity
 --   oneBit-write                   and each cell is kept or raised by one, with room in the states for more digits
-use mathlib.Core.Path.{_≡_, refl, sym, _∙_, ap, fun-ext}
+use mathlib.Core.Path.{_≡_, refl, sym, _∙_, ap}
 use mathlib.Core.Bool.{Bool, false}
 use mathlib.Core.List.{List, [], _∷_, map}
 use mathlib.Core.Logic.{_↔_}
@@ -20,13 +20,13 @@ use Rattle.cells.proofs.Parts.{within}
 use Rattle.codes.specs.Generators.{Generators, digit}
 use Rattle.codes.specs.Layouts.{Layout, oneBit, stageCount, cellCount}
 use Rattle.codes.specs.Reading.{codeBit, dataBit}
-use Rattle.codes.specs.Sequences.{Agree, odd}
+use Rattle.codes.specs.Sequences.{odd}
 use Rattle.codes.specs.Encoders.{InMemory, encoderOf}
 use Rattle.codes.specs.Coset.{column, Reads}
 use Rattle.codes.proofs.Sequences.{odd-mod-two}
 use Rattle.codes.proofs.Encoders.{encoder-in-memory, reads-sums}
 use Rattle.search.specs.Best.{Solves, Width}
-use Rattle.search.specs.Strip.{Steps, Dear, Cell, stepsOf, Meaning, words, Rewrite}
+use Rattle.search.specs.Strip.{Steps, Dear, Cell, stepsOf, words, Rewrite}
 use Rattle.search.specs.Search.{Choice, withMemory, write}
 use Rattle.search.specs.Levels.{levelAt, CouldBe, pays}
 use Rattle.search.specs.Choices.{choiceOf}

@@ -4,21 +4,18 @@
 --   raised-pays                  its cost is the sum of the climbs
 --   words-at                     the word of a stage is what its own levels show
 use mathlib.Core.Path.{_≡_, refl, sym, _∙_, ap}
-use mathlib.Core.Bool.{Bool, false}
+use mathlib.Core.Bool.{Bool}
 use mathlib.Core.List.{List, [], _∷_, map}
 use Prim.Native.Nat.{ℕ, zero, suc, _<_, _+_, _*_}
 use native.Mathlib.Omega.{arith}
 use native.Mathlib.Nat.{not-suc-le-zero}
-use lib.ListN.{length, getD, take, drop, List·getD-map}
-use lib.Seq.{getD-take, getD-drop, drop-drop}
+use lib.ListN.{length, getD, take, drop}
+use lib.Seq.{drop-drop}
 use Rattle.cells.specs.Places.{sumOf}
 use Rattle.cells.specs.Climbs.{climb}
 use Rattle.cells.proofs.Places.{length-listOf, listOf-at}
-use Rattle.codes.specs.Sequences.{odd}
-use Rattle.codes.specs.Coset.{column}
 use Rattle.search.specs.Strip.{Steps, Cell, cellsOf, Rise, Raised, still, rise, groups, Meaning, words}
 use Rattle.search.specs.Levels.{cellAt, levelAt, pays}
-use Rattle.search.specs.Parity.{parity}
 use Rattle.search.proofs.Strip.{length-groups}
 
 -- the cells of a list are those it was made of

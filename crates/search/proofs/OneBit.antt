@@ -4,13 +4,12 @@
 --   oneBit-wants    the word that a window wants at such a stage
 --   oneBit-held     the levels of an open branch
 --   oneBit-quotes   the two facts
-use mathlib.Core.Path.{_≡_, refl, sym, _∙_, ap, ap₂}
-use mathlib.Core.Bool.{Bool, true, false, not, cond, Bool·beq}
-use mathlib.Core.List.{List, [], _∷_, _++_}
+use mathlib.Core.Path.{_≡_, refl, sym, _∙_, ap}
+use mathlib.Core.Bool.{Bool, true, false, Bool·beq}
+use mathlib.Core.List.{[], _∷_}
 use mathlib.Core.Option.{Option, none, some, Option·some-injective}
-use Prim.Native.Nat.{ℕ, _+_, _*_, _-_, _/_}
+use Prim.Native.Nat.{ℕ, _+_, _*_, _-_}
 use native.Mathlib.Omega.{arith}
-use lib.ListN.{getD}
 use Rattle.codes.specs.Generators.{Generators, g2, digit}
 use Rattle.codes.specs.Taps.{wordOf}
 use Rattle.codes.specs.Sequences.{_+₂_, odd}

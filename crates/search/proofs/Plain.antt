@@ -2,9 +2,7 @@
 --   plain-cost    the plain search's cost of state 0 is the write's
 --   plain-write   the solution of the plain search's digits is the write
 use mathlib.Core.Path.{_≡_, _∙_, ap}
-use mathlib.Core.Bool.{Bool}
 use mathlib.Core.List.{List}
-use mathlib.Core.Option.{Option}
 use Prim.Native.Nat.{ℕ}
 use Rattle.cells.specs.Places.{Each}
 use Rattle.codes.specs.Sequences.{Bits}

@@ -2,16 +2,15 @@
 --   best-solves   the best way through the stages solves the problem of all stages
 --   all-solves    the best of each part, one after the other, solves all parts
 --   none-first    where all parts have none, the first part with none has no valid levels
-use mathlib.Core.Path.{_≡_, refl, sym, ap}
+use mathlib.Core.Path.{_≡_, refl}
 use mathlib.Core.Bool.{Bool, true, false}
-use mathlib.Core.List.{List, [], _∷_}
+use mathlib.Core.List.{List, _∷_}
 use mathlib.Core.Option.{Option, none, some}
-use Prim.Native.Nat.{ℕ, suc, _+_}
-use lib.ListN.{length}
+use Prim.Native.Nat.{ℕ, suc}
 use Rattle.cells.specs.Places.{Each, no-more, and-each}
 use Rattle.search.specs.Best.{Problem, Solution, Solves, nothing, just, Width, All, FirstClosed, here, later}
 use Rattle.search.specs.Trellis.{joined, free, best, Valid, all, first-none}
-use Rattle.search.proofs.Best.{solves-empty, solves-either, solves-product, width-empty, width-either, width-product, some-none}
+use Rattle.search.proofs.Best.{solves-empty, solves-either, solves-product, some-none}
 
 -- THE TRELLIS: best solves it
 module _ {G S : Type 0} (branch : G → S → Bool → Option Solution) (next : G → S → Bool → S) (admit : G → S → Bool → Problem) (width : G → ℕ)

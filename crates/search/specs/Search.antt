@@ -8,7 +8,7 @@ use mathlib.Core.Path.{_≡_}
 use mathlib.Core.Bool.{Bool, true, false}
 use mathlib.Core.List.{List, [], _∷_}
 use Prim.Native.Nat.{ℕ, zero, suc}
-use lib.ListN.{getD, take, replicate, length, drop}
+use lib.ListN.{take, replicate, length, drop}
 use mathlib.Core.Option.{Option}
 use Rattle.codes.specs.Sequences.{_+₂_, Bits}
 use Rattle.codes.specs.Registers.{dot, push, quotient}

@@ -29,7 +29,7 @@ use Rattle.search.specs.Strip.{Dear, stepsOf}
 use Rattle.search.specs.Levels.{levelAt}
 use Rattle.search.specs.Search.{Stage}
 use Rattle.search.specs.Parity.{parity-choice}
-use Rattle.search.specs.Plan.{way, costs, digit-at, plan, play}
+use Rattle.search.specs.Plan.{costs, digit-at, plan, play}
 use Rattle.search.specs.Numbered.{branchN, nextN}
 use Rattle.search.specs.OneBit.{oneBitPrices}
 use Rattle.search.specs.Layouts.{dataBits, unmarked, stripCells, stagesOf, rewriteOf}

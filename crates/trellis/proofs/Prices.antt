@@ -34,7 +34,7 @@ use Rattle.search.specs.Strip.{Cell, stepsOf}
 use Rattle.search.specs.Search.{Stage, withMemory}
 use Rattle.search.specs.Layouts.{dataBits}
 use Rattle.search.specs.Parity.{keep-or-raise}
-use Rattle.search.specs.Plan.{solutionCost, add, lesser, turn, way, digit-at}
+use Rattle.search.specs.Plan.{solutionCost, lesser, turn, way, digit-at}
 use Rattle.search.specs.Numbered.{nextN}
 use Rattle.search.specs.Plain.{branchPrice, branchTie}
 use Rattle.search.specs.OneBit.{bitPrice, oneBitPrices}

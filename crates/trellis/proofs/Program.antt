@@ -4,12 +4,12 @@
 --   suits                    every code suits weights of three bytes
 --   costs-from               the numbers of the states tell their costs
 --   outcome-is               the number of state 0 before the first stage tells the strip's outcome
-use mathlib.Core.Path.{_≡_, refl, sym, _∙_, ap}
+use mathlib.Core.Path.{_≡_, refl, _∙_, ap}
 use mathlib.Core.List.{List, [], _∷_}
 use mathlib.Core.Option.{Option, none, some}
 use Prim.Native.Nat.{ℕ, zero, suc, _<_, _≤_, _+_, _*_, _-_}
 use native.Mathlib.Omega.{arith}
-use lib.ListN.{length, getD, replicate, getD-replicate, length-map}
+use lib.ListN.{length, getD, getD-replicate, length-map}
 use borrow.Author.Tests.{lt-ltb, le-ltb}
 use Rattle.cells.specs.Places.{listOf, Each, no-more, and-each}
 use Rattle.cells.proofs.Places.{listOf-same}

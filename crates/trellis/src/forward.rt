@@ -3,7 +3,7 @@ use crate::Outcome;
 use crate::backward::decide;
 use codes::Code;
 ghost use mathlib.Core.Path.{_≡_};
-ghost use Prim.Native.Nat.{ℕ, _+_, _*_, _<_, _≤_};
+ghost use Prim.Native.Nat.{_+_, _*_, _<_, _≤_};
 ghost use lib.ListN.{length, getD};
 ghost use Rattle.cells.specs.Places.{number};
 ghost use Rattle.cells.specs.Bytes.{bytesOf, bitOf};

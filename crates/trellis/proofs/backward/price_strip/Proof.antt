@@ -1,7 +1,7 @@
 -- The invariant: the register is that of the labels before stage t, and the costs are those over the stages from t on.
 use mathlib.Core.Path.{_≡_, ap, _∙_}
 use mathlib.Core.List.{List}
-use Prim.Native.Nat.{ℕ, suc, _≤_, _*_, _-_}
+use Prim.Native.Nat.{ℕ, suc, _*_, _-_}
 use native.Mathlib.Omega.{arith}
 use lib.ListN.{length, getD}
 use mir.Syntax.{w8}
