@@ -1,6 +1,6 @@
 -- The invariant: the strips before k are raised to what their digits want, and from strip k on the page is as it was.
-use mathlib.Core.Path.{sym, ap, _∙_}
-use Prim.Native.Nat.{_+_, _*_, _-_, _≤_}
+use mathlib.Core.Path.{sym, ap, _∙_, subst⁻¹}
+use Prim.Native.Nat.{ℕ, _+_, _*_, _-_, _≤_}
 use native.Mathlib.Omega.{arith}
 use lib.ListN.{length}
 use borrow.Author.Needs.{needs}
@@ -59,7 +59,7 @@ part-carry-strip-start : tie.Need-part-carry-strip-start Inv-loop μ-loop
 part-carry-strip-start c = search needs
 
 part-carry-strip-end : tie.Need-part-carry-strip-end Inv-loop μ-loop
-part-carry-strip-end c = fit c
+part-carry-strip-end c = omega (arith, fit c)
 
 add-carry-strip-2 : tie.Need-add-carry-strip-2 Inv-loop μ-loop
 add-carry-strip-2 c = omega (arith, fit-data (c .before))
@@ -71,7 +71,7 @@ part-carry-strip-start-2 : tie.Need-part-carry-strip-start-2 Inv-loop μ-loop
 part-carry-strip-start-2 c = search needs
 
 part-carry-strip-end-2 : tie.Need-part-carry-strip-end-2 Inv-loop μ-loop
-part-carry-strip-end-2 c = fit-data (c .before)
+part-carry-strip-end-2 c = omega (arith, fit-data (c .before))
 
 add-carry-strip-3 : tie.Need-add-carry-strip-3 Inv-loop μ-loop
 add-carry-strip-3 c = omega (arith, fit-data (c .before .before))
@@ -83,7 +83,7 @@ part-carry-strip-start-3 : tie.Need-part-carry-strip-start-3 Inv-loop μ-loop
 part-carry-strip-start-3 c = search needs
 
 part-carry-strip-end-3 : tie.Need-part-carry-strip-end-3 Inv-loop μ-loop
-part-carry-strip-end-3 c = fit-digits (c .before .before)
+part-carry-strip-end-3 c = omega (arith, fit-digits (c .before .before))
 
 carry-strip-requires : tie.Need-carry-strip-requires Inv-loop μ-loop
 carry-strip-requires c κs =
@@ -91,13 +91,13 @@ carry-strip-requires c κs =
     let s = t .before .before .before .before .before in
     let a = s .args in
     let l = t .before .loop in
-    let d = lent-length (a .bytes) (l .k) (a .«data» .now) (fit-data t) in
-    let g = lent-length (a .bytes) (l .k) (a .digits .now) (fit-digits t) in
-    let p = lent-length (6 * a .bytes) (l .k) (l .page) (fit t) in
     record {
-      digits-are = g ∙ sym d;
-      most = omega (arith, d, one-to-64 (a .bytes) (s .pre .0 .bytes-in));
-      size = p ∙ sym (oneBit-bytes (a .bytes)) ∙ ap (byteCount oneBit) (sym d);
+      digits-are = lent-length (a .bytes) _ (a .digits .now) (omega (arith, fit-digits t))
+          ∙ sym (lent-length (a .bytes) _ (a .«data» .now) (omega (arith, fit-data t)));
+      most = subst⁻¹ (λ (n : ℕ). n ≤ 64) (lent-length (a .bytes) _ (a .«data» .now) (omega (arith, fit-data t)))
+          (one-to-64 (a .bytes) (s .pre .0 .bytes-in) .1);
+      size = lent-length (6 * a .bytes) _ (l .page) (omega (arith, fit t)) ∙ sym (oneBit-bytes (a .bytes))
+          ∙ ap (byteCount oneBit) (sym (lent-length (a .bytes) _ (a .«data» .now) (omega (arith, fit-data t))));
     }
 
 add-k : tie.Need-add-k Inv-loop μ-loop
