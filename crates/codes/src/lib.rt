@@ -11,7 +11,7 @@ ghost use Prim.Native.Nat.{_≤_};
 ghost use Rattle.codes.specs.Generators.{short, long};
 ghost use Rattle.codes.specs.Codes.{generatorsOf, nextOf, TableRow};
 
-// The bytes and the cells of a strip for each byte of its data.
+// The bytes and the cells of a strip for each byte of its data; the definitions are `byteCount` and `cellCount` of `oneBit`.
 pub const STRIP_BYTES: usize = 6;
 
 pub const STRIP_CELLS: u32 = 16;
