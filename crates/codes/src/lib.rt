@@ -11,9 +11,10 @@ ghost use Prim.Native.Nat.{_≤_};
 ghost use Rattle.codes.specs.Generators.{short, long};
 ghost use Rattle.codes.specs.Codes.{generatorsOf, nextOf, TableRow};
 
-// The bytes and the cells of a strip for each byte of its data; the definitions are `byteCount` and `cellCount` of `oneBit`.
+// The bytes of a strip for each byte of its data: `byteCount` of `oneBit`.
 pub const STRIP_BYTES: usize = 6;
 
+// And its cells: `cellCount` of `oneBit`.
 pub const STRIP_CELLS: u32 = 16;
 
 enum Name {
