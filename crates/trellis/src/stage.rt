@@ -38,10 +38,10 @@ fn branch_cost(j: u8, x: u32, a0: u32, a1: u32, b0: u32, b1: u32) -> u32
 }
 
 // A word of two halves.
-fn join(stay: u32, high: u32) -> u64
-    ensures { λ r. ⌜ r ≡ stay + high * 4294967296 ⌝ }
+fn join(lower: u32, upper: u32) -> u64
+    ensures { λ r. ⌜ r ≡ lower + upper * 4294967296 ⌝ }
 {
-    stay as u64 + high as u64 * 4294967296
+    lower as u64 + upper as u64 * 4294967296
 }
 
 // Half of the states, from the state at on: what each costs goes to costs, and the digits that they take are the result.
@@ -94,7 +94,7 @@ pub fn stage(
     ensures { λ r. ⌜ now (costs .exit) ≡ stageOf 64 (now (costs .entry)) (now (words .entry)) a0 a1 b0 b1 ⌝ }
 {
     let after = *costs;
-    let low_half = half(costs, &after, words, 0, a0, a1, b0, b1, stay);
-    let high_half = half(costs, &after, words, 32, a0, a1, b0, b1, stay);
-    join(low_half, high_half)
+    let lower = half(costs, &after, words, 0, a0, a1, b0, b1, stay);
+    let upper = half(costs, &after, words, 32, a0, a1, b0, b1, stay);
+    join(lower, upper)
 }
