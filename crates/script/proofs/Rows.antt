@@ -9,6 +9,7 @@ use Prim.Native.Nat.{ℕ, _*_, _≤_}
 use native.Mathlib.Omega.{arith}
 use native.Mathlib.Nat.{mul-le-mul}
 use Rattle.cells.specs.Levels.{raisesOf}
+use Rattle.codes.proofs.Layouts.{oneBit-cells}
 use Rattle.page.specs.declared.Answer.{Answer}
 use Rattle.refusals.specs.declared.Refusal.{Refusal}
 use Rattle.refusals.specs.Refusals.{sizesGround}
@@ -45,4 +46,4 @@ module _ (v : Values) (before content : List ℕ) (answer : Answer) (after : Lis
   pub row-is : (number n cost levels size : ℕ) → n ≡ numberOf answer → cost ≡ answerCost answer → size ≡ sizeOf v
       → levels ≡ raisesOf (16 * size) after → rowText number n cost levels ≡ writeRow number v before content
   unfolding writeRow rowAfter
-  row-is number n cost levels size en ec es el = rw (en, ec, el, es, a, p)
+  row-is number n cost levels size en ec es el = rw (en, ec, el, es, a, p, oneBit-cells (sizeOf v))

@@ -8,6 +8,7 @@ use Rattle.cells.specs.Places.{sumOf, Each}
 use Rattle.cells.proofs.Places.{each-first, each-rest}
 use Rattle.cells.specs.Bytes.{bitOf}
 use Rattle.cells.specs.Levels.{level, raisesOf}
+use Rattle.codes.specs.Layouts.{stageCount, cellCount, byteCount}
 use Rattle.refusals.specs.Refusals.{oneTo64, codeGround, bytesGround, stripsGround, limitsGround, sizesGround}
 use Rattle.page.specs.declared.Answer.the-variants as A
 use Rattle.page.proofs.Known.{cases-hold}
@@ -60,7 +61,7 @@ rows one two = headText ++ (writeRow 1 v (six 0) (128 ∷ []) ++ (writeRow 2 v o
 listed : runOf exampleInput ≡ rows (valuesPage v (six 0) (128 ∷ [])) (valuesPage v (valuesPage v (six 0) (128 ∷ [])) (0 ∷ []))
 unfolding exampleInput runOf linesOf linesFrom runFrom lineTurn namesTurn valuesTurn dataTurn writeTurn same valuesOf checked
     scanOf stepOf fiveDigits valuesText decimal onto sizesGround limitsGround codeGround bytesGround stripsGround oneTo64 sizeOf
-    isData allHex isHex pairs nibble six v rows
+    isData allHex isHex pairs nibble six v rows byteCount cellCount stageCount
 listed = refl
 
 -- the rows of the three writes, evaluated
@@ -69,7 +70,7 @@ row n cost last = rowAfter n v (A.Done cost) (six last)
 
 printed : headText ++ (row 1 16 32 ++ (row 2 16 36 ++ (row 3 20 100 ++ []))) ≡ exampleOutput
 unfolding rowAfter rowText decimal onto raisesOf sumOf level bitOf sizeOf sizesGround limitsGround codeGround bytesGround
-    stripsGround oneTo64 headText exampleOutput six v row
+    stripsGround oneTo64 headText exampleOutput six v row cellCount stageCount
 printed = refl
 
 -- THE THEOREM

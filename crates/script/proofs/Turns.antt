@@ -14,6 +14,7 @@ use native.Mathlib.Nat.{mul-assoc}
 use lib.ListN.{length, length-append}
 use borrow.Author.Tests.{eq-eqb}
 use Rattle.cells.specs.Climbs.{house}
+use Rattle.codes.specs.Layouts.{oneBit, byteCount}
 use Rattle.search.specs.Best.{Solution}
 use Rattle.refusals.specs.declared.Refusal.{Refusal}
 use Rattle.refusals.specs.declared.Completion.{Completion}
@@ -71,11 +72,11 @@ form-goes p v (some w) e = let j = judged-goes p w v (sizesGround (w .code) (w .
 
 -- A WRITE OF DATA IN FORM HAS ITS INPUT IN ORDER
 write-in-order : (v : Values) (page content : ℕ) → sizesGround (v .code) (v .bytes) (v .strips) ≡ none
-    → page ≡ 6 * sizeOf v → content ≡ sizeOf v → ground (v .code) (v .bytes) (v .strips) page content ≡ none
+    → page ≡ byteCount oneBit (sizeOf v) → content ≡ sizeOf v → ground (v .code) (v .bytes) (v .strips) page content ≡ none
 unfolding ground pageGround dataGround
 write-in-order v page content e p c =
     let s = size-given v e in
-    let ep : page ≡ 6 * v .bytes * v .strips = p ∙ rw (s, mul-assoc) in
+    let ep : page ≡ 6 * v .bytes * v .strips = p ∙ oneBit-bytes (sizeOf v) ∙ rw (s, mul-assoc) in
     rw (e, oneBit-bytes (v .bytes), eq-eqb page (6 * v .bytes * v .strips) ep, eq-eqb content (v .bytes * v .strips) (c ∙ s))
 
 -- an answer without a ground is 0 or 7
@@ -85,7 +86,7 @@ zero-or-seven none k = inr refl
 
 -- 'one row a write: its number from 1, 0 or 7'
 pub answers-0-or-7 : (p : Progress) (line text page content : List ℕ) (v : Values) → valuesTurn p line ≡ goes p [] v (p .page)
-    → length page ≡ 6 * sizeOf v → contentOf (sizeOf v) text ≡ some content
+    → length page ≡ byteCount oneBit (sizeOf v) → contentOf (sizeOf v) text ≡ some content
     → (numberOf (valuesAnswer v page content) ≡ 0) ⊎ (numberOf (valuesAnswer v page content) ≡ 7)
 unfolding answerOf jobAnswer valuesTurn
 answers-0-or-7 p line text page content v e h t =

@@ -7,6 +7,7 @@ use mathlib.Core.List.{List}
 use Prim.Native.Nat.{ℕ, _*_}
 use Rattle.cells.specs.Levels.{raisesOf}
 use Rattle.cells.specs.Climbs.{house}
+use Rattle.codes.specs.Layouts.{oneBit, cellCount}
 use Rattle.page.specs.declared.Answer.{Answer}
 use Rattle.page.specs.declared.Answer.the-variants as A
 use Rattle.refusals.specs.Refusals.{sizesGround}
@@ -33,7 +34,7 @@ answerCost (A.Refused r) = 0
 
 -- the row of a write's number, answer and page after it, which has 16·L·S cells
 unfoldable pub rowAfter : ℕ → Values → Answer → List ℕ → List ℕ
-rowAfter number v answer after = rowText number (numberOf answer) (answerCost answer) (raisesOf (16 * sizeOf v) after)
+rowAfter number v answer after = rowText number (numberOf answer) (answerCost answer) (raisesOf (cellCount oneBit (sizeOf v)) after)
 
 -- THE ROW of a write of this data to this page
 unfoldable pub writeRow : ℕ → Values → List ℕ → List ℕ → List ℕ

@@ -11,6 +11,7 @@ use mathlib.Core.Option.{Option, none, some}
 use Prim.Native.Nat.{ℕ, _+_, _*_, _-_}
 use lib.Dec.{ltb, leb, eqb}
 use lib.ListN.{replicate}
+use Rattle.codes.specs.Layouts.{oneBit, byteCount}
 use Rattle.refusals.specs.declared.Refusal.{Refusal}
 use Rattle.refusals.specs.Refusals.{sizesGround, refusalNumber}
 use Rattle.text.specs.declared.Values.{Values}
@@ -59,7 +60,7 @@ valuesTurn p line = formTurn p (valuesOf line)
 
 -- line 3: the writes start 'with an erased page'
 unfoldable pub dataTurn : Progress → List ℕ → Turned
-dataTurn p line = cond (same line dataText) (goes p headText (p .values) (replicate (6 * sizeOf (p .values)) 0)) (halt 6 p)
+dataTurn p line = cond (same line dataText) (goes p headText (p .values) (replicate (byteCount oneBit (sizeOf (p .values))) 0)) (halt 6 p)
 
 -- a data line, of which n bytes are wanted; write 1 is line 4: 'a data line of another length than L·S bytes is at fault by 6,
 -- and so is a 1,001st data line'

@@ -8,9 +8,12 @@ use text::decoding;
 use text::parsing;
 use text::printing;
 ghost use mathlib.Core.Path.{_≡_};
+ghost use mathlib.Core.Bool.{cond};
 ghost use mathlib.Core.List.{[]};
 ghost use Prim.Native.Nat.{_<_};
+ghost use lib.Dec.{leb};
 ghost use lib.ListN.{length};
+ghost use Rattle.text.specs.Hex.{decodedOf};
 ghost use Rattle.script.specs.Turns.{atLine, Told, ToldPage, halt, namesTurn, valuesTurn, dataTurn, writeTurn};
 
 // A fault: the run stops.
@@ -89,6 +92,8 @@ pub fn write_turn(
     requires { ⌜ (96 ≡ length (now buffer)) × (3 < number) ⌝ }
     ensures { λ r. ⌜ ToldPage (writeTurn (length (now («data» .entry))) (atLine number v (now (page .entry))) (now (line .entry)))
         r (now (buffer .exit)) (now (page .exit)) ⌝ }
+    ensures { λ _. ⌜ now («data» .exit)
+        ≡ cond (leb number 1003) (decodedOf (now («data» .entry)) (now (line .entry))) (now («data» .entry)) ⌝ }
 {
     if number > 1003 {
         return stop(v, 6, number, buffer);

@@ -17,7 +17,7 @@ returns : tie.Need-returns
 unfolding writeTurn
 returns c =
     rw (lt-leb _ 1003 (c .before .before .before .before .if1 .taken))
-    (record { told = c .before .before .stop .ensures; page-is = refl })
+    (record { told = c .before .before .stop .ensures; page-is = refl }, refl)
 
 decode-requires : tie.Need-decode-requires
 decode-requires c κs = search needs
@@ -36,8 +36,8 @@ unfolding writeTurn
 returns-2 c =
     let i = c .before .before .before .before in
     let e = sym (i .before .before .before .decode .ensures .0) ∙ not-true _ (i .if2 .taken) in
-    rw (le-leb _ 1003 (i .before .before .before .before .before .if1 .left), e)
-    (record { told = c .before .before .stop2 .ensures; page-is = refl })
+    let l = le-leb _ 1003 (i .before .before .before .before .before .if1 .left) in
+    (rw (l, e) (record { told = c .before .before .stop2 .ensures; page-is = refl }), rw l (i .before .before .before .decode .ensures .1))
 
 sub-write-row : tie.Need-sub-write-row
 sub-write-row c = search needs
@@ -61,8 +61,11 @@ returns-3 c =
     let d = i .before .before .before .decode .ensures in
     let g = sym (d .0) ∙ not-false _ (i .if2 .left) in
     let w = c .before .before .before .before .write-row .ensures in
-    rw (le-leb _ 1003 (i .before .before .before .before .before .if1 .left), g, ← data-decoded _ _ g, ← d .1)
-    (record { told = record { text-is = w .0; values-are = refl; on-is = refl }; page-is = w .1 })
+    let l = le-leb _ 1003 (i .before .before .before .before .before .if1 .left) in (
+      rw (l, g, ← data-decoded _ _ g, ← d .1)
+          (record { told = record { text-is = w .0; values-are = refl; on-is = refl }; page-is = w .1 }),
+      rw l (d .1),
+    )
 
 pub write-turn-spec : {M : Type 1} → statement M
 write-turn-spec =
