@@ -3,7 +3,6 @@
 --   solves-either, solves-product, solves-empty   what solves two problems solves either of them, their product, and nothing at all is free
 --   best-strict, settles-solves                   the strictly cheapest is the best, so what settles a problem solves it
 --   settles-product, -empty, -iff                 the product, the empty problem and a problem in other words, strictly
---   width-empty, -product, -either                how many levels the solutions of these problems have
 --   none-valid, the-best, some-none               none says that nothing is valid, some that it is the best, and they differ
 --   cost-least, levels-first   no valid levels cost less, and of those as cheap none is lower at the first cell that differs
 --   solves-iff, solves-unique                     a problem in other words has the same solution, and it has one only
@@ -17,7 +16,7 @@ use native.Mathlib.Omega.{arith}
 use native.Mathlib.Nat.{lt-trans, lt-irrefl, not-suc-le-zero}
 use mathlib.Core.Logic.{_⊎_, inl, inr, ⊎-elim, _↔_}
 use lib.Dec.{ltb, eqb}
-use lib.ListN.{length, getD, length-append}
+use lib.ListN.{length, getD}
 use borrow.Author.Tests.{ltb-true, ltb-false, eqb-true, eqb-false}
 use Rattle.search.specs.Best.{LexLe, done, lower, same, NoWorse, cheaper, tied, Problem, Solution, Best, Solves, nothing, just, Settles, closed, sole, Product, Width, Empty, empty, Either, digit, LexLower}
 use Rattle.search.specs.Trellis.{before, lexltb, beats, better, joined, free}
@@ -232,27 +231,6 @@ settles-empty = sole empty go
 pub settles-iff : {A B : Problem} {r : Option Solution} → ((d : ℕ) (y : List ℕ) → A d y ↔ B d y) → Settles A r → Settles B r
 settles-iff f (closed p) = closed (λ d y w. p d y (f d y .1 w))
 settles-iff f (sole v l) = sole (f _ _ .0 v) (λ d y w. l d y (f d y .1 w))
-
--- widths
-pub width-empty : Width 0 Empty
-width-empty = record { width = go }
-  where
-    go : (c : ℕ) (y : List ℕ) → Empty c y → length y ≡ 0
-    go c y empty = refl
-
--- widths add
-pub width-product : (k m : ℕ) {A B : Problem} → Width k A → Width m B → Width (k + m) (Product A B)
-width-product k m p q = record {
-  width = λ c y w. ap length (w .append) ∙ length-append (w .levels₁) (w .levels₂)
-      ∙ ap₂ (λ (a b : ℕ). a + b) (p .width _ _ (w .valid₁)) (q .width _ _ (w .valid₂));
-}
-
--- either of two of the same width
-pub width-either : (k : ℕ) {A : Bool → Problem} → ((u : Bool) → Width k (A u)) → Width k (Either A)
-width-either k {A} p = record { width = go }
-  where
-    go : (c : ℕ) (y : List ℕ) → Either A c y → length y ≡ k
-    go c y (digit u w) = p u .width c y w
 
 -- a solution is not none
 pub some-none : (a : Solution) → some a ≡ none → ⊥
