@@ -11,8 +11,11 @@
 --   store-more      what a loop that stores place by place has stored
 --   same?           two numbers are the same, or not
 --   each-first      what holds of every element holds of the first, and of the rest (each-rest)
+--   and-both        both of two tests hold
+--   sameList-eq     lists that are found the same are the same
 use mathlib.Core.Path.{_≡_, refl, sym, _∙_, ap, ap₂}
-use mathlib.Core.List.{List, _∷_}
+use mathlib.Core.Bool.{Bool, true, false, _&&_}
+use mathlib.Core.List.{List, [], _∷_}
 use mathlib.Core.Logic.{_⊎_, inl, inr, ⊎-elim}
 use Prim.Native.Nat.{ℕ, zero, suc, _<_, _≤_, _+_, _*_, _/_, _%_, _^_}
 use native.Mathlib.Omega.{arith}
@@ -20,8 +23,10 @@ use native.Mathlib.Nat.{not-suc-le-zero, div-div-eq-div-mul, mul-assoc, mul-comm
 use lib.Pow.{pow-mono, shl-exact}
 use lib.ListN.{length, getD, set}
 use lib.Seq.{ext-getD, getD-set-same, getD-set-other}
+use lib.Dec.{eqb}
 use borrow.Author.Count.{below-more}
-use Rattle.cells.specs.Places.{listOf, sumOf, number, Each, and-each}
+use borrow.Author.Tests.{eqb-true}
+use Rattle.cells.specs.Places.{listOf, sumOf, number, Each, and-each, sameList}
 
 module _ {A : Type 0} where
   -- n places
@@ -179,3 +184,16 @@ each-first (and-each p ps) = p
 -- and of every other
 pub each-rest : {G : Type 0} {P : G → Type 0} {g : G} {gs : List G} → Each P (g ∷ gs) → Each P gs
 each-rest (and-each p ps) = ps
+
+-- TESTS. Both of two tests hold
+pub and-both : (a b : Bool) → (a && b) ≡ true → (a ≡ true) × (b ≡ true)
+and-both true b e = (refl, e)
+and-both false b e = (e, cc)
+
+-- lists that are found the same are the same
+pub sameList-eq : (a b : List ℕ) → sameList a b ≡ true → a ≡ b
+unfolding sameList
+sameList-eq [] [] e = refl
+sameList-eq [] (y ∷ b) e = cc
+sameList-eq (x ∷ a) [] e = cc
+sameList-eq (x ∷ a) (y ∷ b) e = let p = and-both (eqb x y) (sameList a b) e in ap₂ _∷_ (eqb-true x y (p .0)) (sameList-eq a b (p .1))

@@ -3,8 +3,11 @@
 --   sumOf n f    their sum
 --   number n f   the number whose bit i is f i
 --   Each P l     every element of a list has the property P
+--   sameList     whether two lists are the same
+use mathlib.Core.Bool.{Bool, true, false, _&&_}
 use mathlib.Core.List.{List, [], _∷_}
 use Prim.Native.Nat.{ℕ, zero, suc, _+_, _*_}
+use lib.Dec.{eqb}
 
 -- f 0, f 1, .. f (n - 1)
 unfoldable pub listOf : {A : Type 0} → ℕ → (ℕ → A) → List A
@@ -25,3 +28,10 @@ number (suc n) f = f 0 + 2 * number n (λ i. f (suc i))
 pub data Each {G : Type 0} (P : G → Type 0) : List G → Type 0 where
   no-more : Each P []
   and-each : {g : G} {gs : List G} → P g → Each P gs → Each P (g ∷ gs)
+
+-- whether two lists are the same, place by place
+unfoldable pub sameList : List ℕ → List ℕ → Bool
+sameList [] [] = true
+sameList [] (y ∷ b) = false
+sameList (x ∷ a) [] = false
+sameList (x ∷ a) (y ∷ b) = eqb x y && sameList a b

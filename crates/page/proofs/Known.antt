@@ -3,7 +3,7 @@
 --   answer-tabled, page-tabled   the evaluated definitions are those of the calls
 --   passes                       the test of a row
 --   cases-hold                   THE THEOREM
-use mathlib.Core.Path.{_≡_, refl, sym, _∙_, ap, ap₂, subst₂, fun-ext}
+use mathlib.Core.Path.{_≡_, refl, sym, _∙_, ap, subst₂, fun-ext}
 use mathlib.Core.Bool.{Bool, true, false, _&&_, false≢true}
 use mathlib.Core.List.{List, [], _∷_}
 use mathlib.Core.Option.{Option}
@@ -12,7 +12,8 @@ use native.Mathlib.Omega.{arith}
 use lib.Dec.{eqb}
 use lib.ListN.{length}
 use borrow.Author.Tests.{eqb-true}
-use Rattle.cells.specs.Places.{listOf, sumOf, number, Each, no-more, and-each}
+use Rattle.cells.specs.Places.{listOf, sumOf, number, Each, no-more, and-each, sameList}
+use Rattle.cells.proofs.Places.{and-both, sameList-eq}
 use Rattle.cells.specs.Bytes.{bitOf, bytesOf}
 use Rattle.cells.specs.Levels.{level}
 use Rattle.cells.specs.Raising.{startOf, startIn, zeroFrom, raise, raisedTimes, triple, raisedTo}
@@ -86,28 +87,7 @@ module _ (code L S : ℕ) (page content : List ℕ) where
       ap (λ (w : ℕ → Option Solution). callPage (ground code L S (length page) (length content)) (all w (listOf S (λ k. k)))
       (λ a. raisedTo (startIn (cellCount oneBit L)) page (levelAt (a .levels))) page) strip-tabled
 
--- TESTS. Whether two lists of bytes are the same
-sameBytes : List ℕ → List ℕ → Bool
-sameBytes [] [] = true
-sameBytes [] (b ∷ y) = false
-sameBytes (a ∷ x) [] = false
-sameBytes (a ∷ x) (b ∷ y) = eqb a b && sameBytes x y
-
--- two tests that hold together
-each-true : (a b : Bool) → (a && b) ≡ true → (a ≡ true) × (b ≡ true)
-each-true true b e = (refl, e)
-each-true false b e = absurd (false≢true e)
-
-same-bytes : (x y : List ℕ) → sameBytes x y ≡ true → x ≡ y
-unfolding sameBytes
-same-bytes [] [] e = refl
-same-bytes [] (b ∷ y) e = absurd (false≢true e)
-same-bytes (a ∷ x) [] e = absurd (false≢true e)
-same-bytes (a ∷ x) (b ∷ y) e =
-    let p = each-true (eqb a b) (sameBytes x y) e in
-    ap₂ (λ (c : ℕ) (l : List ℕ). c ∷ l) (eqb-true a b (p .0)) (same-bytes x y (p .1))
-
--- whether an answer is done with this cost, or spent with this strip
+-- TESTS. Whether an answer is done with this cost, or spent with this strip
 isDone : Answer → ℕ → Bool
 isDone (A.Done c) cost = eqb c cost
 isDone (A.Spent k) cost = false
@@ -132,20 +112,20 @@ is-spent (A.Refused r) k e = absurd (false≢true e)
 
 -- THE TEST of a row
 passes : Case → Expected → Bool
-passes c reads = sameBytes (readPage (numbered (c .code)) (c .L) (c .S) (c .page)) (c .content)
+passes c reads = sameList (readPage (numbered (c .code)) (c .L) (c .S) (c .page)) (c .content)
 passes c (done cost after) =
-    isDone (answerTabled (c .code) (c .L) (c .S) (c .page) (c .content)) cost && sameBytes
+    isDone (answerTabled (c .code) (c .L) (c .S) (c .page) (c .content)) cost && sameList
     (pageTabled (c .code) (c .L) (c .S) (c .page) (c .content)) after
 passes c (spent k) =
-    isSpent (answerTabled (c .code) (c .L) (c .S) (c .page) (c .content)) k && sameBytes
+    isSpent (answerTabled (c .code) (c .L) (c .S) (c .page) (c .content)) k && sameList
     (pageTabled (c .code) (c .L) (c .S) (c .page) (c .content)) (c .page)
 
 -- a row that passes says what it says
 says : (c : Case) (x : Expected) → passes c x ≡ true → Expects answerTabled pageTabled c x
 unfolding passes
-says c reads e = same-bytes _ _ e
-says c (done cost after) e = let p = each-true _ _ e in (is-done _ cost (p .0), same-bytes _ _ (p .1))
-says c (spent k) e = let p = each-true _ _ e in (is-spent _ k (p .0), same-bytes _ _ (p .1))
+says c reads e = sameList-eq _ _ e
+says c (done cost after) e = let p = and-both _ _ e in (is-done _ cost (p .0), sameList-eq _ _ (p .1))
+says c (spent k) e = let p = and-both _ _ e in (is-spent _ k (p .0), sameList-eq _ _ (p .1))
 
 -- of all rows
 allPass : List Case → Bool
@@ -155,11 +135,11 @@ allPass (c ∷ cs) = passes c (c .expected) && allPass cs
 all-say : (cs : List Case) → allPass cs ≡ true → Each (Says answerTabled pageTabled) cs
 unfolding allPass
 all-say [] e = no-more
-all-say (c ∷ cs) e = let p = each-true _ _ e in and-each (says c (c .expected) (p .0)) (all-say cs (p .1))
+all-say (c ∷ cs) e = let p = and-both _ _ e in and-each (says c (c .expected) (p .0)) (all-say cs (p .1))
 
 -- THE TABLE PASSES, computed
 table-passes : allPass cases ≡ true
-unfolding allPass passes isDone isSpent sameBytes answerTabled pageTabled stripTabled write-table table step look grow stages labels
+unfolding allPass passes isDone isSpent sameList answerTabled pageTabled stripTabled write-table table step look grow stages labels
     quotient register push dot branch next wanted sums joined better beats before lexltb parity-choice keep-or-raise odd weightOf
     cellsOf encoderOf digit listOf bitOf level dataBits stripCells stageCount cellCount byteCount part all first-none numbered ground
     codeGround limitsGround sizesGround bytesGround stripsGround pageGround dataGround oneTo64 startIn startOf raisedTo bytesOf number

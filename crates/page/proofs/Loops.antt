@@ -21,7 +21,7 @@ use Rattle.cells.specs.Raising.{startOf, startIn, raisedTo}
 use Rattle.cells.proofs.Raising.{raisedTo-length}
 use Rattle.cells.proofs.Parts.{within}
 use Rattle.codes.specs.Generators.{Generators}
-use Rattle.codes.specs.Layouts.{oneBit, cellCount, byteCount}
+use Rattle.codes.specs.Layouts.{Layout, oneBit, cellCount, byteCount}
 use Rattle.search.specs.Best.{Solution}
 use Rattle.search.specs.Strip.{Dear, stepsOf}
 use Rattle.search.specs.Levels.{levelAt}
@@ -58,13 +58,13 @@ unfolding part
 lent L k x = ap (λ (n : ℕ). take n (drop (L * k) x)) (add-sub-cancel-left (L * k) L)
 
 -- in a turn the strip ends within the page
-pub strip-fits : {L S : ℕ} {page content : List ℕ} → Sized oneBit L S page content → {k : ℕ} → k < S
-    → byteCount oneBit L * k + byteCount oneBit L ≤ length page
-strip-fits {L} {S} Z {k} h = omega (arith, Z .page-is, within (byteCount oneBit L) k S h)
+pub strip-fits : {lay : Layout} {L S : ℕ} {page content : List ℕ} → Sized lay L S page content → {k : ℕ} → k < S
+    → byteCount lay L * k + byteCount lay L ≤ length page
+strip-fits {lay} {L} {S} Z {k} h = omega (arith, Z .page-is, within (byteCount lay L) k S h)
 
 -- and its part within the data
-pub part-fits : {L S : ℕ} {page content : List ℕ} → Sized oneBit L S page content → {k : ℕ} → k < S → L * k + L ≤ length content
-part-fits {L} {S} Z {k} h = omega (arith, Z .data-is, within L k S h)
+pub part-fits : {lay : Layout} {L S : ℕ} {page content : List ℕ} → Sized lay L S page content → {k : ℕ} → k < S → L * k + L ≤ length content
+part-fits {lay} {L} {S} Z {k} h = omega (arith, Z .data-is, within L k S h)
 
 -- THE PLANS of the strips before k
 pub record PlannedTo (G : Generators) (W : List ℕ) (L S : ℕ) (page content digits : List ℕ) (k : ℕ) : Type 0 where

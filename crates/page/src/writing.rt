@@ -149,12 +149,12 @@ fn write_strips(
         &mut digits[0..whole],
     );
     match answer {
+        Answer::Refused(_) => answer,
         Answer::Done(_) => {
             carry_strips(code, bytes, strips, page, data, &digits[0..whole]);
             answer
         }
         Answer::Spent(_) => answer,
-        Answer::Refused(_) => answer,
     }
 }
 

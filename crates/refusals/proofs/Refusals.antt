@@ -5,27 +5,23 @@
 --   done-none, refused-some                      an answer tells its ground
 --   refused-first, done-next                     grounds tested one after the other
 use mathlib.Core.Path.{_≡_, refl, sym, _∙_}
-use mathlib.Core.Bool.{Bool, true, false, cond, _&&_}
+use mathlib.Core.Bool.{Bool, true, false, cond}
 use mathlib.Core.Option.{Option, none, some}
 use Prim.Native.Nat.{ℕ, _*_, _<_, _≤_}
 use native.Mathlib.Omega.{arith}
 use lib.Dec.{eqb, leb}
 use borrow.Author.Tests.{eqb-true, le-leb, lt-leb, leb-true}
+use Rattle.cells.proofs.Places.{and-both}
 use Rattle.codes.specs.Layouts.{oneBit, byteCount}
 use Rattle.refusals.specs.Refusals.{oneTo64, first-of, codeGround, bytesGround, stripsGround, pageGround, dataGround, limitsGround, sizesGround, shapeGround, ground, completionOf}
 use Rattle.refusals.specs.declared.Refusal.{Refusal}
 use Rattle.refusals.specs.declared.Completion.{Completion}
 use Rattle.refusals.specs.declared.Completion.the-variants.{Done, Refused}
 
--- two tests that hold together hold each
-both : (a b : Bool) → (a && b) ≡ true → (a ≡ true) × (b ≡ true)
-both true b e = (refl, e)
-both false b e = (e, let z : _≡_ {A = ℕ} 0 1 = cc in absurd (omega arith))
-
 -- THE LIMITS. What a number from 1 to 64 is
 pub one-to-64 : (n : ℕ) → oneTo64 n ≡ true → (1 ≤ n) × (n ≤ 64)
 unfolding oneTo64
-one-to-64 n e = let p = both (leb 1 n) (leb n 64) e in (leb-true 1 n (p .0), leb-true n 64 (p .1))
+one-to-64 n e = let p = and-both (leb 1 n) (leb n 64) e in (leb-true 1 n (p .0), leb-true n 64 (p .1))
 
 module _ (n : ℕ) where
   -- a number from 1 to 64

@@ -14,7 +14,8 @@ use Rattle.page.specs.declared.Answer.the-variants as A
 use Rattle.page.proofs.Known.{cases-hold}
 use Rattle.text.specs.declared.Values.{Values}
 use Rattle.text.specs.Text.{onto, decimal, namesText, valuesText, headText, rowText, faultHead, faultText}
-use Rattle.text.specs.Lines.{same, stepOf, scanOf, fiveDigits, checked, valuesOf}
+use Rattle.cells.specs.Places.{sameList}
+use Rattle.text.specs.Lines.{stepOf, scanOf, fiveDigits, checked, valuesOf}
 use Rattle.text.specs.Hex.{isHex, allHex, nibble, pairs, isData}
 use Rattle.script.specs.Rows.{sizeOf, valuesAnswer, valuesPage, rowAfter, writeRow}
 use Rattle.script.specs.Turns.{namesTurn, valuesTurn, dataTurn, writeTurn, lineTurn}
@@ -59,7 +60,7 @@ rows : List ℕ → List ℕ → List ℕ
 rows one two = headText ++ (writeRow 1 v (six 0) (128 ∷ []) ++ (writeRow 2 v one (0 ∷ []) ++ (writeRow 3 v two (128 ∷ []) ++ [])))
 
 listed : runOf exampleInput ≡ rows (valuesPage v (six 0) (128 ∷ [])) (valuesPage v (valuesPage v (six 0) (128 ∷ [])) (0 ∷ []))
-unfolding exampleInput runOf linesOf linesFrom runFrom lineTurn namesTurn valuesTurn dataTurn writeTurn same valuesOf checked
+unfolding exampleInput runOf linesOf linesFrom runFrom lineTurn namesTurn valuesTurn dataTurn writeTurn sameList valuesOf checked
     scanOf stepOf fiveDigits valuesText decimal onto sizesGround limitsGround codeGround bytesGround stripsGround oneTo64 sizeOf
     isData allHex isHex pairs nibble six v rows byteCount cellCount stageCount
 listed = refl
@@ -86,7 +87,7 @@ pub faults-hold : (runOf [] ≡ faultText 6 1)
     × (runOf (namesText ++ 10 ∷ 52 ∷ 32 ∷ 48 ∷ 32 ∷ 48 ∷ 10 ∷ []) ≡ faultText 1 2)
     × (runOf (namesText ++ 10 ∷ 51 ∷ 32 ∷ 49 ∷ 32 ∷ 49 ∷ 10 ∷ 100 ∷ 97 ∷ 116 ∷ 97 ∷ []) ≡ faultText 6 3)
     × (runOf (namesText ++ 10 ∷ 51 ∷ 32 ∷ 49 ∷ 32 ∷ 49 ∷ 10 ∷ 100 ∷ 97 ∷ 116 ∷ 97 ∷ 10 ∷ 56 ∷ 65 ∷ 10 ∷ []) ≡ headText ++ faultText 6 4)
-unfolding runOf linesOf linesFrom runFrom lineTurn namesTurn valuesTurn dataTurn writeTurn same valuesOf checked scanOf stepOf
+unfolding runOf linesOf linesFrom runFrom lineTurn namesTurn valuesTurn dataTurn writeTurn sameList valuesOf checked scanOf stepOf
     fiveDigits valuesText decimal onto sizesGround limitsGround codeGround bytesGround stripsGround oneTo64 sizeOf isData allHex
     isHex pairs nibble faultText faultHead
 faults-hold = (refl, refl, refl, refl, refl)

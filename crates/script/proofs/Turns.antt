@@ -28,7 +28,8 @@ use Rattle.text.specs.declared.Values.{Values}
 use Rattle.text.specs.declared.Form.{Form}
 use Rattle.text.specs.declared.Form.the-variants.{Given, Broken}
 use Rattle.text.specs.Text.{decimal, namesText, dataText, valuesText}
-use Rattle.text.specs.Lines.{same, valuesOf, formOf}
+use Rattle.cells.specs.Places.{sameList}
+use Rattle.text.specs.Lines.{valuesOf, formOf}
 use Rattle.text.specs.Hex.{isData, contentOf}
 use Rattle.text.proofs.Text.{size-most}
 use Rattle.text.proofs.Lines.{same-lengths, text-of-values}
@@ -112,7 +113,7 @@ cond-same false x = refl
 
 module _ (p : Progress) (line : List ℕ) (long : 8192 < length line) where
   -- it is no text of lines 1 to 3
-  unlike : (text : List ℕ) → length text ≤ 8192 → same line text ≡ false
+  unlike : (text : List ℕ) → length text ≤ 8192 → sameList line text ≡ false
   unlike text h = same-lengths line text (λ e. let z : ⊥ = omega arith in z)
 
   no-values : (o : Option Values) → valuesOf line ≡ o → formTurn p o ≡ halt 6 p

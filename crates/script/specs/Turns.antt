@@ -16,7 +16,8 @@ use Rattle.refusals.specs.declared.Refusal.{Refusal}
 use Rattle.refusals.specs.Refusals.{sizesGround, refusalNumber}
 use Rattle.text.specs.declared.Values.{Values}
 use Rattle.text.specs.Text.{namesText, dataText, headText, faultText, Tail}
-use Rattle.text.specs.Lines.{same, valuesOf}
+use Rattle.cells.specs.Places.{sameList}
+use Rattle.text.specs.Lines.{valuesOf}
 use Rattle.text.specs.Hex.{isData, pairs}
 use Rattle.script.specs.Rows.{sizeOf, valuesPage, writeRow}
 use Rattle.script.specs.declared.Turn.{Turn}
@@ -44,7 +45,7 @@ goes p text v page = record { text = text; after = atLine (p .number + 1) v page
 
 -- line 1; '6: text of the program is not in its form'
 unfoldable pub namesTurn : Progress → List ℕ → Turned
-namesTurn p line = cond (same line namesText) (goes p [] (p .values) (p .page)) (halt 6 p)
+namesTurn p line = cond (sameList line namesText) (goes p [] (p .values) (p .page)) (halt 6 p)
 
 -- line 2: 'values refused by 1 to 3 give line 2'
 abbrev pub judgedTurn : Progress → Values → Option Refusal → Turned
@@ -60,7 +61,7 @@ valuesTurn p line = formTurn p (valuesOf line)
 
 -- line 3: the writes start 'with an erased page'
 unfoldable pub dataTurn : Progress → List ℕ → Turned
-dataTurn p line = cond (same line dataText) (goes p headText (p .values) (replicate (byteCount oneBit (sizeOf (p .values))) 0)) (halt 6 p)
+dataTurn p line = cond (sameList line dataText) (goes p headText (p .values) (replicate (byteCount oneBit (sizeOf (p .values))) 0)) (halt 6 p)
 
 -- a data line, of which n bytes are wanted; write 1 is line 4: 'a data line of another length than L·S bytes is at fault by 6,
 -- and so is a 1,001st data line'

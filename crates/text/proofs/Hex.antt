@@ -18,7 +18,8 @@ use borrow.Author.Tests.{eq-eqb, ne-eqb, eqb-true, ltb-true, leb-true, lt-ltb, l
 use Rattle.cells.specs.Places.{Each, no-more, and-each}
 use Rattle.text.specs.Hex.{hexDigit, hexText, isHex, allHex, nibble, pairs, isData, contentOf, decodedOf}
 use Rattle.text.proofs.Text.{Size, small, large, size-of, rest-next}
-use Rattle.text.proofs.Lines.{and-both, given-some}
+use Rattle.cells.proofs.Places.{and-both}
+use Rattle.text.proofs.Lines.{given-some}
 
 -- THE DIGITS. A byte that is no digit decides, and one that is leaves it to the rest
 module _ (l : List ℕ) (i : ℕ) (t : Bool) (h : i < length l) (e : t ≡ isHex (getD l i 0)) where

@@ -1,6 +1,5 @@
 -- Lines 1 to 3, byte by byte and whole. A line 2 gives values exactly where it is the text of them.
 --   values-of-text, text-of-values     LINE 2 IN FORM: the text of values of at most five digits gives them, and nothing else does
---   and-both                           both of two tests hold
 --   given-some                         what is given under a test that holds
 --   same-stop, same-on, same-lengths   two texts are compared byte by byte; texts of two lengths differ
 --   scan-next                          the values of a line, one byte on
@@ -16,53 +15,43 @@ use native.Mathlib.Omega.{arith}
 use lib.Dec.{eqb, ltb}
 use lib.ListN.{length, take, drop, getD, length-drop}
 use lib.Seq.{take-all}
-use borrow.Author.Tests.{eq-eqb, ne-eqb, eqb-true, ltb-true, lt-ltb}
+use borrow.Author.Tests.{eq-eqb, ne-eqb, ltb-true, lt-ltb}
+use Rattle.cells.proofs.Places.{and-both, sameList-eq}
 use Rattle.text.specs.Text.{onto, decimal, valuesText}
-use Rattle.text.specs.Lines.{same, stepOf, scanOf, noValues, fiveDigits, checked, valuesOf, formOf}
+use Rattle.cells.specs.Places.{sameList}
+use Rattle.text.specs.Lines.{stepOf, scanOf, noValues, fiveDigits, checked, valuesOf, formOf}
 use Rattle.text.specs.declared.Values.{Values}
 use Rattle.text.proofs.Text.{Size, small, large, size-of, onto-last, onto-more, onto-append, rest-next}
-
--- both of two tests
-pub and-both : (a b : Bool) → (a && b) ≡ true → (a ≡ true) × (b ≡ true)
-and-both true b e = (refl, e)
-and-both false b e = (e, cc)
 
 -- what is given under a test that holds
 pub given-some : {A : Type 0} (t : Bool) (w v : A) → cond t (some w) none ≡ some v → (t ≡ true) × (w ≡ v)
 given-some true w v e = (refl, cc)
 given-some false w v e = (cc, cc)
 
--- TWO TEXTS. Texts that are found the same are the same, and a text is the same as itself
-same-eq : (a b : List ℕ) → same a b ≡ true → a ≡ b
-unfolding same
-same-eq [] [] e = refl
-same-eq [] (y ∷ b) e = cc
-same-eq (x ∷ a) [] e = cc
-same-eq (x ∷ a) (y ∷ b) e = let p = and-both (eqb x y) (same a b) e in ap₂ _∷_ (eqb-true x y (p .0)) (same-eq a b (p .1))
-
-same-refl : (a : List ℕ) → same a a ≡ true
-unfolding same
+-- TWO TEXTS. A text is the same as itself
+same-refl : (a : List ℕ) → sameList a a ≡ true
+unfolding sameList
 same-refl [] = refl
 same-refl (x ∷ a) = rw (eq-eqb x x refl, same-refl a)
 
 -- texts of two lengths are not the same
-pub same-lengths : (a b : List ℕ) → (length a ≡ length b → ⊥) → same a b ≡ false
-unfolding same
+pub same-lengths : (a b : List ℕ) → (length a ≡ length b → ⊥) → sameList a b ≡ false
+unfolding sameList
 same-lengths [] [] h = absurd (h refl)
 same-lengths [] (y ∷ b) h = refl
 same-lengths (x ∷ a) [] h = refl
 same-lengths (x ∷ a) (y ∷ b) h = rw (same-lengths a b (λ e. h (ap suc e))) (and-false (eqb x y))
 
 module _ (a b : List ℕ) (i : ℕ) (h : i < length a) (h2 : i < length b) where
-  same-next : same (drop i a) (drop i b) ≡ eqb (getD a i 0) (getD b i 0) && same (drop (i + 1) a) (drop (i + 1) b)
-  unfolding same
-  same-next = ap₂ same (rest-next a i h) (rest-next b i h2)
+  same-next : sameList (drop i a) (drop i b) ≡ eqb (getD a i 0) (getD b i 0) && sameList (drop (i + 1) a) (drop (i + 1) b)
+  unfolding sameList
+  same-next = ap₂ sameList (rest-next a i h) (rest-next b i h2)
 
   -- two bytes that differ decide, and two that don't leave it to the rest
-  pub same-stop : (getD a i 0 ≡ getD b i 0 → ⊥) → same (drop i a) (drop i b) ≡ false
+  pub same-stop : (getD a i 0 ≡ getD b i 0 → ⊥) → sameList (drop i a) (drop i b) ≡ false
   same-stop e = same-next ∙ rw (ne-eqb (getD a i 0) (getD b i 0) e)
 
-  pub same-on : getD a i 0 ≡ getD b i 0 → same (drop i a) (drop i b) ≡ same (drop (i + 1) a) (drop (i + 1) b)
+  pub same-on : getD a i 0 ≡ getD b i 0 → sameList (drop i a) (drop i b) ≡ sameList (drop (i + 1) a) (drop (i + 1) b)
   same-on e = same-next ∙ rw (eq-eqb (getD a i 0) (getD b i 0) e)
 
 -- THE VALUES of a line, one byte on
@@ -124,12 +113,12 @@ pub text-of-values : (line : List ℕ) (v : Values) → valuesOf line ≡ some v
 unfolding valuesOf checked fiveDigits
 text-of-values line v e =
     let w = scanOf noValues line in
-    let p = given-some (fiveDigits w && same line (valuesText w)) w v e in
-    let q = and-both (fiveDigits w) (same line (valuesText w)) (p .0) in
+    let p = given-some (fiveDigits w && sameList line (valuesText w)) w v e in
+    let q = and-both (fiveDigits w) (sameList line (valuesText w)) (p .0) in
     let f = and-both (ltb (w .code) 100000) (ltb (w .bytes) 100000 && ltb (w .strips) 100000) (q .0) in
     let g = and-both (ltb (w .bytes) 100000) (ltb (w .strips) 100000) (f .1) in
     subst (λ (x : Values). (line ≡ valuesText x) × (x .code < 100000) × (x .bytes < 100000) × (x .strips < 100000)) (p .1) (
-      same-eq line (valuesText w) (q .1),
+      sameList-eq line (valuesText w) (q .1),
       ltb-true (w .code) 100000 (f .0),
       ltb-true (w .bytes) 100000 (g .0),
       ltb-true (w .strips) 100000 (g .1),
@@ -137,7 +126,7 @@ text-of-values line v e =
 
 -- what a line 2 gives, by the tests that it meets
 pub form-by : (line : List ℕ) {v : Values} {long alike : Bool} → v ≡ scanOf noValues line → long ≡ fiveDigits v
-    → alike ≡ same line (valuesText v) → formOf (cond (long && alike) (some v) none) ≡ formOf (valuesOf line)
+    → alike ≡ sameList line (valuesText v) → formOf (cond (long && alike) (some v) none) ≡ formOf (valuesOf line)
 unfolding valuesOf checked
 form-by line e f s = rw (f, s, e)
 

@@ -3,22 +3,16 @@
 --   stepOf, scanOf   the values that stand in a line, byte by byte
 --   valuesOf         the values of a line 2, if it is in form
 --   formOf           the same as a function's answer
-use mathlib.Core.Bool.{Bool, true, false, cond, _&&_}
+use mathlib.Core.Bool.{Bool, cond, _&&_}
 use mathlib.Core.List.{List, [], _∷_}
 use mathlib.Core.Option.{Option, none, some}
 use Prim.Native.Nat.{ℕ, _+_, _*_, _%_}
 use lib.Dec.{ltb, eqb}
+use Rattle.cells.specs.Places.{sameList}
 use Rattle.text.specs.Text.{valuesText}
 use Rattle.text.specs.declared.Values.{Values}
 use Rattle.text.specs.declared.Form.{Form}
 use Rattle.text.specs.declared.Form.the-variants.{Given, Broken}
-
--- whether two texts are the same
-unfoldable pub same : List ℕ → List ℕ → Bool
-same [] [] = true
-same [] (b ∷ t) = false
-same (a ∷ s) [] = false
-same (a ∷ s) (b ∷ t) = eqb a b && same s t
 
 -- one byte of line 2: a digit goes to the right of the last value, and a space starts the next one
 unfoldable pub stepOf : Values → ℕ → Values
@@ -41,7 +35,7 @@ fiveDigits v = ltb (v .code) 100000 && (ltb (v .bytes) 100000 && ltb (v .strips)
 
 -- the values of a line that is their text
 unfoldable pub checked : Values → List ℕ → Option Values
-checked v line = cond (fiveDigits v && same line (valuesText v)) (some v) none
+checked v line = cond (fiveDigits v && sameList line (valuesText v)) (some v) none
 
 unfoldable pub valuesOf : List ℕ → Option Values
 valuesOf line = checked (scanOf noValues line) line

@@ -3,12 +3,13 @@ use crate::Form;
 use crate::Values;
 use crate::printing;
 ghost use mathlib.Core.Path.{_≡_};
-ghost use Rattle.text.specs.Lines.{same, stepOf, scanOf, noValues, fiveDigits, valuesOf, formOf};
+ghost use Rattle.cells.specs.Places.{sameList};
+ghost use Rattle.text.specs.Lines.{stepOf, scanOf, noValues, fiveDigits, valuesOf, formOf};
 ghost use Rattle.text.specs.Text.{namesText, dataText};
 
 // Whether two texts are the same.
 fn same_text(a: &[u8], b: &[u8]) -> bool
-    ensures { λ r. ⌜ r ≡ same (now (a .entry)) (now (b .entry)) ⌝ }
+    ensures { λ r. ⌜ r ≡ sameList (now (a .entry)) (now (b .entry)) ⌝ }
 {
     if a.len() != b.len() {
         return false;
@@ -63,14 +64,14 @@ fn scan(line: &[u8]) -> Values
 
 // Whether line 1 names the three values.
 pub fn is_names(line: &[u8]) -> bool
-    ensures { λ r. ⌜ r ≡ same (now (line .entry)) namesText ⌝ }
+    ensures { λ r. ⌜ r ≡ sameList (now (line .entry)) namesText ⌝ }
 {
     same_text(line, b"code bytes strips")
 }
 
 // Whether line 3 says that the data follow.
 pub fn is_data(line: &[u8]) -> bool
-    ensures { λ r. ⌜ r ≡ same (now (line .entry)) dataText ⌝ }
+    ensures { λ r. ⌜ r ≡ sameList (now (line .entry)) dataText ⌝ }
 {
     same_text(line, b"data")
 }

@@ -52,6 +52,9 @@ plan-strips-requires c κs =
 enum-told : tie.Need-enum-told
 enum-told c = search needs
 
+enum-told-2 : tie.Need-enum-told-2
+enum-told-2 c = search needs
+
 sub-carry-strips : tie.Need-sub-carry-strips
 sub-carry-strips c = search needs
 
@@ -71,9 +74,6 @@ carry-strips-requires c κs =
           (front-fits _ (planned p) (behind p) (digits-length p)),
     )
 
-enum-told-2 : tie.Need-enum-told-2
-enum-told-2 c = search needs
-
 enum-told-3 : tie.Need-enum-told-3
 enum-told-3 c = search needs
 
@@ -82,23 +82,23 @@ same-length c = search needs
 
 returns : tie.Need-returns
 returns c =
-    let p = c .before .before .before .before .before .before .before .before .before in
+    let p = c .before .before .before in
     let s = p .before .before .before .before .before in
-    let e = p .plan-strips .ensures .0 in
-    let carried = rw (front-back _ (planned p) (behind p) (digits-length p)) at (c .before .before .carry-strips .ensures) in (
-      e,
-      done-page (suited s) (s .pre .1) (s .pre .0) e (c .before .before .before .before .before .before .enum-told .given .1)
-          (p .plan-strips .ensures .1) carried,
-    )
+    absurd (not-refused (suited s) (s .pre .1) (s .pre .0) (p .plan-strips .ensures .0) (c .enum-told .given .1))
 
 same-length-2 : tie.Need-same-length-2
 same-length-2 c = search needs
 
 returns-2 : tie.Need-returns-2
 returns-2 c =
-    let p = c .before .before .before in
+    let p = c .before .before .before .before .before .before .before .before .before in
     let s = p .before .before .before .before .before in
-    (p .plan-strips .ensures .0, spent-page (suited s) (s .pre .1) (s .pre .0) (p .plan-strips .ensures .0) (c .enum-told2 .given .1))
+    let e = p .plan-strips .ensures .0 in
+    let carried = rw (front-back _ (planned p) (behind p) (digits-length p)) at (c .before .before .carry-strips .ensures) in (
+      e,
+      done-page (suited s) (s .pre .1) (s .pre .0) e (c .before .before .before .before .before .before .enum-told2 .given .1)
+          (p .plan-strips .ensures .1) carried,
+    )
 
 same-length-3 : tie.Need-same-length-3
 same-length-3 c = search needs
@@ -107,7 +107,7 @@ returns-3 : tie.Need-returns-3
 returns-3 c =
     let p = c .before .before .before in
     let s = p .before .before .before .before .before in
-    absurd (not-refused (suited s) (s .pre .1) (s .pre .0) (p .plan-strips .ensures .0) (c .enum-told3 .given .1))
+    (p .plan-strips .ensures .0, spent-page (suited s) (s .pre .1) (s .pre .0) (p .plan-strips .ensures .0) (c .enum-told3 .given .1))
 
 pub write-strips-spec : {M : Type 1} → statement M
 write-strips-spec =
@@ -119,11 +119,11 @@ write-strips-spec =
     part-digits-end
     plan-strips-requires
     enum-told
+    enum-told-2
     sub-carry-strips
     part-carry-strips-start
     part-carry-strips-end
     carry-strips-requires
-    enum-told-2
     enum-told-3
     same-length
     returns

@@ -4,13 +4,13 @@ use Prim.Native.Nat.{_-_, _≤_}
 use native.Mathlib.Omega.{arith}
 use lib.ListN.{length, drop, drop-of-length-le}
 use borrow.Author.Needs.{needs}
-use Rattle.text.specs.Lines.{same}
+use Rattle.cells.specs.Places.{sameList}
 use Rattle.text.proofs.Lines.{same-stop, same-on, same-lengths}
 use Rattle.text.proofs.parsing.same_text.Statement.{statement}
 use Rattle.text.proofs.parsing.same_text.Tie as tie
 
 abbrev Inv-loop : tie.InvT-loop
-Inv-loop a b i₀ i = (i ≤ length a) × (length a ≡ length b) × (same a b ≡ same (drop i a) (drop i b))
+Inv-loop a b i₀ i = (i ≤ length a) × (length a ≡ length b) × (sameList a b ≡ sameList (drop i a) (drop i b))
 
 abbrev μ-loop : tie.MeasureT-loop
 μ-loop a b i₀ i = length a - i
@@ -44,12 +44,12 @@ loop-again c =
     (omega arith, l .loop .inv .1, l .loop .inv .2 ∙ same-on _ _ (l .loop .i) (omega arith) (omega arith) (c .if2 .left))
 
 returns-3 : tie.Need-returns-3 Inv-loop μ-loop
-unfolding same
+unfolding sameList
 returns-3 c =
     let a = c .before .before .before .args in
     let e : length (a .a .now) ≤ c .before .loop .i = omega arith in
     let e2 : length (a .b .now) ≤ c .before .loop .i = omega arith in
-    sym (c .before .loop .inv .2 ∙ ap₂ same (drop-of-length-le (a .a .now) e) (drop-of-length-le (a .b .now) e2))
+    sym (c .before .loop .inv .2 ∙ ap₂ sameList (drop-of-length-le (a .a .now) e) (drop-of-length-le (a .b .now) e2))
 
 pub same-text-spec : {M : Type 1} → statement M
 same-text-spec =

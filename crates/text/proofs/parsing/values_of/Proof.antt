@@ -5,7 +5,7 @@ use native.Mathlib.Omega.{arith}
 use borrow.Author.Needs.{needs}
 use borrow.Author.Tests.{not-true, not-false}
 use Rattle.text.specs.Text.{valuesText}
-use Rattle.text.specs.Lines.{same}
+use Rattle.cells.specs.Places.{sameList}
 use Rattle.text.proofs.Lines.{form-by, part-end}
 use Rattle.text.proofs.parsing.values_of.Statement.{statement}
 use Rattle.text.proofs.parsing.values_of.Tie as tie
@@ -13,10 +13,10 @@ use Rattle.text.proofs.parsing.values_of.Tie as tie
 -- the line is held against the text of the values
 held : (c : tie.After-same-text) →
     let s = c .before .before .before .before .before .before .before .before in
-    c .same-text .result ≡ same (s .before .before .args .line .now) (valuesText (s .scan .result))
+    c .same-text .result ≡ sameList (s .before .before .args .line .now) (valuesText (s .scan .result))
 held c =
     let p = c .before .before .before .before .put-values in
-    c .same-text .ensures ∙ ap (same _) (part-end _ (p .result) 96 (omega arith) ∙ p .ensures .text-is)
+    c .same-text .ensures ∙ ap (sameList _) (part-end _ (p .result) 96 (omega arith) ∙ p .ensures .text-is)
 
 scan-requires : tie.Need-scan-requires
 scan-requires c κs = search needs
