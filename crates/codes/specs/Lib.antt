@@ -10,3 +10,4 @@ pub mod Registers
 pub mod Numbers
 pub mod Encoders
 pub mod Coset
+pub mod Blocks
