@@ -1,0 +1,183 @@
+-- THE MARKED SEARCH IS THE PLAIN SEARCH: the number of each state tells its cost and the trail of its plan.
+--   stage-told   one stage
+--   run-told     the stages of a block
+use mathlib.Core.Path.{_≡_, refl, sym, _∙_, ap, ap₂, subst}
+use mathlib.Core.Bool.{Bool, true, false, cond, not, Bool·beq}
+use mathlib.Core.List.{List, [], _∷_}
+use mathlib.Core.Option.{Option}
+use Prim.Native.Nat.{ℕ, zero, suc, _+_, _-_, _*_, _%_, _^_, _≤_, _<_, min}
+use native.Mathlib.Omega.{arith}
+use native.Mathlib.Nat.{mul-le-mul, le-refl, pow-suc}
+use lib.ListN.{getD}
+use lib.Pow.{pow-pos, pow-mono}
+use Rattle.codes.specs.Sequences.{_+₂_, odd}
+use Rattle.codes.specs.Numbers.{one-if}
+use Rattle.codes.proofs.Numbers.{sum-bits, one-if-le}
+use Rattle.search.specs.Plan.{add, lesser, turn, way, costs, digit-at}
+use Rattle.search.specs.Plain.{Prices, branchWord, branchPrice, branchTie}
+use Rattle.search.proofs.Windows.{mod-odd}
+use Rattle.stages.specs.Stage.{closed, stageOf}
+use Rattle.stages.specs.Blocks.{rowAt, flagOf, markedOf, runOf}
+use Rattle.stages.specs.Costs.{Tells, Told}
+use Rattle.stages.specs.Trails.{stagesFrom, priceBy, tieBy, missOf, digitOf, trailOf, Quoted}
+use Rattle.stages.proofs.Costs.{told-way, told-least}
+
+-- FLAGS. Two bits differ just where their sum is 1
+differ : (a b : Bool) → (a +₂ b) ≡ not (Bool·beq a b)
+differ true true = refl
+differ true false = refl
+differ false true = refl
+differ false false = refl
+
+-- the flag of a word is its branch's miss
+flag-miss : (stay : Bool) (j : ℕ) → flagOf (one-if stay) j ≡ one-if (not (Bool·beq stay (odd j)))
+unfolding flagOf
+flag-miss stay j =
+    let e : (one-if stay + j) % 2 ≡ (one-if stay + j % 2) % 2 = omega arith in
+    e ∙ ap (λ (n : ℕ). (one-if stay + n) % 2) (mod-odd j) ∙ sum-bits stay (odd j) ∙ ap one-if (differ stay (odd j))
+
+-- a flag is 0 or 1
+flag-le : (low j : ℕ) → flagOf low j ≤ 1
+unfolding flagOf
+flag-le low j = omega arith
+
+-- the two branches of a state have different flags
+flag-other : (low w : ℕ) → w ≤ 3 → flagOf low (3 - w) + flagOf low w ≡ 1
+unfolding flagOf
+flag-other low w h = omega arith
+
+-- whether the digit 1 wins a tie: its word has no flag
+flag-tie : (stay : Bool) (j : ℕ) (b : Bool) → Bool·beq stay (odd j) ≡ b → flagOf (one-if stay) j ≡ one-if (not b)
+flag-tie stay j b e = flag-miss stay j ∙ ap (λ (c : Bool). one-if (not c)) e
+
+module _ {G : Type 0} (n : ℕ) (words : ℕ → ℕ) (words-le : (s : ℕ) → words s ≤ 3) (quote : G → Prices) (next : G → ℕ → Bool → ℕ)
+    (inside : (s : ℕ) → 2 * s % n + 1 < n) (next-zero : (g : G) (s : ℕ) → next g s false ≡ 2 * s % n)
+    (next-one : (g : G) (s : ℕ) → next g s true ≡ 2 * s % n + 1) where
+  -- the cost of a branch, and the rest of its trail
+  abbrev costBy : List G → ℕ → Option ℕ
+  costBy = costs (priceBy words quote next) next
+
+  abbrev trailBy : ℕ → List G → ℕ → ℕ
+  trailBy = trailOf words quote next
+
+  -- a trail of k stages is below 2 ^ k
+  trail-less : (k : ℕ) (gs : List G) (s : ℕ) → trailBy k gs s < 2 ^ k
+  unfolding trailOf missOf
+  trail-less zero gs s = omega arith
+  trail-less (suc k) [] s = pow-pos (suc k)
+  trail-less (suc k) (g ∷ gs) s =
+      let u : Bool = digitOf words quote next g gs s in
+      let e : ℕ = missOf words quote next g s u in
+      let p : e * 2 ^ k ≤ 1 * 2 ^ k = mul-le-mul (one-if-le _) (le-refl (2 ^ k)) in
+      omega (arith, trail-less k gs (next g s u), pow-suc 2 k)
+
+  -- ONE STAGE: prices in units, each with its flag at the bit k, before states whose trails are k stages long
+  module _ (unit shut-at b m k : ℕ) (g : G) (gs : List G) (prices plain after : ℕ → ℕ)
+      (priced : (j : ℕ) → j ≤ 3 → prices j ≡ unit * plain j + flagOf (one-if (quote g .stay)) j * 2 ^ k)
+      (tells : (j : ℕ) → j ≤ 3 → Tells shut-at b (plain j) (quote g .of j))
+      (told : (s : ℕ) → s < n → Told unit shut-at m k (after s) (costBy gs s) (trailBy k gs s))
+      (room : b + m < shut-at) (fits : 2 ^ suc k ≤ unit) where
+    -- a branch by its word j and its next state x
+    branch-told : (j x : ℕ) → j ≤ 3 → x < n
+        → Told unit shut-at (b + m) (suc k) (after x + prices j) (add (quote g .of j) (costBy gs x))
+        (flagOf (one-if (quote g .stay)) j * 2 ^ k + trailBy k gs x)
+    branch-told j x h l =
+        subst (λ (v : ℕ). Told unit shut-at (b + m) (suc k) (after x + v) (add (quote g .of j) (costBy gs x))
+        (flagOf (one-if (quote g .stay)) j * 2 ^ k + trailBy k gs x)) (sym (priced j h))
+        (told-way unit shut-at (flag-le (one-if (quote g .stay)) j) (tells j h) (told x l))
+
+    -- the branches of the state s
+    module _ (s : ℕ) where
+      abbrev w : ℕ
+      w = words s
+
+      abbrev x : ℕ
+      x = 2 * s % n
+
+      abbrev low : ℕ
+      low = one-if (quote g .stay)
+
+      -- the lower trail is that of the branch without a flag
+      lower : (f h t u : ℕ) → f ≡ 0 → h ≡ 1 → t < 2 ^ k → f * 2 ^ k + t < h * 2 ^ k + u
+      lower f h t u p q l = let z : f * 2 ^ k ≡ 0 * 2 ^ k = ap (λ (y : ℕ). y * 2 ^ k) p in
+          let y : h * 2 ^ k ≡ 1 * 2 ^ k = ap (λ (y : ℕ). y * 2 ^ k) q in omega arith
+
+      one-lower : (t u : ℕ) → t < 2 ^ k → Bool·beq (quote g .stay) (odd (3 - w)) ≡ true
+          → flagOf low (3 - w) * 2 ^ k + t < flagOf low w * 2 ^ k + u
+      unfolding one-if
+      one-lower t u l e =
+          let f : flagOf low (3 - w) ≡ 0 = flag-tie (quote g .stay) (3 - w) true e in
+          let h : flagOf low w ≡ 1 = omega (arith, flag-other low w (words-le s)) in
+          lower (flagOf low (3 - w)) (flagOf low w) t u f h l
+
+      zero-lower : (t u : ℕ) → t < 2 ^ k → Bool·beq (quote g .stay) (odd (3 - w)) ≡ false
+          → flagOf low w * 2 ^ k + t < flagOf low (3 - w) * 2 ^ k + u
+      unfolding one-if
+      zero-lower t u l e =
+          let h : flagOf low (3 - w) ≡ 1 = flag-tie (quote g .stay) (3 - w) false e in
+          let f : flagOf low w ≡ 0 = omega (arith, flag-other low w (words-le s)) in
+          lower (flagOf low w) (flagOf low (3 - w)) t u f h l
+
+      -- what the trail is with each digit
+      trail-by : (u : Bool) → missOf words quote next g s u * 2 ^ k + trailBy k gs (next g s u)
+          ≡ cond u (flagOf low (3 - w) * 2 ^ k + trailBy k gs (x + 1)) (flagOf low w * 2 ^ k + trailBy k gs x)
+      unfolding missOf branchWord
+      trail-by true = rw (next-one g s, flag-miss (quote g .stay) (3 - w))
+      trail-by false = rw (next-zero g s, flag-miss (quote g .stay) w)
+
+      -- the number of the state tells the lesser branch, and its trail
+      pub stage-told : Told unit shut-at (b + m) (suc k) (stageOf n words prices after s) (costBy (g ∷ gs) s) (trailBy (suc k) (g ∷ gs) s)
+      unfolding stageOf costs way branchPrice branchWord trailOf digitOf digit-at branchTie
+      stage-told =
+          let o = add (quote g .of w) (costBy gs x) in
+          let p = add (quote g .of (3 - w)) (costBy gs (x + 1)) in
+          let near : x < n = omega (arith, inside s) in
+          let other : 3 - w ≤ 3 = omega arith in
+          rw (next-zero g s, next-one g s)
+          (subst (λ (t : ℕ). Told unit shut-at (b + m) (suc k) (min (after x + prices w) (after (x + 1) + prices (3 - w))) (lesser o p) t)
+          (sym (trail-by (turn o p (tieBy words quote next g s))))
+          (told-least unit shut-at (tieBy words quote next g s) room fits
+          (λ e. one-lower (trailBy k gs (x + 1)) (trailBy k gs x) (trail-less k gs (x + 1)) e)
+          (λ e. zero-lower (trailBy k gs x) (trailBy k gs (x + 1)) (trail-less k gs x) e)
+          (branch-told w x (words-le s) near) (branch-told (3 - w) (x + 1) other (inside s))))
+
+  -- A BLOCK from stage t on, with `later` stages after it, in 256ths
+  module _ (most m t later : ℕ) (stage : ℕ → G) (rows : List ℕ) (picks : ℕ) (after : ℕ → ℕ)
+      (quoted : (i : ℕ) → i < 8 → Quoted most rows (rowAt picks i) (quote (stage (t + i))))
+      (told : (s : ℕ) → s < n → Told 256 closed m 0 (after s) (costBy (stagesFrom stage (t + 8) later) s) 0)
+      (room : 8 * most + m < closed) where
+    -- the last k stages of the block, and those after it
+    abbrev last : ℕ → List G
+    last k = stagesFrom stage (t + (8 - k)) (k + later)
+
+    -- one stage more
+    last-more : (k : ℕ) → k ≤ 7 → last (suc k) ≡ stage (t + (7 - k)) ∷ last k
+    unfolding stagesFrom
+    last-more k h =
+        let e : 8 - suc k ≡ 7 - k = omega arith in
+        let f : suc (t + (7 - k)) ≡ t + (8 - k) = omega arith in
+        let z : suc k + later ≡ suc (k + later) = omega arith in
+        rw (e, z, f)
+
+    -- the prices of its row, marked
+    row-marked : (r k : ℕ) (q : Prices) (row : Quoted most rows r q) (j : ℕ) → j ≤ 3
+        → markedOf rows r k j ≡ 256 * row .plain j + flagOf (one-if (q .stay)) j * 2 ^ k
+    unfolding markedOf
+    row-marked r k q row j h = ap₂ (λ (x l : ℕ). x + flagOf l j * 2 ^ k) (row .in-units j h) (row .low)
+
+    -- THE BLOCK, its last k stages
+    pub run-told : (k : ℕ) → k ≤ 8 → (s : ℕ) → s < n
+        → Told 256 closed (k * most + m) k (runOf n words rows picks after k s) (costBy (last k) s) (trailBy k (last k) s)
+    unfolding runOf trailOf
+    run-told zero h s l = let e : 0 * most + m ≡ m = omega arith in let f : 0 + later ≡ later = omega arith in rw (e, f) (told s l)
+    run-told (suc k) h s l =
+        let i : ℕ = 7 - k in
+        let r : ℕ = rowAt picks i in
+        let row = quoted i (omega arith) in
+        let fine : k ≤ 7 = omega arith in
+        let b : suc k * most + m ≡ most + (k * most + m) = omega arith in
+        let a : k * most ≤ 7 * most = mul-le-mul fine (le-refl most) in
+        let c : 2 ^ suc k ≤ 2 ^ 8 = pow-mono h in
+        rw (b, last-more k fine)
+        (stage-told 256 closed most (k * most + m) k (stage (t + i)) (last k) (markedOf rows r k) (row .plain)
+        (runOf n words rows picks after k) (row-marked r k _ row) (row .tells) (run-told k (omega arith)) (omega arith) (omega arith) s)
