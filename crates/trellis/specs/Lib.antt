@@ -1,8 +1,7 @@
--- What the program of the search computes on numbers: one stage (`Stage`), the costs of the states (`Costs`, `Backward`), the digits and
--- carrying them out (`Forward`, `Plans`), and what it says of a strip (`Outcomes`).
-pub mod Costs
-pub mod Stage
-pub mod Backward
-pub mod Forward
+-- What the program of the search computes on a strip: the rows of its stages (`Rows`), what the states keep of their ways (`Ways`), what it
+-- says of a strip (`Outcomes`), the digits of a write (`Plans`), and carrying them out (`Carrying`).
+pub mod Rows
+pub mod Ways
 pub mod Outcomes
+pub mod Carrying
 pub mod Plans

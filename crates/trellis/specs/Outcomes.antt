@@ -8,7 +8,7 @@ use lib.Dec.{ltb}
 use Rattle.trellis.specs.declared.Outcome.{Outcome}
 use Rattle.trellis.specs.declared.Outcome.the-variants.{Done, Spent}
 use Rattle.search.specs.Best.{Solution}
-use Rattle.trellis.specs.Backward.{closed}
+use Rattle.stages.specs.Stage.{closed}
 
 -- a cost below closed, or none
 abbrev pub judged : Bool → ℕ → Outcome

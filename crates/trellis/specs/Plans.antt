@@ -6,13 +6,12 @@ use mathlib.Core.List.{List}
 use mathlib.Core.Option.{Option, some}
 use Prim.Native.Nat.{ℕ, _<_}
 use lib.ListN.{length}
-use Rattle.cells.specs.Bytes.{bitOf}
 use Rattle.codes.specs.Generators.{Generators}
 use Rattle.codes.specs.Layouts.{oneBit, cellCount}
 use Rattle.search.specs.Best.{Solution}
 use Rattle.search.specs.Levels.{levelAt}
 use Rattle.search.specs.Layouts.{unmarked, rewriteOf}
-use Rattle.trellis.specs.Forward.{carriedTo}
+use Rattle.trellis.specs.Carrying.{digitIn, carriedTo}
 
 -- the write of a strip of bytes
 abbrev pub writeOf : Generators → List ℕ → List ℕ → List ℕ → Option Solution
@@ -21,4 +20,4 @@ writeOf G W strip content = rewriteOf oneBit G W (length content) strip unmarked
 -- where the strip has a write, the digits carried out raise its cells to the write's levels
 pub record Plans (G : Generators) (W strip content digits : List ℕ) : Type 0 where
   pub leads : (a : Solution) → writeOf G W strip content ≡ some a
-      → (c : ℕ) → c < cellCount oneBit (length content) → carriedTo G strip content (bitOf digits) c ≡ levelAt (a .levels) c
+      → (c : ℕ) → c < cellCount oneBit (length content) → carriedTo G strip content (digitIn digits) c ≡ levelAt (a .levels) c

@@ -1,91 +1,25 @@
-// From the last stage to the first: what the data of a strip costs, and the digits that the states take. The caller makes the words of the
-// code once, for every strip.
+// From the last block of eight stages to the first: what the data of a strip costs, and what the states keep of their ways.
 use crate::Outcome;
-use crate::stage::stage;
+use crate::rows::bits_of;
+use crate::rows::picks_of;
 use codes::Code;
+use codes::window;
+use stages::CLOSED;
+use stages::blocks::keep;
+use stages::blocks::run;
+use stages::blocks::settle;
 ghost use mathlib.Core.Path.{_≡_};
-ghost use Prim.Native.Nat.{ℕ, _*_, _<_, _≤_};
-ghost use lib.ListN.{length, getD};
-ghost use Rattle.codes.specs.Taps.{tapsOf};
+ghost use mathlib.Core.List.{List};
+ghost use Prim.Native.Nat.{ℕ, _+_, _*_, _<_, _≤_};
+ghost use lib.ListN.{length};
+ghost use Rattle.cells.specs.Bytes.{bitOf};
 ghost use Rattle.codes.specs.Codes.{generatorsOf};
-ghost use Rattle.trellis.specs.Backward.{closed, stepList, priceFor, wordsOf, registerAt, costsBefore, digitsBefore, Decided, Shaped, StageAsked};
+ghost use Rattle.codes.specs.Taps.{windowOf};
+ghost use Rattle.codes.specs.Blocks.{labelAt};
+ghost use Rattle.trellis.specs.Rows.{Priced};
+ghost use Rattle.trellis.specs.Ways.{Shaped, Traced, Lows};
 ghost use Rattle.trellis.specs.Outcomes.{toldOutcome, solutionOutcome};
 ghost use Rattle.trellis.specs.Plans.{writeOf};
-
-// From this number on there is no cost.
-const CLOSED: u32 = 524288;
-
-// The word that each of 64 states wants for the digit 0.
-pub fn words_of(code: Code) -> [u8; 64]
-    ensures { λ r. ⌜ r ≡ wordsOf (generatorsOf code) ⌝ }
-{
-    let mut words = [0u8; 64];
-    let mut s: usize = 0;
-    while s < 64 {
-        words[s] = code.word(s as u32, 0) as u8;
-        s += 1;
-    }
-    words
-}
-
-// The weights of the three steps, and closed for a step from level 3.
-fn steps_of(weights: [u8; 3]) -> [u32; 4]
-    ensures { λ r. ⌜ r ≡ stepList weights ⌝ }
-{
-    let a = cells::weight(weights, 0);
-    let b = cells::weight(weights, 1);
-    let c = cells::weight(weights, 2);
-    [a, b, c, CLOSED]
-}
-
-// What it costs that a cell at a level shows the bit v, by the steps' weights.
-fn price_for(steps: [u32; 4], level: u8, v: u8) -> u32
-    requires { ⌜ (level ≤ 3) × ((i : ℕ) → getD steps i 0 ≤ closed) ⌝ }
-    ensures { λ r. ⌜ (r ≡ priceFor steps level v) × (r ≤ closed) ⌝ }
-{
-    let w = steps[level as usize];
-    if level % 2 == v { 0 } else { w }
-}
-
-// One stage back: the costs of the 64 states before stage t, in place, and the digits that they take.
-fn stage_before(
-    costs: &mut [u32; 64],
-    words: &[u8; 64],
-    steps: [u32; 4],
-    strip: &[u8],
-    t: u32,
-    label: u8,
-) -> u64
-    requires { ⌜ StageAsked steps (now costs) t label ⌝ }
-    ensures { λ r. ⌜ r ≡ digitsBefore steps (now (strip .entry)) t label (now (words .entry)) (now (costs .entry)) ⌝ }
-    ensures { λ r. ⌜ now (costs .exit) ≡ costsBefore steps (now (strip .entry)) t label (now (words .entry)) (now (costs .entry)) ⌝ }
-{
-    let first = cells::level(strip, 2 * t);
-    let second = cells::level(strip, 2 * t + 1);
-    stage(
-        costs,
-        words,
-        price_for(steps, first, 0),
-        price_for(steps, first, 1),
-        price_for(steps, second, label),
-        price_for(steps, second, 1 - label),
-        (first % 2) as u32,
-    )
-}
-
-// The register of the labels after the last stage.
-fn last_register(code: Code, taps: u32, data: &[u8]) -> u32
-    requires { ⌜ (taps ≡ tapsOf (generatorsOf code .memory) (generatorsOf code .g1)) × (length (now «data») ≤ 64) ⌝ }
-    ensures { λ r. ⌜ r ≡ registerAt (generatorsOf code) (now («data» .entry)) (8 * length (now («data» .entry))) ⌝ }
-{
-    let mut register: u32 = 0;
-    let mut t: usize = 0;
-    while t < 8 * data.len() {
-        register = code.forth(taps, register, cells::bit(data, t) as u32);
-        t += 1;
-    }
-    register
-}
 
 // What a number of the search says.
 fn outcome(cost: u32) -> Outcome
@@ -98,55 +32,91 @@ fn outcome(cost: u32) -> Outcome
     }
 }
 
-// What the data of a strip costs. It is lent nothing that it may change, and keeps no array with a place for each stage or cell.
-pub fn price_strip(
-    code: Code,
-    words: &[u8; 64],
-    weights: [u8; 3],
-    strip: &[u8],
-    data: &[u8],
-) -> Outcome
-    requires { ⌜ Shaped (generatorsOf code) weights (now words) (now strip) (now «data») ⌝ }
-    ensures { λ r. ⌜ r ≡ solutionOutcome (writeOf (generatorsOf code) weights (now (strip .entry)) (now («data» .entry))) ⌝ }
+// Eight stages of data as a window.
+pub fn data_window(data: &[u8], q: usize) -> u32
+    requires { ⌜ (q < length (now «data»)) × (length (now «data») ≤ 64) ⌝ }
+    ensures { λ r. ⌜ (r ≡ windowOf 8 (bitOf (now («data» .entry))) (8 * (q + 1))) × (r < 256) ⌝ }
 {
-    let taps = code.g1_taps();
-    let steps = steps_of(weights);
-    let mut register = last_register(code, taps, data);
-    let mut costs = [0u32; 64];
-    let mut t = 8 * data.len();
-    while t > 0 {
-        t -= 1;
-        let label = (register % 2) as u8;
-        register = code.back(taps, register, cells::bit(data, t) as u32);
-        stage_before(&mut costs, words, steps, strip, t as u32, label);
-    }
-    outcome(costs[0])
+    window(data[q] as u64, 1)
 }
 
-// The same, with the digits that the states take at each stage.
+// The last eight labels of the data.
+fn last_labels(code: Code, data: &[u8]) -> u32
+    requires { ⌜ length (now «data») ≤ 64 ⌝ }
+    ensures { λ r. ⌜ (r ≡ windowOf 8 (labelAt (generatorsOf code) (now («data» .entry))) (8 * length (now («data» .entry)))) × (r < 256) ⌝ }
+{
+    let mut labels: u32 = 0;
+    let mut q: usize = 0;
+    while q < data.len() {
+        labels = code.divide(labels, data_window(data, q));
+        q += 1;
+    }
+    labels
+}
+
+// The eight labels before block q, by those of the block: the division undone. Before the first block there are none.
+fn labels_before(code: Code, labels: u32, data: &[u8], q: usize) -> u32
+    requires { ⌜ (q < length (now «data»)) × (length (now «data») ≤ 64)
+        × (labels ≡ windowOf 8 (labelAt (generatorsOf code) (now «data»)) (8 * (q + 1))) ⌝ }
+    ensures { λ r. ⌜ (r ≡ windowOf 8 (labelAt (generatorsOf code) (now («data» .entry))) (8 * q)) × (r < 256) ⌝ }
+{
+    if q == 0 {
+        return 0;
+    }
+    let earlier = data_window(data, q - 1);
+    let later = data_window(data, q);
+    code.divide_back(labels, earlier * 256 + later)
+}
+
+// What the data of a strip costs. It is lent nothing that it may change, and keeps no array with a place for each stage or cell.
+pub fn price_strip(code: Code, rows: &[u32; 128], strip: &[u8], data: &[u8]) -> Outcome
+    requires { ⌜ Shaped (now rows) (now strip) (now «data») ⌝ }
+    ensures { λ r. ⌜ ((W : List ℕ) → Priced W (now (rows .entry))
+        → r ≡ solutionOutcome (writeOf (generatorsOf code) W (now (strip .entry)) (now («data» .entry)))) ⌝ }
+{
+    let states = code.states();
+    let mut labels = last_labels(code, data);
+    let mut costs = [0u32; 64];
+    let mut q = data.len();
+    while q > 0 {
+        q -= 1;
+        let picks = picks_of(bits_of(strip, q), labels);
+        run(code, &mut costs, rows, picks);
+        settle(&mut costs, states);
+        labels = labels_before(code, labels, data, q);
+    }
+    outcome(costs[0] / 256)
+}
+
+// The same, with what the states keep of their ways, and the bits that the first cells show, eight stages a byte.
 pub fn decide(
     code: Code,
-    words: &[u8; 64],
-    weights: [u8; 3],
+    rows: &[u32; 128],
     strip: &[u8],
     data: &[u8],
-    decisions: &mut [u64; 512],
+    history: &mut [u8; 4096],
+    lows: &mut [u8; 64],
 ) -> Outcome
-    requires { ⌜ Shaped (generatorsOf code) weights (now words) (now strip) (now «data») ⌝ }
-    requires { ⌜ length (now decisions) ≡ 512 ⌝ }
-    ensures { λ r. ⌜ r ≡ solutionOutcome (writeOf (generatorsOf code) weights (now (strip .entry)) (now («data» .entry))) ⌝ }
-    ensures { λ _. ⌜ Decided (generatorsOf code) weights (now (strip .entry)) (now («data» .entry)) (now (decisions .exit)) ⌝ }
+    requires { ⌜ Shaped (now rows) (now strip) (now «data») ⌝ }
+    requires { ⌜ (length (now history) ≡ 4096) × (length (now lows) ≡ 64) ⌝ }
+    ensures { λ r. ⌜ ((W : List ℕ) → Priced W (now (rows .entry))
+        → r ≡ solutionOutcome (writeOf (generatorsOf code) W (now (strip .entry)) (now («data» .entry)))) ⌝ }
+    ensures { λ _. ⌜ ((W : List ℕ) → Priced W (now (rows .entry))
+        → Traced (generatorsOf code) W (now (strip .entry)) (now («data» .entry)) (now (history .exit))) ⌝ }
+    ensures { λ _. ⌜ Lows (now (strip .entry)) (length (now («data» .entry))) (now (lows .exit)) ⌝ }
 {
-    let taps = code.g1_taps();
-    let steps = steps_of(weights);
-    let mut register = last_register(code, taps, data);
+    let states = code.states();
+    let mut labels = last_labels(code, data);
     let mut costs = [0u32; 64];
-    let mut t = 8 * data.len();
-    while t > 0 {
-        t -= 1;
-        let label = (register % 2) as u8;
-        register = code.back(taps, register, cells::bit(data, t) as u32);
-        decisions[t] = stage_before(&mut costs, words, steps, strip, t as u32, label);
+    let mut q = data.len();
+    while q > 0 {
+        q -= 1;
+        let picks = picks_of(bits_of(strip, q), labels);
+        lows[q] = window(picks, 8) as u8;
+        run(code, &mut costs, rows, picks);
+        keep(history, &costs, states, q);
+        settle(&mut costs, states);
+        labels = labels_before(code, labels, data, q);
     }
-    outcome(costs[0])
+    outcome(costs[0] / 256)
 }

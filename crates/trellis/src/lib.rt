@@ -1,7 +1,8 @@
-// The search of a strip: one stage of the trellis, what the data of a strip costs, the digits of the cheapest way, and carrying them out.
+// The search of a strip: the rows of its stages, what its data costs, the digits of the cheapest way, and carrying them out.
 pub mod backward;
+pub mod carrying;
 pub mod forward;
-pub mod stage;
+pub mod rows;
 
 // What a strip's data costs, or that no pattern takes it.
 pub enum Outcome {

@@ -1,0 +1,79 @@
+-- What the program does from the first stage to the last: it raises the cells that the digits want raised, eight stages at a time.
+--   digitIn digits t            the digit of stage t: eight a byte, the first worth most
+--   wantedFirst, wantedSecond   the bits that the digits want of a stage's cells
+--   carriedTo                   the level of each cell after the digits are carried out
+--   shownCell, shownPair        the bits of a cell, and of two, that are to show given bits
+--   Shows                       the program's table of such pairs
+--   shownBits                   the 48 bits of a block by that table
+--   withBits                    a strip with these bits in a block
+--   CarryAsked                  what carrying out asks
+use mathlib.Core.Path.{_≡_}
+use mathlib.Core.List.{List, [], _∷_}
+use Prim.Native.Nat.{ℕ, zero, suc, _+_, _-_, _*_, _/_, _%_, _^_, _<_, _≤_}
+use lib.ListN.{length, getD, set}
+use Rattle.cells.specs.Places.{number}
+use Rattle.cells.specs.Levels.{level}
+use Rattle.cells.specs.Raising.{raisedTimes}
+use Rattle.codes.specs.Generators.{Generators, g2}
+use Rattle.codes.specs.Layouts.{oneBit, byteCount}
+use Rattle.codes.specs.Taps.{tapsOf, parityOf, windowOf}
+use Rattle.codes.specs.Blocks.{labelAt}
+use Rattle.stages.specs.Stage.{pick}
+use Rattle.trellis.specs.Rows.{onesOf}
+
+-- the digit of stage t
+unfoldable pub digitIn : List ℕ → ℕ → ℕ
+digitIn digits t = getD digits (t / 8) 0 / 2 ^ (7 - t % 8) % 2
+
+-- the bit that the digits u want of the first cell of stage t, by the last digits up to its own
+unfoldable pub wantedFirst : Generators → (ℕ → ℕ) → ℕ → ℕ
+wantedFirst G u t = parityOf (tapsOf (G .memory) (G .g1)) (windowOf (suc (G .memory)) u (suc t))
+
+-- and of the second: the label added
+unfoldable pub wantedSecond : Generators → List ℕ → (ℕ → ℕ) → ℕ → ℕ
+wantedSecond G content u t = (parityOf (tapsOf (G .memory) (g2 G)) (windowOf (suc (G .memory)) u (suc t)) + labelAt G content t) % 2
+
+-- the bit that is wanted of cell c
+unfoldable pub wantedOf : Generators → List ℕ → (ℕ → ℕ) → ℕ → ℕ
+wantedOf G content u c = pick (c % 2) (wantedFirst G u (c / 2)) (wantedSecond G content u (c / 2))
+
+-- the level of cell c after it: one more where it does not show the bit that is wanted
+unfoldable pub carriedTo : Generators → List ℕ → List ℕ → (ℕ → ℕ) → ℕ → ℕ
+carriedTo G strip content u c = level strip c + (level strip c + wantedOf G content u c) % 2
+
+-- the three bits x of a cell that is to show the bit v: raised once where it does not, from the bit `start` on
+unfoldable pub shownCell : (start x v : ℕ) → ℕ
+shownCell start x v =
+    number 3 (λ i. getD (raisedTimes start ((onesOf x + v) % 2) (x % 2 ∷ x / 2 % 2 ∷ x / 4 % 2 ∷ [])) i 0)
+
+-- two cells by their six bits, and the bits that they are to show, worth 64 and 128
+unfoldable pub shownPair : (first second k : ℕ) → ℕ
+shownPair first second k = shownCell first (k % 8) (k / 64 % 2) + 8 * shownCell second (k / 8 % 8) (k / 128)
+
+-- the table of all pairs
+pub record Shows (first second : ℕ) (pairs : List ℕ) : Type 0 where
+  pub at : (k : ℕ) → k < 256 → getD pairs k 0 ≡ shownPair first second k
+  pub less : (k : ℕ) → getD pairs k 0 < 64
+
+-- the bits of the first n stages of a block, where its cells are to show the bits `first` and `second`, the first stage's worth most
+unfoldable pub shownBits : (pairs : List ℕ) (bits first second n : ℕ) → ℕ
+shownBits pairs bits first second zero = 0
+shownBits pairs bits first second (suc i) =
+    shownBits pairs bits first second i
+    + getD pairs (bits / 2 ^ (6 * i) % 64 + 64 * (first / 2 ^ (7 - i) % 2 + 2 * (second / 2 ^ (7 - i) % 2))) 0 * 2 ^ (6 * i)
+
+-- byte j of 48 bits
+unfoldable pub byteIn : ℕ → ℕ → ℕ
+byteIn bits j = bits / 2 ^ (8 * j) % 256
+
+-- the strip with these 48 bits in block q
+unfoldable pub withBits : List ℕ → ℕ → ℕ → List ℕ
+withBits strip q bits =
+    set (set (set (set (set (set strip (6 * q) (byteIn bits 0)) (6 * q + 1) (byteIn bits 1)) (6 * q + 2) (byteIn bits 2)) (6 * q + 3)
+    (byteIn bits 3)) (6 * q + 4) (byteIn bits 4)) (6 * q + 5) (byteIn bits 5)
+
+-- what carrying out asks: a digit for each stage of data of at most 64 bytes, and a strip for them
+pub record CarryAsked (strip content digits : List ℕ) : Type 0 where
+  pub digits-are : length digits ≡ length content
+  pub most : length content ≤ 64
+  pub size : length strip ≡ byteCount oneBit (length content)

@@ -1,0 +1,92 @@
+-- The stages of a strip in the plain search, and what the program keeps of the ways through them.
+--   stageFor, quoteFor, nextFor   a stage of a strip, its prices, and the next state
+--   stagesFor, costsFor           k stages from stage t on, and what they cost from each state
+--   Shaped                        what the search of a strip asks
+--   Traced                        the history has the trail of each state that has a cost, eight stages a byte
+--   Lows                          the bits that the first cells show, eight stages a byte
+--   Followed                      digits that the history and these bits give
+use mathlib.Core.Path.{_≡_}
+use mathlib.Core.Bool.{Bool, false}
+use mathlib.Core.List.{List, [], _∷_}
+use mathlib.Core.Option.{Option, none}
+use Prim.Native.Nat.{ℕ, _+_, _-_, _*_, _^_, _<_, _≤_}
+use lib.Bits.{bitXor}
+use lib.ListN.{getD, length}
+use Rattle.cells.specs.Levels.{level}
+use Rattle.codes.specs.Generators.{Generators}
+use Rattle.codes.specs.Layouts.{oneBit, byteCount}
+use Rattle.codes.specs.Registers.{quotient}
+use Rattle.codes.specs.Encoders.{Encoder, encoderOf}
+use Rattle.codes.specs.Taps.{tapsOf, windowOf, firstBit}
+use Rattle.codes.specs.Blocks.{Gives}
+use Rattle.search.specs.Strip.{Cell, stepsOf}
+use Rattle.search.specs.Search.{Stage, withMemory}
+use Rattle.search.specs.Layouts.{dataBits}
+use Rattle.search.specs.Plan.{costs}
+use Rattle.search.specs.Numbered.{nextN}
+use Rattle.search.specs.Plain.{Prices}
+use Rattle.search.specs.OneBit.{oneBitPrices}
+use Rattle.stages.specs.Stage.{top, wordsOf}
+use Rattle.stages.specs.Trails.{stagesFrom, priceBy, trailOf}
+
+-- the encoder, its states as wide as the code's memory
+abbrev pub encoderFor : Generators → Encoder
+encoderFor G = withMemory (G .memory) (encoderOf G)
+
+-- the label of stage t as a bit
+abbrev pub labelFor : Generators → List ℕ → ℕ → Bool
+labelFor G content t = quotient (G .memory) (encoderOf G .first) (dataBits oneBit content 0) t
+
+-- cell c of a strip, which may be raised
+abbrev pub cellFor : List ℕ → ℕ → Cell
+cellFor strip c = record { level = level strip c; mark = false }
+
+-- stage t of a strip
+abbrev pub stageFor : Generators → List ℕ → List ℕ → ℕ → Stage
+stageFor G strip content t = record { adds = labelFor G content t ∷ []; cells = cellFor strip (2 * t) ∷ cellFor strip (2 * t + 1) ∷ [] }
+
+-- the prices of its words
+abbrev pub quoteFor : List ℕ → Stage → Prices
+quoteFor W = oneBitPrices (stepsOf W)
+
+-- the state that follows
+abbrev pub nextFor : Generators → Stage → ℕ → Bool → ℕ
+nextFor G = nextN (encoderFor G)
+
+-- k stages of a strip from stage t on
+abbrev pub stagesFor : Generators → List ℕ → List ℕ → ℕ → ℕ → List Stage
+stagesFor G strip content = stagesFrom (stageFor G strip content)
+
+-- what stages cost from each state
+abbrev pub costsFor : Generators → List ℕ → List Stage → ℕ → Option ℕ
+costsFor G W = costs (priceBy (wordsOf G) (quoteFor W) (nextFor G)) (nextFor G)
+
+-- the trail of the first k stages
+abbrev pub trailFor : Generators → List ℕ → ℕ → List Stage → ℕ → ℕ
+trailFor G W = trailOf (wordsOf G) (quoteFor W) (nextFor G)
+
+-- the stages of block q and those after it, of n blocks
+abbrev pub blocksFor : Generators → List ℕ → List ℕ → ℕ → ℕ → List Stage
+blocksFor G strip content n q = stagesFor G strip content (8 * q) (8 * (n - q))
+
+-- what the search of a strip asks: a table that is cut off, data of at most 64 bytes and a strip for them
+pub record Shaped (rows strip content : List ℕ) : Type 0 where
+  pub cut : (k : ℕ) → getD rows k 0 ≤ top
+  pub size : length strip ≡ byteCount oneBit (length content)
+  pub most : length content ≤ 64
+
+-- the history of n blocks: the trail of each state before block q that has a cost
+pub record Traced (G : Generators) (W strip content history : List ℕ) : Type 0 where
+  pub kept : (q : ℕ) → q < length content → (s : ℕ) → s < 2 ^ G .memory
+      → (costsFor G W (blocksFor G strip content (length content) q) s ≡ none → ⊥)
+      → getD history (64 * q + s) 0 ≡ trailFor G W 8 (blocksFor G strip content (length content) q) s
+
+-- the bits that the first cells of n blocks show; the other places are free
+pub record Lows (strip : List ℕ) (n : ℕ) (lows : List ℕ) : Type 0 where
+  pub shown : (q : ℕ) → q < n → getD lows q 0 ≡ windowOf 8 (firstBit (level strip)) (8 * (q + 1))
+
+-- digits u over n blocks that, times G1, give the first code bits that the history and the lows tell
+pub record Followed (G : Generators) (lows history : List ℕ) (n : ℕ) (u : ℕ → ℕ) : Type 0 where
+  pub bits : (t : ℕ) → u t < 2
+  pub gives : (q : ℕ) → q < n → Gives (tapsOf (G .memory) (G .g1)) (windowOf 8 u (8 * q) * 256 + windowOf 8 u (8 * (q + 1)))
+      (bitXor (getD history (64 * q + windowOf (G .memory) u (8 * q)) 0) (getD lows q 0)) 0
