@@ -9,3 +9,4 @@ pub mod Encoders
 pub mod Numbers
 pub mod Taps
 pub mod Codes
+pub mod Divisions

@@ -2,6 +2,7 @@
 --   ones-pair                            the ones of a number, from its last bit and its half
 --   parity-taps                          a parity is the sum mod 2 of tap i times bit i of the window
 --   parity-digits                        of digit i times bit i
+--   low-bit                              the last bits of a number keep its bit i
 --   window-bit                           bit i of a window is what the sequence was i stages ago
 --   parity-window                        a parity with a window is the sum mod 2 of digit i times what the sequence was i stages ago
 --   tapped-data                          the data bit by taps and windows is the paper's
@@ -66,7 +67,7 @@ parity-digits m g w =
     ap (λ (x : ℕ). x * (w / 2 ^ i % 2)) (number-bit (suc m) (digit m g) (λ i l. digit-bound m g i) i l)))
 
 -- WINDOWS. The last n bits of a number keep its bit i
-low-bit : (n i y : ℕ) → i < n → y % 2 ^ n / 2 ^ i % 2 ≡ y / 2 ^ i % 2
+pub low-bit : (n i y : ℕ) → i < n → y % 2 ^ n / 2 ^ i % 2 ≡ y / 2 ^ i % 2
 low-bit n i y h =
     let e : n ≡ n - suc i + 1 + i = omega arith in
     ap (λ (k : ℕ). y % 2 ^ k / 2 ^ i % 2) e ∙ ap (λ (z : ℕ). z % 2) (field y (n - suc i + 1) i) ∙ mod-mod-pow (y / 2 ^ i) (n - suc i) 1
