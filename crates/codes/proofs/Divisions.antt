@@ -2,7 +2,7 @@
 --   times-le                   a number times a bit is at most the number
 --   tapped-less, lifted-less   taps make no more bits than the window has, and lifted no more than eight
 --   tapped-bit                 the taps make the parities of all stages at once
---   divided-less               the data divided is eight bits, and so is the data divided back (divided-back-less)
+--   divided-less               the data divided is eight bits
 --   divided-only               eight bits that give the data, after eight others, are the data divided
 --   divided-back-only          eight bits that give the data, before eight others, are the data divided back
 --   untapped-short, -long      what undoes the taps of G1 of each code
@@ -174,11 +174,6 @@ pub divided-less : (taps before d : ℕ) → d < 256 → dividedOf taps before d
 unfolding dividedOf untappedOf
 divided-less taps before d h =
     tapped-less 8 taps 4 _ 7 (tapped-less 8 taps 2 _ 7 (tapped-less 8 taps 1 _ 7 (xor-lt 8 d _ h (mod-lt _ (zero-lt-suc 255)))))
-
--- and so is that before
-pub divided-back-less : (taps m after d : ℕ) → dividedBackOf taps m after d < 256
-unfolding dividedBackOf unliftedOf
-divided-back-less taps m after d = lifted-less taps m 4 _ (suc m)
 
 -- the eight bits that give the data are the data divided
 pub divided-only : (taps before d y : ℕ) → taps < 128 → ((y : ℕ) → y < 256 → untappedOf taps (tappedOf taps 1 y 7) ≡ y)

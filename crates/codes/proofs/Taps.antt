@@ -73,7 +73,7 @@ low-bit n i y h =
     ap (λ (k : ℕ). y % 2 ^ k / 2 ^ i % 2) e ∙ ap (λ (z : ℕ). z % 2) (field y (n - suc i + 1) i) ∙ mod-mod-pow (y / 2 ^ i) (n - suc i) 1
 
 -- bit i of a window is what the sequence was i stages ago
-window-bit : (n : ℕ) (x : ℕ → ℕ) → ((t : ℕ) → x t < 2) → (t i : ℕ) → i < n → windowOf n x (suc t) / 2 ^ i % 2 ≡ ago x t i
+pub window-bit : (n : ℕ) (x : ℕ → ℕ) → ((t : ℕ) → x t < 2) → (t i : ℕ) → i < n → windowOf n x (suc t) / 2 ^ i % 2 ≡ ago x t i
 unfolding windowOf
 window-bit n x b t zero h =
     let k : x t < 2 = b t in
@@ -96,7 +96,7 @@ window-less n x zero = pow-pos n
 window-less n x (suc t) = mod-lt _ (pow-pos n)
 
 -- a parity with a window is the sum mod 2 of digit i times what the sequence was i stages ago
-parity-window : (n : ℕ) (x : ℕ → ℕ) → ((t : ℕ) → x t < 2) → (m g t : ℕ) → m < n
+pub parity-window : (n : ℕ) (x : ℕ → ℕ) → ((t : ℕ) → x t < 2) → (m g t : ℕ) → m < n
     → parityOf (tapsOf m g) (windowOf n x (suc t)) ≡ sumOf (suc m) (λ i. digit m g i * ago x t i) % 2
 parity-window n x b m g t h =
     parity-digits m g (windowOf n x (suc t))
