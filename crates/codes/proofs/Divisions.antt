@@ -153,7 +153,7 @@ parity-xor : (taps a b : ℕ) → taps < 128 → parityOf taps (bitXor a b) ≡ 
 parity-xor taps a b h =
     parity-taps 7 taps (bitXor a b) h
     ∙ sum-odd 7 _ (λ i. f i + g i) (λ i.
-    ap (λ (x : ℕ). taps / 2 ^ i % 2 * x % 2) (xor-bit a b i) ∙ times-sum (taps / 2 ^ i % 2) (a / 2 ^ i % 2) (b / 2 ^ i % 2) (bit-less taps i))
+    ap (λ (x : ℕ). taps / 2 ^ i % 2 * x % 2) (xor-bit a b i) ∙ times-sum (taps / 2 ^ i % 2) _ (b / 2 ^ i % 2) (bit-less taps i))
     ∙ omega (arith, sumOf-add 7 f g, parity-taps 7 taps a h, parity-taps 7 taps b h)
   where
     f : ℕ → ℕ
@@ -203,42 +203,45 @@ divided-back-only taps m after d y h k test l r g =
     sym (test y r)
     ∙ ap (unliftedOf taps m)
     (bits-same 8 _ _ (lifted-less taps m 1 y (suc m))
-    (xor-lt 8 (d / 2 ^ (8 - m) % 256) _ (mod-lt _ (zero-lt-suc 255)) (omega (arith, shr-le T (8 - m), tapped-less 8 taps 1 after 7 l))) (λ p s.
-    let a : ℕ = parityOf taps (y * 256 / 2 ^ (8 - m + p)) in
-    let b : ℕ = parityOf taps (after / 2 ^ (8 - m + p)) in
-    let x : d / 2 ^ (8 - m) % 256 / 2 ^ p % 2 ≡ (a + b) % 2 =
-    low-bit 8 p (d / 2 ^ (8 - m)) s ∙ ap (λ (u : ℕ). u % 2) (shr-shr d (8 - m) p) ∙ sym (g .at p s) ∙ parity-parts taps y after (8 - m + p) small l in
-    let z : T / 2 ^ (8 - m) / 2 ^ p % 2 ≡ b = ap (λ (u : ℕ). u % 2) (shr-shr T (8 - m) p) ∙ tapped-bit taps after (8 - m + p) small in
-    let q : a ≡ ((a + b) % 2 + b) % 2 = omega (arith, parity-less taps (y * 256 / 2 ^ (8 - m + p))) in
-    lifted-bit taps m y p h (omega arith) s ∙ q
-    ∙ sym (xor-bit (d / 2 ^ (8 - m) % 256) (T / 2 ^ (8 - m)) p ∙ ap₂ (λ (u v : ℕ). (u + v) % 2) x z)))
+    (xor-lt 8 (d / 2 ^ n % 256) _ (mod-lt _ (zero-lt-suc 255)) (omega (arith, shr-le T n, tapped-less 8 taps 1 after 7 l))) (λ p s.
+    let a : ℕ = parityOf taps (y * 256 / 2 ^ (n + p)) in
+    let b : ℕ = parityOf taps (after / 2 ^ (n + p)) in
+    let x : d / 2 ^ n % 256 / 2 ^ p % 2 ≡ (a + b) % 2 =
+    low-bit 8 p (d / 2 ^ n) s ∙ ap (λ (u : ℕ). u % 2) (shr-shr d n p) ∙ sym (g .at p s) ∙ parity-parts taps y after (n + p) small l in
+    let z : T / 2 ^ n / 2 ^ p % 2 ≡ b = ap (λ (u : ℕ). u % 2) (shr-shr T n p) ∙ tapped-bit taps after (n + p) small in
+    let q : a ≡ ((a + b) % 2 + b) % 2 = omega (arith, parity-less taps (y * 256 / 2 ^ (n + p))) in
+    lifted-bit taps m y p h (omega arith) s ∙ q ∙ sym (xor-bit (d / 2 ^ n % 256) (T / 2 ^ n) p ∙ ap₂ (λ (u v : ℕ). (u + v) % 2) x z)))
   where
+    n : ℕ
+    n = 8 - m
+
     T : ℕ
     T = tappedOf taps 1 after 7
 
     small : taps < 128
     small = let e : suc m ≤ 7 = omega arith in omega (arith, pow-mono e)
 
--- A COMPUTED TEST. A function that gives back each number below n
+-- COMPUTED TESTS. A function that is found to give back each number below n does so
 same-each : (n : ℕ) (f : ℕ → ℕ) → sameList (listOf n f) (listOf n (λ i. i)) ≡ true → (i : ℕ) → i < n → f i ≡ i
 same-each n f e i h =
-    sym (listOf-at n f i 0 h) ∙ ap (λ (l : List ℕ). getD l i 0) (sameList-eq (listOf n f) (listOf n (λ i. i)) e) ∙ listOf-at n (λ i. i) i 0 h
+    sym (listOf-at n f i 0 h) ∙ ap (λ (l : List ℕ). getD l i 0) (sameList-eq (listOf n f) _ e) ∙ listOf-at n (λ i. i) i 0 h
 
--- G1 of code 3
+-- what undoes the taps of G1 of code 3
 pub untapped-short : (y : ℕ) → y < 256 → untappedOf 0o7 (tappedOf 0o7 1 y 7) ≡ y
 unfolding sameList listOf tappedOf untappedOf
 untapped-short = same-each 256 (λ y. untappedOf 0o7 (tappedOf 0o7 1 y 7)) refl
 
--- of code 7
+-- and of code 7
 pub untapped-long : (y : ℕ) → y < 256 → untappedOf 0o117 (tappedOf 0o117 1 y 7) ≡ y
 unfolding sameList listOf tappedOf untappedOf
 untapped-long = same-each 256 (λ y. untappedOf 0o117 (tappedOf 0o117 1 y 7)) refl
 
--- and both the other way
+-- the other way, with code 3
 pub unlifted-short : (y : ℕ) → y < 256 → unliftedOf 0o7 2 (liftedOf 0o7 2 1 y 3) ≡ y
 unfolding sameList listOf liftedOf unliftedOf
 unlifted-short = same-each 256 (λ y. unliftedOf 0o7 2 (liftedOf 0o7 2 1 y 3)) refl
 
+-- and with code 7
 pub unlifted-long : (y : ℕ) → y < 256 → unliftedOf 0o117 6 (liftedOf 0o117 6 1 y 7) ≡ y
 unfolding sameList listOf liftedOf unliftedOf
 unlifted-long = same-each 256 (λ y. unliftedOf 0o117 6 (liftedOf 0o117 6 1 y 7)) refl

@@ -3,6 +3,7 @@
 --   window-same         a window depends on its bits alone
 --   window-join         two windows of eight bits that follow each other are one of sixteen
 --   window-byte         bit p of the window of byte q is what the sequence was p stages before the byte's last
+--   window-of-word      the program's window, of bits that are those of stages
 --   window-of-byte      the window of the bits of byte q is the window of all the bits after that byte
 --   window-parity       a parity with the window of two bytes is that with the window of its stage
 --   windows-give        where a generator makes one sequence of another, it makes a byte's window of the windows of two bytes
@@ -23,7 +24,7 @@ use Rattle.cells.proofs.Bytes.{bit-bound}
 use Rattle.codes.specs.Generators.{Generators, digit}
 use Rattle.codes.specs.Taps.{tapsOf, parityOf, windowOf}
 use Rattle.codes.specs.Sequences.{Bits, conv, odd}
-use Rattle.codes.specs.Encoders.{digitBits, encoderOf, Proper}
+use Rattle.codes.specs.Encoders.{encoderOf, Proper}
 use Rattle.codes.specs.Blocks.{Gives, labelAt}
 use Rattle.codes.proofs.Sequences.{odd-mod-two, odd-only}
 use Rattle.codes.proofs.Registers.{conv-quotient}
@@ -117,6 +118,14 @@ window-same x y b c (suc k) t s e =
     ∙ ap₂ (λ (w v : ℕ). 2 * w + v) (window-same x y b c k t s (λ i h. e i (omega arith))) (e k (omega arith))
     ∙ sym (window-suc y c k (s + k)))
 
+-- eight bits of a word, `step` places apart, that are those of the stages from 8·q on: the program's window
+pub window-of-word : (word step : ℕ) (x : ℕ → ℕ) → ((t : ℕ) → x t < 2) → (q : ℕ)
+    → ((i : ℕ) → i < 8 → word / 2 ^ (step * i) % 2 ≡ x (8 * q + i))
+    → windowOf 8 (λ i. word / 2 ^ (step * i) % 2) 8 ≡ windowOf 8 x (8 * (q + 1))
+window-of-word word step x b q e =
+    let f : 8 * (q + 1) ≡ 8 * q + 8 = omega arith in
+    rw f (window-same _ x (λ i. mod-lt _ (zero-lt-suc 1)) b 8 0 (8 * q) (λ i h. let z : 0 + i ≡ i = omega arith in rw z (e i h)))
+
 -- the window of the bits of byte q is the window of all the bits after that byte
 pub window-of-byte : (bytes : List ℕ) (q : ℕ) → windowOf 8 (λ i. getD bytes q 0 / 2 ^ i % 2) 8 ≡ windowOf 8 (bitOf bytes) (8 * (q + 1))
 unfolding bitOf
@@ -137,14 +146,14 @@ module _ (m g : ℕ) (x d : ℕ → ℕ) (xs : (t : ℕ) → x t < 2) (ds : (t :
     at = λ p h.
         let e : 0 + p ≡ p = omega arith in
         let f : 8 * q + 7 - p ≡ 8 * q + (7 - p) = omega arith in
-        rw e
-        (window-parity x xs m g q p (omega arith) (omega arith) ∙ makes (8 * q + 7 - p) (omega arith) ∙ ap d f ∙ sym (window-byte d ds q p h));
+        let w = window-parity x xs m g q p (omega arith) (omega arith) in
+        rw e (w ∙ makes (8 * q + 7 - p) (omega arith) ∙ ap d f ∙ sym (window-byte d ds q p h));
   }
 
   -- and of two bytes, m stages back
   pub windows-give-back : 0 < q
-      → Gives (tapsOf m g) (windowOf 8 x (8 * q) * 256 + windowOf 8 x (8 * (q + 1))) (windowOf 8 d (8 * q) * 256 + windowOf 8 d (8 * (q + 1)))
-      (8 - m)
+      → Gives (tapsOf m g) (windowOf 8 x (8 * q) * 256 + windowOf 8 x (8 * (q + 1)))
+      (windowOf 8 d (8 * q) * 256 + windowOf 8 d (8 * (q + 1))) (8 - m)
   windows-give-back r = record {
     at = λ p h.
         let k : ℕ = 8 - m + p in

@@ -1,5 +1,5 @@
--- EIGHT STAGES AT A TIME: the last eight of a sequence of bits as one number, the newest worth 1 (`windowOf 8`), and what a generator makes of
--- them.
+-- Eight stages at a time: the last eight of a sequence of bits as one number, the newest worth 1 (`windowOf 8`), and what a generator makes
+-- of them.
 --   tappedOf taps step w n          the window w, shifted by each of the first n taps, added up without carries
 --   liftedOf taps m step w n        the same the other way, from tap m back, of eight bits
 --   untappedOf, unliftedOf          what undoes each of them, of eight bits
@@ -24,12 +24,12 @@ unfoldable pub tappedOf : (taps step w n : ℕ) → ℕ
 tappedOf taps step w zero = 0
 tappedOf taps step w (suc i) = bitXor (tappedOf taps step w i) (w / 2 ^ (step * i) * (taps / 2 ^ i % 2))
 
--- the window lifted by `step` places for each tap from tap m back, without carries: the first n taps of it, modulo D ^ 8
+-- eight bits lifted by `step` places for each tap from tap m back, without carries: of the first n taps, what stays within eight bits
 unfoldable pub liftedOf : (taps m step w n : ℕ) → ℕ
 liftedOf taps m step w zero = 0
 liftedOf taps m step w (suc i) = bitXor (liftedOf taps m step w i) ((w * 2 ^ (step * (m - i))) % 256 * (taps / 2 ^ i % 2))
 
--- g · g² · g⁴, which modulo D ^ 8 is the inverse of g
+-- the taps of g · g² · g⁴, which modulo D ^ 8 is the inverse of g
 unfoldable pub untappedOf : (taps w : ℕ) → ℕ
 untappedOf taps w = tappedOf taps 4 (tappedOf taps 2 (tappedOf taps 1 w 7) 7) 7
 

@@ -1,5 +1,5 @@
-// Eight stages at a time: the last eight bits of a sequence are one number, the newest worth 1. What the generators make of it, and the data
-// divided by the first generator, forth and back.
+// Eight stages at a time: the last eight bits of a sequence are one number, the newest worth 1. What the generators make of it, and the
+// data divided by the first generator, forth and back.
 use crate::Code;
 use crate::Name;
 ghost use mathlib.Core.Path.{_≡_};
@@ -87,7 +87,8 @@ impl Code {
     pub fn first_bits(self, window: u32) -> u32
         requires { ⌜ window < 65536 ⌝ }
         ensures { λ r. ⌜ r < 65536 ⌝ }
-        ensures { λ r. ⌜ ((p : ℕ) → r / 2 ^ p % 2 ≡ parityOf (tapsOf (generatorsOf self .memory) (generatorsOf self .g1)) (window / 2 ^ p)) ⌝ }
+        ensures { λ r. ⌜ ((p : ℕ)
+            → r / 2 ^ p % 2 ≡ parityOf (tapsOf (generatorsOf self .memory) (generatorsOf self .g1)) (window / 2 ^ p)) ⌝ }
     {
         let name = self.name;
         match name {
@@ -100,7 +101,8 @@ impl Code {
     pub fn second_bits(self, window: u32) -> u32
         requires { ⌜ window < 65536 ⌝ }
         ensures { λ r. ⌜ r < 65536 ⌝ }
-        ensures { λ r. ⌜ ((p : ℕ) → r / 2 ^ p % 2 ≡ parityOf (tapsOf (generatorsOf self .memory) (g2 (generatorsOf self))) (window / 2 ^ p)) ⌝ }
+        ensures { λ r. ⌜ ((p : ℕ)
+            → r / 2 ^ p % 2 ≡ parityOf (tapsOf (generatorsOf self .memory) (g2 (generatorsOf self))) (window / 2 ^ p)) ⌝ }
     {
         let name = self.name;
         match name {
@@ -114,7 +116,8 @@ impl Code {
     pub fn divide(self, before: u32, data: u32) -> u32
         requires { ⌜ (before < 256) × («data» < 256) ⌝ }
         ensures { λ r. ⌜ r < 256 ⌝ }
-        ensures { λ r. ⌜ ((y : ℕ) → y < 256 → Gives (tapsOf (generatorsOf self .memory) (generatorsOf self .g1)) (before * 256 + y) «data» 0 → y ≡ r) ⌝ }
+        ensures { λ r. ⌜ ((y : ℕ) → y < 256
+            → Gives (tapsOf (generatorsOf self .memory) (generatorsOf self .g1)) (before * 256 + y) «data» 0 → y ≡ r) ⌝ }
     {
         let name = self.name;
         match name {
@@ -128,7 +131,8 @@ impl Code {
         requires { ⌜ (after < 256) × («data» < 65536) ⌝ }
         ensures { λ r. ⌜ r < 256 ⌝ }
         ensures { λ r. ⌜ ((y : ℕ) → y < 256
-            → Gives (tapsOf (generatorsOf self .memory) (generatorsOf self .g1)) (y * 256 + after) «data» (8 - generatorsOf self .memory) → y ≡ r) ⌝ }
+            → Gives (tapsOf (generatorsOf self .memory) (generatorsOf self .g1)) (y * 256 + after) «data» (8 - generatorsOf self .memory)
+            → y ≡ r) ⌝ }
     {
         let name = self.name;
         match name {

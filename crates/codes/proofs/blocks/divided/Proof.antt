@@ -1,8 +1,7 @@
 -- The rest is eight bits, and the program takes off and undoes as the definition does.
 use mathlib.Core.Path.{_≡_, _∙_, ap}
-use Prim.Native.Nat.{ℕ, _<_, _*_, _%_}
+use Prim.Native.Nat.{ℕ, _%_}
 use native.Mathlib.Omega.{arith}
-use native.Mathlib.Nat.{mod-lt, zero-lt-suc}
 use lib.Bits.{bitXor, xor-lt}
 use borrow.Author.Needs.{needs}
 use Rattle.codes.specs.Blocks.{tappedOf, untappedOf, dividedOf}

@@ -5,7 +5,7 @@ use native.Mathlib.Omega.{arith}
 use lib.Bits.{bitXor, xor-lt}
 use lib.Pow.{shr-le}
 use borrow.Author.Needs.{needs}
-use Rattle.codes.specs.Blocks.{tappedOf, liftedOf, unliftedOf, dividedBackOf}
+use Rattle.codes.specs.Blocks.{liftedOf, unliftedOf, dividedBackOf}
 use Rattle.codes.proofs.Divisions.{tapped-less}
 use Rattle.codes.proofs.blocks.divided_back.Statement.{statement}
 use Rattle.codes.proofs.blocks.divided_back.Tie as tie
@@ -46,13 +46,14 @@ returns c =
     let s = c .before .before .before in
     let a = s .before .args in
     let m = a .memory in
-    (c .lifted3 .ensures .0
+    let rest : ℕ → ℕ = λ t. bitXor (a .«data» / 2 ^ (8 - m) % 256) (t / 2 ^ (8 - m)) in
+    let r : c .lifted3 .result ≡ dividedBackOf (a .taps) m (a .after) (a .«data») =
+    c .lifted3 .ensures .0
     ∙ ap (λ (w : ℕ). liftedOf (a .taps) m 4 w (suc m))
     (c .before .lifted2 .ensures .0
     ∙ ap (λ (w : ℕ). liftedOf (a .taps) m 2 w (suc m))
-    (c .before .before .lifted .ensures .0
-    ∙ ap (λ (w : ℕ). liftedOf (a .taps) m 1 (bitXor (a .«data» / 2 ^ (8 - m) % 256) (w / 2 ^ (8 - m))) (suc m)) (s .tapped .ensures .0))),
-    c .lifted3 .ensures .1)
+    (c .before .before .lifted .ensures .0 ∙ ap (λ (t : ℕ). liftedOf (a .taps) m 1 (rest t) (suc m)) (s .tapped .ensures .0))) in
+    (r, c .lifted3 .ensures .1)
 
 pub divided-back-spec : {M : Type 1} → statement M
 divided-back-spec =

@@ -1,6 +1,6 @@
 -- The invariant: the sum is that of the first i taps.
-use mathlib.Core.Path.{_≡_, refl, ap, ap₂, _∙_}
-use Prim.Native.Nat.{ℕ, suc, _<_, _≤_, _+_, _*_, _-_, _/_, _%_, _^_}
+use mathlib.Core.Path.{_≡_, _∙_, ap}
+use Prim.Native.Nat.{ℕ, _<_, _≤_, _*_, _-_, _/_, _%_, _^_}
 use native.Mathlib.Omega.{arith}
 use native.Mathlib.Nat.{mul-le-mul}
 use native.Mathlib.Numerals.{add-one}
@@ -11,8 +11,6 @@ use Rattle.codes.specs.Blocks.{tappedOf}
 use Rattle.codes.proofs.Divisions.{times-le, tapped-less}
 use Rattle.codes.proofs.blocks.tapped.Statement.{statement}
 use Rattle.codes.proofs.blocks.tapped.Tie as tie
-use Rattle.codes.proofs.blocks.tapped.Reads as reads
-use Rattle.codes.proofs.blocks.tapped.Lts as lts
 
 abbrev Inv-loop : tie.InvT-loop
 Inv-loop taps step w sum₀ i₀ sum i = (i ≤ 7) × (sum ≡ tappedOf taps step w i)

@@ -9,8 +9,6 @@ use borrow.Author.Needs.{needs}
 use Rattle.codes.specs.Taps.{windowOf}
 use Rattle.codes.proofs.blocks.window.Statement.{statement}
 use Rattle.codes.proofs.blocks.window.Tie as tie
-use Rattle.codes.proofs.blocks.window.Reads as reads
-use Rattle.codes.proofs.blocks.window.Lts as lts
 
 abbrev Inv-loop : tie.InvT-loop
 Inv-loop word step w₀ i₀ w i = (i ≤ 8) × (w ≡ windowOf 8 (λ i. word / 2 ^ (step * i) % 2) i) × (w < 2 ^ i)
