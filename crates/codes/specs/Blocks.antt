@@ -1,12 +1,12 @@
 -- Eight stages at a time: the last eight of a sequence of bits as one number, the newest worth 1 (`windowOf 8`), and what a generator makes
 -- of them.
---   tappedOf taps step w n          the window w, shifted by each of the first n taps, added up without carries
---   liftedOf taps m step w n        the same the other way, from tap m back, of eight bits
---   untappedOf, unliftedOf          what undoes each of them, of eight bits
---   dividedOf taps before d         the eight bits that give the data d, after the eight before them
---   dividedBackOf taps m after d    the eight bits that give the data d, before the eight after them
---   Gives taps w d from             eight bits of d, from bit `from` on, are what the taps make of the window w
---   labelAt                         the labels of the data: the data divided by G1
+--   tappedOf taps step w n         the window w, shifted by each of the first n taps, added up without carries
+--   liftedOf taps m step w n       the same the other way, from tap m back, of eight bits
+--   untappedOf, unliftedOf         what undoes each of them, of eight bits
+--   dividedOf taps before d        the eight bits that give the data d, after the eight before them
+--   dividedBackOf taps m after d   the eight bits that give the data d, before the eight after them
+--   Gives taps w d from            eight bits of d, from bit `from` on, are what the taps make of the window w
+--   labelAt                        the labels of the data: the data divided by G1
 use mathlib.Core.Path.{_≡_}
 use mathlib.Core.List.{List}
 use Prim.Native.Nat.{ℕ, zero, suc, _+_, _*_, _-_, _/_, _%_, _^_, _<_}
