@@ -9,3 +9,5 @@ pub mod Encoders
 pub mod Numbers
 pub mod Taps
 pub mod Codes
+pub mod Windows
+pub mod Divisions

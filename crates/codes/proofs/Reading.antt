@@ -1,5 +1,6 @@
 -- Laws of the paper's sums: the sum of a stage is the sum of two convolutions.
---   ago-now, ago-before, ago-suc   what a sequence was: now, before stage 0, a stage later
+--   ago-now, ago-at                what a sequence was: now, from stage 0 on
+--   ago-before, ago-suc            before stage 0, a stage later
 --   conv-sum                       a convolution is the sum of digit i times what the sequence was i stages ago
 --   sumBit-bound                   the sum of a stage is 0 or 1
 --   sumBit-conv                    it is g times the bits a plus G1 times the bits b
@@ -24,6 +25,11 @@ pub ago-now : (x : ℕ → ℕ) (t : ℕ) → ago x t 0 ≡ x t
 unfolding ago
 ago-now x t = let e : t - 0 ≡ t = omega arith in rw (le-ltb t 0 (omega arith), e)
 
+-- from stage 0 on it is x
+pub ago-at : (x : ℕ → ℕ) (t i : ℕ) → i ≤ t → ago x t i ≡ x (t - i)
+unfolding ago
+ago-at x t i h = rw (le-ltb t i h)
+
 -- before stage 0 all is 0
 pub ago-before : (x : ℕ → ℕ) (i : ℕ) → ago x 0 (suc i) ≡ 0
 unfolding ago
@@ -47,7 +53,7 @@ shift-sum n f x d e zero = sym (ap odd (sumOf-zero n _ (λ i h. rw (ago-before x
 shift-sum n f x d e (suc t) = e t ∙ ap odd (sumOf-same n _ _ (λ i h. rw (ago-suc x t i)))
 
 -- the convolution with a list of digits is the sum over the digits
-conv-sum : (n : ℕ) (f x : ℕ → ℕ) (t : ℕ)
+pub conv-sum : (n : ℕ) (f x : ℕ → ℕ) (t : ℕ)
     → conv (listOf n (λ i. odd (f i))) (λ s. odd (x s)) t ≡ odd (sumOf n (λ i. f i * ago x t i))
 unfolding conv listOf sumOf scale shift _⊕_ zeros odd
 conv-sum zero f x t = refl

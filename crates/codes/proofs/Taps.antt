@@ -1,6 +1,8 @@
 -- Laws of the program's taps and windows: their parities are the paper's sums.
 --   ones-pair                            the ones of a number, from its last bit and its half
---   parity-digits                        a parity is the sum mod 2 of digit i times bit i of the window
+--   parity-taps                          a parity is the sum mod 2 of tap i times bit i of the window
+--   parity-digits                        of digit i times bit i
+--   low-bit                              the last bits of a number keep its bit i
 --   window-bit                           bit i of a window is what the sequence was i stages ago
 --   parity-window                        a parity with a window is the sum mod 2 of digit i times what the sequence was i stages ago
 --   tapped-data                          the data bit by taps and windows is the paper's
@@ -18,7 +20,8 @@ use lib.ListN.{length, getD}
 use Rattle.cells.specs.Places.{sumOf, number}
 use Rattle.cells.specs.Bytes.{bytesOf}
 use Rattle.cells.specs.Levels.{level}
-use Rattle.cells.proofs.Places.{listOf-same, listOf-getD, sumOf-same, sumOf-add, number-same, half-power}
+use Rattle.cells.proofs.Places.{listOf-same, listOf-getD, sumOf-same, sumOf-add, number-same, number-less, half-power}
+use Rattle.cells.proofs.Bytes.{number-bit}
 use Rattle.codes.specs.Generators.{Generators, g2, digit}
 use Rattle.codes.specs.Layouts.{oneBit}
 use Rattle.codes.specs.Reading.{ago, sumBit, dataBit, readStrip}
@@ -38,39 +41,39 @@ pub ones-pair : (x r : ℕ) → r < 2 → ones (x * 2 + r) ≡ r + ones x
 ones-pair x r h = ones-step (x * 2 + r) ∙ ap₂ (λ (a b : ℕ). a + ones b) (omega arith) (omega arith)
 
 -- taps meet as many ones of a window as the sum of tap i times bit i says
-taps-bits : (n : ℕ) (f : ℕ → ℕ) → ((i : ℕ) → f i < 2) → (w : ℕ)
-    → ones (bitAnd (number n f) w) ≡ sumOf n (λ i. f i * (w / 2 ^ i % 2))
-unfolding number sumOf ones
-taps-bits zero f b w = ap ones (and-zero-l w)
-taps-bits (suc n) f b w =
-    let h : f 0 < 2 = b 0 in
-    let N : ℕ = number n (λ i. f (suc i)) in
-    let m : min (f 0) (w % 2) ≡ f 0 * (w % 2) = min-product (f 0) (w % 2) h (mod-lt w (zero-lt-suc 1)) in
-    let e : w / 1 ≡ w = omega arith in
-    ap ones (and-step (f 0 + 2 * N) w ∙ ap₂ (λ (x y : ℕ). bitAnd x (w / 2) * 2 + min y (w % 2)) (half (f 0) N h) (low (f 0) N h))
-    ∙ ones-pair (bitAnd N (w / 2)) (min (f 0) (w % 2)) (omega arith)
-    ∙ ap₂ (λ (x y : ℕ). x + y) (m ∙ ap (λ (y : ℕ). f 0 * (y % 2)) (sym e))
-    (taps-bits n (λ i. f (suc i)) (λ i. b (suc i)) (w / 2) ∙ sumOf-same n _ _ (λ i l. rw (half-power w i)))
-  where
-    half : (a x : ℕ) → a < 2 → (a + 2 * x) / 2 ≡ x
-    half a x h = omega arith
+ones-taps : (n taps w : ℕ) → taps < 2 ^ n → ones (bitAnd taps w) ≡ sumOf n (λ i. taps / 2 ^ i % 2 * (w / 2 ^ i % 2))
+unfolding sumOf ones
+ones-taps zero taps w h = let e : taps ≡ 0 = omega arith in rw e (ap ones (and-zero-l w))
+ones-taps (suc n) taps w h =
+    let r : ℕ = min (taps % 2) (w % 2) in
+    let m : r ≡ taps % 2 * (w % 2) = min-product (taps % 2) (w % 2) (mod-lt taps (zero-lt-suc 1)) (mod-lt w (zero-lt-suc 1)) in
+    let e : taps / 1 ≡ taps = omega arith in
+    let f : w / 1 ≡ w = omega arith in
+    ap ones (and-step taps w) ∙ ones-pair (bitAnd (taps / 2) (w / 2)) r (omega arith)
+    ∙ ap₂ (λ (x y : ℕ). x + y) (m ∙ ap₂ (λ (x y : ℕ). x % 2 * (y % 2)) (sym e) (sym f))
+    (ones-taps n (taps / 2) (w / 2) (omega arith) ∙ sumOf-same n _ _ (λ i l. rw (half-power taps i, half-power w i)))
 
-    low : (a x : ℕ) → a < 2 → (a + 2 * x) % 2 ≡ a
-    low a x h = omega arith
+-- a parity is the sum mod 2 of tap i times bit i of the window
+pub parity-taps : (n taps w : ℕ) → taps < 2 ^ n → parityOf taps w ≡ sumOf n (λ i. taps / 2 ^ i % 2 * (w / 2 ^ i % 2)) % 2
+unfolding parityOf
+parity-taps n taps w h = ap (λ (x : ℕ). x % 2) (ones-taps n taps w h)
 
--- a parity is the sum mod 2 of digit i times bit i of the window
+-- of digit i times bit i, where the taps are those of a generator
 pub parity-digits : (m g w : ℕ) → parityOf (tapsOf m g) w ≡ sumOf (suc m) (λ i. digit m g i * (w / 2 ^ i % 2)) % 2
-unfolding parityOf tapsOf
-parity-digits m g w = ap (λ (x : ℕ). x % 2) (taps-bits (suc m) (digit m g) (digit-bound m g) w)
+unfolding tapsOf
+parity-digits m g w =
+    parity-taps (suc m) (tapsOf m g) w (number-less (suc m) (digit m g) (digit-bound m g))
+    ∙ ap (λ (x : ℕ). x % 2) (sumOf-same (suc m) _ _ (λ i l.
+    ap (λ (x : ℕ). x * (w / 2 ^ i % 2)) (number-bit (suc m) (digit m g) (λ i l. digit-bound m g i) i l)))
 
 -- WINDOWS. The last n bits of a number keep its bit i
-low-bit : (n i y : ℕ) → i < n → y % 2 ^ n / 2 ^ i % 2 ≡ y / 2 ^ i % 2
+pub low-bit : (n i y : ℕ) → i < n → y % 2 ^ n / 2 ^ i % 2 ≡ y / 2 ^ i % 2
 low-bit n i y h =
     let e : n ≡ n - suc i + 1 + i = omega arith in
     ap (λ (k : ℕ). y % 2 ^ k / 2 ^ i % 2) e ∙ ap (λ (z : ℕ). z % 2) (field y (n - suc i + 1) i) ∙ mod-mod-pow (y / 2 ^ i) (n - suc i) 1
 
 -- bit i of a window is what the sequence was i stages ago
-window-bit : (n : ℕ) (x : ℕ → ℕ) → ((t : ℕ) → x t < 2) → (t i : ℕ) → i < n → windowOf n x (suc t) / 2 ^ i % 2 ≡ ago x t i
+pub window-bit : (n : ℕ) (x : ℕ → ℕ) → ((t : ℕ) → x t < 2) → (t i : ℕ) → i < n → windowOf n x (suc t) / 2 ^ i % 2 ≡ ago x t i
 unfolding windowOf
 window-bit n x b t zero h =
     let k : x t < 2 = b t in
@@ -93,7 +96,7 @@ window-less n x zero = pow-pos n
 window-less n x (suc t) = mod-lt _ (pow-pos n)
 
 -- a parity with a window is the sum mod 2 of digit i times what the sequence was i stages ago
-parity-window : (n : ℕ) (x : ℕ → ℕ) → ((t : ℕ) → x t < 2) → (m g t : ℕ) → m < n
+pub parity-window : (n : ℕ) (x : ℕ → ℕ) → ((t : ℕ) → x t < 2) → (m g t : ℕ) → m < n
     → parityOf (tapsOf m g) (windowOf n x (suc t)) ≡ sumOf (suc m) (λ i. digit m g i * ago x t i) % 2
 parity-window n x b m g t h =
     parity-digits m g (windowOf n x (suc t))

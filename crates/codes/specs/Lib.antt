@@ -1,4 +1,4 @@
--- What the crate `codes` promises is stated by `Generators`, `Layouts`, `Reading`, `Taps` and `Codes`; the others are the algebra
+-- What the crate `codes` promises is stated by `Generators`, `Layouts`, `Reading`, `Taps`, `Codes` and `Blocks`; the others are the algebra
 -- behind the search.
 pub mod Generators
 pub mod Layouts

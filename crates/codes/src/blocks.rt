@@ -1,13 +1,13 @@
-// Eight stages at a time: the last eight bits of a sequence are one number, the newest worth 1. What the generators make of it, and the data
-// divided by the first generator, forth and back.
+// Eight stages at a time: the last eight bits of a sequence are one number, the newest worth 1. What the generators make of it, and the
+// data divided by the first generator, forth and back.
 use crate::Code;
 use crate::Name;
 ghost use mathlib.Core.Path.{_≡_};
-ghost use Prim.Native.Nat.{ℕ, _+_, _-_, _*_, _/_, _%_, _^_, _<_, _≤_};
+ghost use Prim.Native.Nat.{ℕ, suc, _+_, _-_, _*_, _/_, _%_, _^_, _<_, _≤_};
 ghost use Rattle.codes.specs.Generators.{g2};
 ghost use Rattle.codes.specs.Codes.{generatorsOf};
 ghost use Rattle.codes.specs.Taps.{tapsOf, parityOf, windowOf};
-ghost use Rattle.codes.specs.Blocks.{tappedOf, liftedOf, Gives};
+ghost use Rattle.codes.specs.Blocks.{tappedOf, liftedOf, dividedOf, dividedBackOf, Gives};
 
 // Eight bits of a word, `step` places apart from bit 0 on: the first is worth most.
 pub fn window(word: u64, step: u32) -> u32
@@ -40,7 +40,7 @@ fn tapped(taps: u32, step: u32, w: u32) -> u32
 // The same the other way: from the last tap back, of eight bits.
 fn lifted(taps: u32, memory: u32, step: u32, w: u32) -> u32
     requires { ⌜ (memory ≤ 6) × (step ≤ 4) × (w < 256) ⌝ }
-    ensures { λ r. ⌜ (r ≡ liftedOf taps memory step w) × (r < 256) ⌝ }
+    ensures { λ r. ⌜ (r ≡ liftedOf taps memory step w (suc memory)) × (r < 256) ⌝ }
 {
     let mut sum: u32 = 0;
     let mut i: u32 = 0;
@@ -55,7 +55,7 @@ fn lifted(taps: u32, memory: u32, step: u32, w: u32) -> u32
 // off; and modulo D ^ 8 the inverse of g is g · g² · g⁴.
 fn divided(taps: u32, before: u32, data: u32) -> u32
     requires { ⌜ (before < 256) × («data» < 256) ⌝ }
-    ensures { λ r. ⌜ r ≡ dividedOf taps before «data» ⌝ }
+    ensures { λ r. ⌜ (r ≡ dividedOf taps before «data») × (r < 256) ⌝ }
 {
     let rest = data ^ (tapped(taps, 1, before * 256) % 256);
     tapped(taps, 4, tapped(taps, 2, tapped(taps, 1, rest)))
@@ -64,7 +64,7 @@ fn divided(taps: u32, before: u32, data: u32) -> u32
 // The eight bits of the quotient before those after, by sixteen stages of data: the last tap is 1, so that the division can be undone.
 fn divided_back(taps: u32, memory: u32, after: u32, data: u32) -> u32
     requires { ⌜ (memory ≤ 6) × (after < 256) × («data» < 65536) ⌝ }
-    ensures { λ r. ⌜ r ≡ dividedBackOf taps memory after «data» ⌝ }
+    ensures { λ r. ⌜ (r ≡ dividedBackOf taps memory after «data») × (r < 256) ⌝ }
 {
     let rest = ((data >> (8 - memory)) % 256) ^ (tapped(taps, 1, after) >> (8 - memory));
     lifted(
@@ -87,7 +87,8 @@ impl Code {
     pub fn first_bits(self, window: u32) -> u32
         requires { ⌜ window < 65536 ⌝ }
         ensures { λ r. ⌜ r < 65536 ⌝ }
-        ensures { λ r. ⌜ ((p : ℕ) → r / 2 ^ p % 2 ≡ parityOf (tapsOf (generatorsOf self .memory) (generatorsOf self .g1)) (window / 2 ^ p)) ⌝ }
+        ensures { λ r. ⌜ ((p : ℕ)
+            → r / 2 ^ p % 2 ≡ parityOf (tapsOf (generatorsOf self .memory) (generatorsOf self .g1)) (window / 2 ^ p)) ⌝ }
     {
         let name = self.name;
         match name {
@@ -100,7 +101,8 @@ impl Code {
     pub fn second_bits(self, window: u32) -> u32
         requires { ⌜ window < 65536 ⌝ }
         ensures { λ r. ⌜ r < 65536 ⌝ }
-        ensures { λ r. ⌜ ((p : ℕ) → r / 2 ^ p % 2 ≡ parityOf (tapsOf (generatorsOf self .memory) (g2 (generatorsOf self))) (window / 2 ^ p)) ⌝ }
+        ensures { λ r. ⌜ ((p : ℕ)
+            → r / 2 ^ p % 2 ≡ parityOf (tapsOf (generatorsOf self .memory) (g2 (generatorsOf self))) (window / 2 ^ p)) ⌝ }
     {
         let name = self.name;
         match name {
@@ -114,7 +116,8 @@ impl Code {
     pub fn divide(self, before: u32, data: u32) -> u32
         requires { ⌜ (before < 256) × («data» < 256) ⌝ }
         ensures { λ r. ⌜ r < 256 ⌝ }
-        ensures { λ r. ⌜ ((y : ℕ) → y < 256 → Gives (tapsOf (generatorsOf self .memory) (generatorsOf self .g1)) (before * 256 + y) «data» 0 → y ≡ r) ⌝ }
+        ensures { λ r. ⌜ ((y : ℕ) → y < 256
+            → Gives (tapsOf (generatorsOf self .memory) (generatorsOf self .g1)) (before * 256 + y) «data» 0 → y ≡ r) ⌝ }
     {
         let name = self.name;
         match name {
@@ -128,7 +131,8 @@ impl Code {
         requires { ⌜ (after < 256) × («data» < 65536) ⌝ }
         ensures { λ r. ⌜ r < 256 ⌝ }
         ensures { λ r. ⌜ ((y : ℕ) → y < 256
-            → Gives (tapsOf (generatorsOf self .memory) (generatorsOf self .g1)) (y * 256 + after) «data» (8 - generatorsOf self .memory) → y ≡ r) ⌝ }
+            → Gives (tapsOf (generatorsOf self .memory) (generatorsOf self .g1)) (y * 256 + after) «data» (8 - generatorsOf self .memory)
+            → y ≡ r) ⌝ }
     {
         let name = self.name;
         match name {

@@ -1,5 +1,5 @@
 // The two coset codes, made by name: their table, and the states of their encoders. Beside them `parities`, what the generators make of the
-// last bits; `labels`, the data divided by the first generator; and `strips`, reading a strip.
+// last bits; `labels`, the data divided by the first generator; `blocks`, both for eight stages at a time; and `strips`, reading a strip.
 mod blocks;
 mod labels;
 mod parities;
