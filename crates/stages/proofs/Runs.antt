@@ -147,7 +147,7 @@ four-more rows picks after u v k i p z four q e f g h =
     let f' : _ ≡ R (suc k) 1 = f ∙ ap₂ min (ap₂ _+_ (four .c-is) p1) (ap₂ _+_ (four .d-is) p2) in
     let g' : _ ≡ R (suc k) 2 = g ∙ ap₂ min (ap₂ _+_ (four .a-is) p3) (ap₂ _+_ (four .b-is) p0) in
     let h' : _ ≡ R (suc k) 3 = h ∙ ap₂ min (ap₂ _+_ (four .c-is) p2) (ap₂ _+_ (four .d-is) p1) in
-    let n = λ (s : ℕ). run-most 4 (wordsOf short) rows picks after u v (suc k) s (omega arith) in
+    let n : (s : ℕ) → R (suc k) s ≤ mostCost = λ s. run-most 4 (wordsOf short) rows picks after u v (suc k) s (omega arith) in
     rw w (record {
       a-is = e';
       b-is = f';
