@@ -1,18 +1,18 @@
--- Laws of eight stages, which are a block.
---   by-place               what holds of the places below n and of the others holds of all
---   listed-le              a list of numbers within a bound, read anywhere
---   bit-le                 a bit at a place of the low byte
---   marked-is, marked-le   the marked prices of a row, and their bound
---   run-le                 how much k stages add at most; so all eight leave room for a price (run-most)
---   word-le                a word is at most 3
---   run-more               a stage more of 64 states
---   four-first, four-more  the four states of the short code, and a stage more of them; stored (four-stored)
---   short-when             a code is the short one where its memory is 2, and else the long one (long-unless)
---   ran-le, settled-le     for callers: what a block leaves, and what is left when it is settled
-use mathlib.Core.Path.{_≡_, refl, sym, ap, ap₂, _∙_}
+-- Laws of a block, which is eight stages.
+--   by-place                   what holds of the places below n and of the others holds of all
+--   listed-le                  a list of numbers within a bound, read anywhere
+--   bit-le                     a bit at a place of the low byte
+--   marked-is                  the marked prices of a row
+--   run-le, run-most           what k stages add at most, so that all eight leave room for a price
+--   word-le                    a word is at most 3
+--   run-more                   a stage more of 64 states
+--   Four, four-more            the four states of the short code, and a stage more of them
+--   four-stored, four-others   four numbers stored at the first four places, and at no other
+--   ran-le, settled-le         for callers: the bounds of what a block leaves, and of what is settled
+use mathlib.Core.Path.{_≡_, refl, ap, ap₂, _∙_}
 use mathlib.Core.Bool.{Bool, true, false}
 use mathlib.Core.List.{List, [], _∷_}
-use Prim.Native.Nat.{ℕ, zero, suc, _+_, _-_, _*_, _/_, _%_, _^_, _<_, _≤_, min}
+use Prim.Native.Nat.{ℕ, zero, suc, _+_, _-_, _*_, _%_, _^_, _<_, _≤_, min}
 use native.Mathlib.Omega.{arith}
 use native.Mathlib.Nat.{add-le-add, mul-le-mul, min-le-right, le-trans, le-of-eq}
 use lib.Count.{ones, onesIn}
@@ -23,10 +23,8 @@ use lib.Seq.{getD-set-other}
 use borrow.Author.Tests.{ltb-true, ltb-false}
 use Rattle.cells.specs.Places.{listOf, number}
 use Rattle.cells.proofs.Places.{listOf-at, store-more}
-use Rattle.codes.specs.Generators.{Generators, digit, short, long}
+use Rattle.codes.specs.Generators.{Generators, digit, short}
 use Rattle.codes.specs.Taps.{tapsOf, parityOf, wordOf}
-use Rattle.codes.specs.Codes.{generatorsOf}
-use Rattle.codes.specs.declared.Code.{Code}
 use Rattle.stages.specs.Stage.{top, mostCost, wordsOf, stageOf, stagedAt, Staged}
 use Rattle.stages.specs.Blocks.{rowAt, flagOf, markedOf, runOf, settledOf, Ran, Settled}
 use Rattle.stages.proofs.Stages.{stage-same, stage-le}
@@ -52,8 +50,8 @@ bit-le b k h l = let q : b * 2 ^ k ≤ 1 * 2 ^ 7 = mul-le-mul h (pow-mono l) in 
 
 -- the prices of a row r with the marks: z for the words 0 and 2, o for the words 1 and 3
 pub marked-is : (rows : List ℕ) (r k : ℕ) {z o : ℕ} → z ≡ r % 2 * 2 ^ k → o ≡ (1 - r % 2) * 2 ^ k → (j : ℕ) → j ≤ 3
-    → getD ((getD rows (4 * r) 0 + z) ∷ (getD rows (4 * r + 1) 0 + o) ∷ (getD rows (4 * r + 2) 0 + z) ∷ (getD rows (4 * r + 3) 0 + o) ∷ []) j 0
-    ≡ markedOf rows r k j
+    → getD ((getD rows (4 * r) 0 + z) ∷ (getD rows (4 * r + 1) 0 + o) ∷ (getD rows (4 * r + 2) 0 + z) ∷ (getD rows (4 * r + 3) 0 + o) ∷ [])
+    j 0 ≡ markedOf rows r k j
 unfolding markedOf flagOf
 marked-is rows r k p q zero h =
     let a : 4 * r ≡ 4 * r + 0 = omega arith in
@@ -175,14 +173,6 @@ four-others l a b c d s h =
     ∙ getD-set-other (set (set l 0 a) 1 b) 2 s c 0 (λ z. omega arith)
     ∙ getD-set-other (set l 0 a) 1 s b 0 (λ z. omega arith)
     ∙ getD-set-other l 0 s a 0 (λ z. omega arith)
-
--- CODES. A code of memory 2 is the short one
-pub short-when : (c : Code) → generatorsOf c .memory ≡ 2 → generatorsOf c ≡ short
-short-when c e = ?
-
--- and any other is the long one
-pub long-unless : (c : Code) → (generatorsOf c .memory ≡ 2 → ⊥) → generatorsOf c ≡ long
-long-unless c e = ?
 
 -- FOR CALLERS. What a block leaves has room for a price: the states it has done, and the places it has not touched
 pub ran-le : {n : ℕ} {words : ℕ → ℕ} {rows : List ℕ} {picks : ℕ} {entry exit : List ℕ} → Ran n words rows picks entry exit

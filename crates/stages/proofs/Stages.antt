@@ -1,5 +1,5 @@
 -- Laws of one stage on numbers, for any number of states.
---   signed-yes, signed-no    a test made as signed, of two numbers that fit one bit less than their width: the vector unit has no unsigned test
+--   signed-yes, signed-no    a test of two numbers that fit one bit less than their width, made as signed
 --   pick-second, pick-four   what a digit picks of two, and two digits of four
 --   four-le                  four numbers, each within a bound
 --   turned-is                the prices of the complements

@@ -1,5 +1,5 @@
 -- The invariant: the numbers are those before the stages done, which are the last 8 - i; the table has the words of the long code.
-use mathlib.Core.Path.{_≡_, refl, sym, ap, subst, _∙_}
+use mathlib.Core.Path.{_≡_, refl, sym, subst, _∙_}
 use Prim.Native.Nat.{ℕ, _-_, _*_, _≤_, _<_}
 use mathlib.Core.List.{List}
 use native.Mathlib.Omega.{arith}
@@ -9,7 +9,7 @@ use borrow.Author.Needs.{needs}
 use Rattle.cells.specs.Places.{listOf, number}
 use Rattle.codes.specs.Generators.{digit, long}
 use Rattle.codes.specs.Taps.{tapsOf, parityOf, wordOf}
-use Rattle.stages.specs.Stage.{wordsOf, Staged}
+use Rattle.stages.specs.Stage.{wordsOf}
 use Rattle.stages.specs.Blocks.{rowAt, runOf}
 use Rattle.stages.proofs.Runs.{by-place, listed-le, word-le, run-most, run-more}
 use Rattle.stages.proofs.blocks.run_long.Statement.{statement}
