@@ -3,6 +3,7 @@
 --   proper           data can be divided by G1, and a step of the division undone
 --   second-leads     G2's first digit is 1
 --   two-generators   G2 is the only generator after G1
+--   short-when, long-unless   which of the two a code is, by its memory
 use mathlib.Core.Path.{_≡_, refl}
 use mathlib.Core.List.{[], _∷_}
 use Prim.Native.Nat.{_≤_}
@@ -53,3 +54,19 @@ two-generators c = by-name (c .name)
     by-name : (n : Name) → named n .others ≡ g2 (named n) ∷ []
     by-name Short = refl
     by-name Long = refl
+
+-- a code of memory 2 is the short one
+pub short-when : (c : Code) → generatorsOf c .memory ≡ 2 → generatorsOf c ≡ short
+short-when c = by-name (c .name)
+  where
+    by-name : (n : Name) → named n .memory ≡ 2 → named n ≡ short
+    by-name Short e = refl
+    by-name Long e = absurd (let z : ⊥ = omega arith in z)
+
+-- and any other is the long one
+pub long-unless : (c : Code) → (generatorsOf c .memory ≡ 2 → ⊥) → generatorsOf c ≡ long
+long-unless c = by-name (c .name)
+  where
+    by-name : (n : Name) → (named n .memory ≡ 2 → ⊥) → named n ≡ long
+    by-name Short e = absurd (e refl)
+    by-name Long e = refl

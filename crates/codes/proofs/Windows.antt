@@ -8,9 +8,10 @@
 --   window-parity       a parity with the window of two bytes is that with the window of its stage
 --   windows-give        where a generator makes one sequence of another, it makes a byte's window of the windows of two bytes
 --   windows-give-back   and the eight bits of two bytes' windows that lie m stages back
+--   xor-windows         two windows added up without carries are the window of the sums
 --   label-bound         a label is 0 or 1
 --   label-window        G1 makes the data of the labels
-use mathlib.Core.Path.{_≡_, sym, _∙_, ap, ap₂, fun-ext}
+use mathlib.Core.Path.{_≡_, refl, sym, _∙_, ap, ap₂, fun-ext}
 use mathlib.Core.Bool.{Bool}
 use mathlib.Core.List.{List}
 use Prim.Native.Nat.{ℕ, zero, suc, _<_, _≤_, _+_, _*_, _-_, _/_, _%_, _^_, suc-le-suc}
@@ -18,6 +19,7 @@ use native.Mathlib.Omega.{arith}
 use native.Mathlib.Nat.{mod-lt, mod-eq-of-lt, mod-add-mod, zero-lt-suc, pow-suc, mul-assoc}
 use lib.Arith.{mod-mul}
 use lib.Pow.{pow-pos, high, mod-mod-pow}
+use lib.Bits.{bitXor, xor-mod, xor-block}
 use lib.ListN.{getD}
 use Rattle.cells.specs.Bytes.{bitOf}
 use Rattle.cells.proofs.Bytes.{bit-bound}
@@ -54,7 +56,7 @@ window-mod m n x (suc t) h =
 
 module _ (x : ℕ → ℕ) (bits : (t : ℕ) → x t < 2) where
   -- the next bit comes into a window that has room for it
-  window-suc : (n t : ℕ) → windowOf (suc n) x (suc t) ≡ 2 * windowOf n x t + x t
+  pub window-suc : (n t : ℕ) → windowOf (suc n) x (suc t) ≡ 2 * windowOf n x t + x t
   unfolding windowOf
   window-suc n t =
       let b : x t < 2 = bits t in
@@ -65,7 +67,7 @@ module _ (x : ℕ → ℕ) (bits : (t : ℕ) → x t < 2) where
       ∙ ap₂ (λ (y z : ℕ). y % 2 ^ n * 2 + z) e f ∙ ap (λ (y : ℕ). y * 2 + x t) (window-mod n (suc n) x t (omega arith)) ∙ omega arith
 
   -- a window in two parts, the newer of k bits
-  window-parts : (n k t : ℕ) → windowOf (n + k) x (t + k) ≡ windowOf n x t * 2 ^ k + windowOf k x (t + k)
+  pub window-parts : (n k t : ℕ) → windowOf (n + k) x (t + k) ≡ windowOf n x t * 2 ^ k + windowOf k x (t + k)
   window-parts n zero t =
       let e : n + 0 ≡ n = omega arith in
       let f : t + 0 ≡ t = omega arith in
@@ -182,3 +184,27 @@ label-window G P content t =
     (odd-mod-two _ ∙ sym (conv-sum (suc m) (digit m (G .g1)) x t)
     ∙ ap₂ (λ (g : List Bool) (y : Bits). conv g y t) (sym (first-digits G (P .leads))) (fun-ext λ s. odd-one-if _)
     ∙ ap (λ (y : Bits). y t) (conv-quotient m (encoderOf G .first) fits d))
+
+-- SUMS. Two bits without a carry
+xor-bits : (a b : ℕ) → a < 2 → b < 2 → bitXor a b ≡ (a + b) % 2
+xor-bits zero zero h l = refl
+xor-bits zero (suc zero) h l = refl
+xor-bits (suc zero) zero h l = refl
+xor-bits (suc zero) (suc zero) h l = refl
+xor-bits zero (suc (suc b)) h l = absurd (let z : ⊥ = omega arith in z)
+xor-bits (suc zero) (suc (suc b)) h l = absurd (let z : ⊥ = omega arith in z)
+xor-bits (suc (suc a)) b h l = absurd (let z : ⊥ = omega arith in z)
+
+-- two windows added up without carries are the window of the sums
+pub xor-windows : (n : ℕ) (x y : ℕ → ℕ) → ((t : ℕ) → x t < 2) → ((t : ℕ) → y t < 2) → (t : ℕ)
+    → bitXor (windowOf n x t) (windowOf n y t) ≡ windowOf n (λ t. (x t + y t) % 2) t
+unfolding windowOf
+xor-windows n x y b c zero = refl
+xor-windows n x y b c (suc t) =
+    let p : 2 * windowOf n x t + x t ≡ windowOf n x t * 2 ^ 1 + x t = omega arith in
+    let q : 2 * windowOf n y t + y t ≡ windowOf n y t * 2 ^ 1 + y t = omega arith in
+    let r : ℕ = bitXor (windowOf n x t) (windowOf n y t) in
+    let s : r * 2 ^ 1 + (x t + y t) % 2 ≡ 2 * r + (x t + y t) % 2 = omega arith in
+    sym (xor-mod (2 * windowOf n x t + x t) (2 * windowOf n y t + y t) n) ∙ ap (λ (z : ℕ). z % 2 ^ n)
+    (ap₂ bitXor p q ∙ xor-block 1 (windowOf n x t) (windowOf n y t) (x t) (y t) (b t) (c t)
+    ∙ ap (λ (z : ℕ). r * 2 ^ 1 + z) (xor-bits (x t) (y t) (b t) (c t)) ∙ s ∙ ap (λ (z : ℕ). 2 * z + (x t + y t) % 2) (xor-windows n x y b c t))

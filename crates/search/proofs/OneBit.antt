@@ -55,7 +55,7 @@ module _ (m : ℕ) (G : Generators) (K : Both G) where
   oneBit-wants w x = rw (K .two, first-digits G (K .g1-leads), ← taps-value (G .memory) (G .g1), ← taps-value (G .memory) (g2 G))
 
   -- the word of a state and a digit
-  word-by : (s : ℕ) (u : Bool) → branchWord (λ s. wordOf G (2 * s)) s u ≡ wordOf G (2 * s + one-if u)
+  pub word-by : (s : ℕ) (u : Bool) → branchWord (λ s. wordOf G (2 * s)) s u ≡ wordOf G (2 * s + one-if u)
   unfolding branchWord one-if
   word-by s true = word-flip G s (K .g1-leads) (K .g2-leads)
   word-by s false = ap (wordOf G) (omega arith)

@@ -1,32 +1,32 @@
--- What the program carries out is the write: along the digits that it follows every state is open, so they are the digits of the plan, and
--- each cell comes to the level that the plan gives it.
---   Onward                    a stage that is carried out as planned
---   carried-is                the digits that are followed, carried out, raise the cells to the levels of the write
---   followed-plans            so the bytes of these digits are a plan
---   strip-near, write-below   a write raises no cell by more than one, and costs less than closed
-use mathlib.Core.Path.{_≡_, refl, sym, _∙_, ap, ap₂}
-use mathlib.Core.Bool.{Bool, true, false}
+-- The digits that the program follows are those of the plan, and carried out they are the write.
+--   pathState, pathDigit        the states and the digits of the plan from state 0
+--   path-open                   along the plan of a strip that has a write every state has a cost
+--   path-followed               what the history keeps and the bits of the first cells give these digits
+--   carried-is                  these digits, carried out, raise the cells to the levels of the write
+--   followed-plans              so the bytes of digits that are followed are a plan
+--   strip-near                  a write raises no cell by more than one
+use mathlib.Core.Path.{_≡_, refl, sym, _∙_, ap, ap₂, fun-ext}
+use mathlib.Core.Bool.{Bool, true, false, not, Bool·beq}
 use mathlib.Core.List.{List, _∷_, _++_}
-use mathlib.Core.Option.{Option, some}
+use mathlib.Core.Option.{Option, none, some}
 use Prim.Native.Nat.{ℕ, zero, suc, _<_, _≤_, _+_, _*_, _-_, _/_, _%_, _^_}
 use native.Mathlib.Omega.{arith}
 use native.Mathlib.Nat.{mod-lt, zero-lt-suc}
-use lib.Dec.{ltb}
+use lib.Bits.{bitXor}
 use lib.ListN.{length, getD}
-use borrow.Author.Tests.{ltb-true}
-use Rattle.cells.specs.Bytes.{bitOf, bytesOf}
 use Rattle.cells.specs.Levels.{level}
-use Rattle.cells.proofs.Bytes.{bytesOf-bit}
 use Rattle.codes.specs.Generators.{Generators}
 use Rattle.codes.specs.Layouts.{oneBit, stageCount, cellCount}
-use Rattle.codes.specs.Taps.{wordOf}
-use Rattle.codes.specs.Sequences.{_+₂_}
+use Rattle.codes.specs.Sequences.{_+₂_, odd}
 use Rattle.codes.specs.Numbers.{one-if}
-use Rattle.codes.proofs.Numbers.{sum-bits}
+use Rattle.codes.specs.Taps.{tapsOf, parityOf, wordOf, windowOf, firstBit}
+use Rattle.codes.proofs.Numbers.{one-if-le, sum-bits}
 use Rattle.codes.proofs.Layouts.{oneBit-cells}
+use Rattle.codes.proofs.Taps.{window-less}
+use Rattle.codes.proofs.Windows.{window-suc, window-parts, window-byte, windows-give, xor-windows}
 use Rattle.search.specs.Best.{Solution}
 use Rattle.search.specs.Strip.{Dear, stepsOf}
-use Rattle.search.specs.Levels.{levelAt}
+use Rattle.search.specs.Levels.{cellAt, levelAt}
 use Rattle.search.specs.Search.{Stage}
 use Rattle.search.specs.Parity.{parity-choice}
 use Rattle.search.specs.Plan.{costs, digit-at, plan, play}
@@ -37,33 +37,40 @@ use Rattle.search.proofs.Best.{some-none, joined-both}
 use Rattle.search.proofs.Plan.{play-shut}
 use Rattle.search.proofs.Plain.{plain-write}
 use Rattle.search.proofs.Parity.{held, raised-held}
-use Rattle.search.proofs.OneBit.{Pair, oneBit-quotes, oneBit-held}
+use Rattle.search.proofs.OneBit.{Pair, word-by, oneBit-quotes, oneBit-held}
 use Rattle.search.proofs.Layouts.{oneBit-write}
-use Rattle.search.proofs.Windows.{firstOf, secondOf, parity-number}
-use Rattle.trellis.specs.Backward.{closed, costsOver, decisionAt}
-use Rattle.trellis.specs.Outcomes.{judged, toldOutcome, solutionOutcome}
-use Rattle.trellis.specs.declared.Outcome.the-variants as O
-use Rattle.trellis.specs.Forward.{stateAt, followedState, followed, wantedFirst, wantedSecond, wantedOf, carriedTo}
-use Rattle.trellis.specs.Plans.{Plans}
-use Rattle.trellis.proofs.Prices.{Suits, cellFor, wideFor, stageFor, labelFor, pricesFor, tiesFor, label-told, digit-told}
-use Rattle.trellis.proofs.Program.{stagesFrom, stages-pairs, stages-are, costs-from, suits-sound, outcome-is}
-use Rattle.trellis.proofs.Carrying.{followed-less, followed-bound}
+use Rattle.search.proofs.Windows.{mod-odd, firstOf, secondOf, parity-number, word-odd}
+use Rattle.stages.specs.Stage.{wordsOf}
+use Rattle.stages.specs.Trails.{stagesFrom, priceBy, tieBy, missOf, digitOf, trailOf}
+use Rattle.trellis.specs.Ways.{encoderFor, labelFor, cellFor, stageFor, quoteFor, nextFor, stagesFor, costsFor, trailFor, blocksFor, Traced, Lows, Followed}
+use Rattle.trellis.specs.Carrying.{digitIn, wantedFirst, wantedSecond, wantedOf, carriedTo}
+use Rattle.trellis.specs.Plans.{writeOf, Plans}
+use Rattle.trellis.proofs.Ways.{Suits, suits-sound, label-told, stages-pairs, stages-are}
 
--- CARRYING OUT. The digits that are followed lead through the states that are followed
-state-followed : (dec : ℕ → ℕ) (t : ℕ) → stateAt (followed dec) t ≡ followedState dec t
-unfolding stateAt followed followedState
-state-followed dec zero = refl
-state-followed dec (suc t) = ap (λ (s : ℕ). (2 * s + dec t / 2 ^ followedState dec t % 2) % 64) (state-followed dec t)
+-- a bit as a number is below 2
+one-less : (b : Bool) → one-if b < 2
+one-less b = omega (arith, one-if-le b)
 
-module _ (G : Generators) (W : List ℕ) (K : Suits G W) (strip content : List ℕ) (u : ℕ → ℕ) (t s : ℕ) (d : Bool) (e : stateAt u t ≡ s)
-    (f : u t ≡ one-if d) where
+-- a parity is 0 or 1
+parity-less : (taps w : ℕ) → parityOf taps w < 2
+unfolding parityOf
+parity-less taps w = mod-lt _ (zero-lt-suc 1)
+
+-- and so is the bit that a first cell shows
+bit-less : (strip : List ℕ) (t : ℕ) → firstBit (level strip) t < 2
+unfolding firstBit
+bit-less strip t = mod-lt _ (zero-lt-suc 1)
+
+-- CARRYING OUT one stage, whose last digits come to the state s and the digit d
+module _ (G : Generators) (strip content : List ℕ) (u : ℕ → ℕ) (t s : ℕ) (d : Bool)
+    (e : windowOf (suc (G .memory)) u (suc t) ≡ 2 * s + one-if d) where
   -- the first cell of a stage comes to the level that the branch of its state and digit holds
   carried-first : carriedTo G strip content u (2 * t) ≡ held (cellFor strip (2 * t)) (firstOf G (2 * s + one-if d))
   unfolding carriedTo wantedOf wantedFirst
   carried-first =
       let p : 2 * t % 2 ≡ 0 = omega arith in
       let q : 2 * t / 2 ≡ t = omega arith in
-      rw (p, q, e, f)
+      rw (p, q, e)
       (ap (λ (v : ℕ). level strip (2 * t) + (level strip (2 * t) + v) % 2) (parity-number _ (2 * s + one-if d))
       ∙ raised-held (cellFor strip (2 * t)) (firstOf G (2 * s + one-if d)))
 
@@ -74,160 +81,258 @@ module _ (G : Generators) (W : List ℕ) (K : Suits G W) (strip content : List �
   carried-second =
       let p : (2 * t + 1) % 2 ≡ 1 = omega arith in
       let q : (2 * t + 1) / 2 ≡ t = omega arith in
-      rw (p, q, e, f)
+      rw (p, q, e)
       (ap (λ (v : ℕ). level strip (2 * t + 1) + (level strip (2 * t + 1) + v) % 2)
-      (ap₂ (λ (v x : ℕ). (v + x) % 2) (parity-number _ (2 * s + one-if d)) (label-told G W K content t) ∙ sum-bits _ _)
+      (ap₂ (λ (v x : ℕ). (v + x) % 2) (parity-number _ (2 * s + one-if d)) (label-told G content t) ∙ sum-bits _ _)
       ∙ raised-held (cellFor strip (2 * t + 1)) (secondOf G (2 * s + one-if d) +₂ labelFor G content t))
 
+-- THE PATH: the plan's states and digits from state 0
 module _ (G : Generators) (W strip content : List ℕ) where
-  -- the branches of the search, by the states' numbers
-  abbrev branchFor : Stage → ℕ → Bool → Option Solution
-  branchFor = branchN (wideFor G) (parity-choice (stepsOf W))
+  -- the stages after stage t
+  abbrev after : ℕ → List Stage
+  after t = stagesFor G strip content (suc t) (8 * length content - suc t)
 
-  -- the solution of the plan over k stages from stage t and the state s
-  abbrev onward : ℕ → ℕ → ℕ → Option Solution
-  onward s t k =
-      play branchFor (nextN (wideFor G)) (stagesFrom G strip content t k) s
-      (plan (pricesFor G W) (tiesFor G W) (nextN (wideFor G)) (stagesFrom G strip content t k) s)
+  -- the plan's digit from the state s at stage t
+  abbrev planned : ℕ → ℕ → Bool
+  planned t s = digitOf (wordsOf G) (quoteFor W) (nextFor G) (stageFor G strip content t) (after t) s
 
-  -- its first digit, with k stages after it
-  abbrev planned : ℕ → ℕ → ℕ → Bool
-  planned s t k =
-      digit-at (pricesFor G W) (tiesFor G W) (nextN (wideFor G)) (stageFor G strip content t)
-      (costs (pricesFor G W) (nextN (wideFor G)) (stagesFrom G strip content (suc t) k)) s
+  -- the state before stage t
+  unfoldable pub pathState : ℕ → ℕ
+  pathState zero = 0
+  pathState (suc t) = nextFor G (stageFor G strip content t) (pathState t) (planned t (pathState t))
 
--- a stage is carried out by the decisions dec as planned: the levels a are those of its two cells, and the plan's from the state after it
-record Onward (G : Generators) (W strip content : List ℕ) (dec : ℕ → ℕ) (t k : ℕ) (a : Solution) : Type 0 where
+  -- the digit of stage t
+  unfoldable pub pathDigit : ℕ → ℕ
+  pathDigit t = one-if (planned t (pathState t))
+
+  -- 1 where its first code bit is not the one that wins ties
+  unfoldable pathMiss : ℕ → ℕ
+  pathMiss t = missOf (wordsOf G) (quoteFor W) (nextFor G) (stageFor G strip content t) (pathState t) (planned t (pathState t))
+
+  -- a digit is 0 or 1
+  digit-less : (t : ℕ) → pathDigit t < 2
+  unfolding pathDigit
+  digit-less t = one-less _
+
+  -- the states are the windows of the digits
+  path-window : (t : ℕ) → pathState t ≡ windowOf (G .memory) pathDigit t
+  unfolding pathState pathDigit windowOf nextN
+  path-window zero = refl
+  path-window (suc t) = ap (λ (s : ℕ). (2 * s + pathDigit t) % 2 ^ G .memory) (path-window t)
+
+  -- with the digit of the stage
+  path-newest : (t : ℕ) → windowOf (suc (G .memory)) pathDigit (suc t) ≡ 2 * pathState t + pathDigit t
+  path-newest t = window-suc pathDigit digit-less (G .memory) t ∙ ap (λ (s : ℕ). 2 * s + pathDigit t) (sym (path-window t))
+
+  -- THE SOLUTION of the plan from stage t on
+  abbrev onward : ℕ → Option Solution
+  onward t =
+      play (branchN (encoderFor G) (parity-choice (stepsOf W))) (nextFor G) (stagesFor G strip content t (8 * length content - t)) (pathState t)
+      (plan (priceBy (wordsOf G) (quoteFor W) (nextFor G)) (tieBy (wordsOf G) (quoteFor W) (nextFor G)) (nextFor G)
+      (stagesFor G strip content t (8 * length content - t)) (pathState t))
+
+-- a stage is carried out as planned: the levels a are those of its two cells, and the plan's from the stage after it
+record Onward (G : Generators) (W strip content : List ℕ) (t : ℕ) (a : Solution) : Type 0 where
   rest : Solution
-  further : onward G W strip content (followedState dec (suc t)) (suc t) k ≡ some rest
+  further : onward G W strip content (suc t) ≡ some rest
   carried : a .levels
-      ≡ carriedTo G strip content (followed dec) (2 * t) ∷ carriedTo G strip content (followed dec) (2 * t + 1) ∷ rest .levels
+      ≡ carriedTo G strip content (pathDigit G W strip content) (2 * t) ∷ carriedTo G strip content (pathDigit G W strip content) (2 * t + 1)
+      ∷ rest .levels
 
-module _ (G : Generators) (W : List ℕ) (K : Suits G W) (L : ℕ) (most : L ≤ 64) (strip content : List ℕ) where
-  -- the decisions of the program
-  abbrev decided : ℕ → ℕ
-  decided = decisionAt G W strip content (8 * L)
+-- the plan from stage t on has a solution
+record Opened (G : Generators) (W strip content : List ℕ) (t : ℕ) : Type 0 where
+  found : Solution
+  is-found : onward G W strip content t ≡ some found
 
-  -- where the plan is open, the digit that is followed is the plan's
-  followed-planned : (t k : ℕ) → t + suc k ≡ 8 * L → (a : Solution) → onward G W strip content (followedState decided t) t (suc k) ≡ some a
-      → followed decided t ≡ one-if (planned G W strip content (followedState decided t) t k)
-  unfolding followed decisionAt stagesFrom costs
-  followed-planned t k e a p =
-      let z : 8 * L - suc t ≡ k = omega arith in
-      rw z
-      (digit-told G W K strip content t (costsOver G W strip content (8 * L) k) _ (k * 510)
-      (costs-from G W K L most strip content k (suc t) (omega arith)) (omega arith)
-      (followedState decided t) (followed-less decided t) (λ f.
-      some-none a (sym p
-      ∙ play-shut (branchFor G W strip content) (nextN (wideFor G)) (pricesFor G W) Pair (oneBit-quotes 6 G (K .both) (stepsOf W) .priced)
-      (stages-pairs G strip content t (suc k)) (followedState decided t) _ f)))
+module _ (G : Generators) (W : List ℕ) (K : Suits G W) (strip content : List ℕ) where
+  abbrev L : ℕ
+  L = length content
 
-  -- so a stage is carried out as planned
-  onward-step : (t k : ℕ) → t + suc k ≡ 8 * L → (a : Solution) → onward G W strip content (followedState decided t) t (suc k) ≡ some a
-      → Onward G W strip content decided t k a
-  unfolding play plan stagesFrom nextN followedState followed
-  onward-step t k e a p =
-      let s : ℕ = followedState decided t in
-      let d : Bool = planned G W strip content s t k in
-      let f : followed decided t ≡ one-if d = followed-planned t k e a p in
-      let b = joined-both _ _ a p in
-      let n : followedState decided (suc t) ≡ (2 * s + one-if d) % 64 = ap (λ (v : ℕ). (2 * s + v) % 64) f in
-      let c = carried-first G W K strip content (followed decided) t s d (state-followed decided t) f in
-      let g = carried-second G W K strip content (followed decided) t s d (state-followed decided t) f in
+  abbrev u : ℕ → ℕ
+  u = pathDigit G W strip content
+
+  -- a stage is carried out as planned
+  onward-step : (t : ℕ) → t < 8 * L → (a : Solution) → onward G W strip content t ≡ some a → Onward G W strip content t a
+  unfolding play plan stagesFrom pathState pathDigit digitOf
+  onward-step t h a p =
+      let z : 8 * L - t ≡ suc (8 * L - suc t) = omega arith in
+      let s : ℕ = pathState G W strip content t in
+      let d : Bool = planned G W strip content t s in
+      let b = joined-both _ _ a (rw z at p) in
+      let c = carried-first G strip content u t s d (path-newest G W strip content t) in
+      let g = carried-second G strip content u t s d (path-newest G W strip content t) in
       record {
         rest = b .second;
-        further = ap (λ (z : ℕ). onward G W strip content z (suc t) k) n ∙ b .right;
+        further = b .right;
         carried = rw (c, g) (b .append ∙ ap (λ (l : List ℕ). l ++ b .second .levels)
-            (oneBit-held 6 G (K .both) (stepsOf W) (cellFor strip (2 * t)) (cellFor strip (2 * t + 1)) (labelFor G content t) s d
+            (oneBit-held (G .memory) G (K .both) (stepsOf W) (cellFor strip (2 * t)) (cellFor strip (2 * t + 1)) (labelFor G content t) s d
             (b .first) (b .left)));
       }
 
-  -- and so are all
-  onward-carried : (k t : ℕ) → t + k ≡ 8 * L → (a : Solution) → onward G W strip content (followedState decided t) t k ≡ some a
-      → (c : ℕ) → c < 2 * k → carriedTo G strip content (followed decided) (2 * t + c) ≡ levelAt (a .levels) c
+  -- and so are all from stage t on, of which there are k
+  onward-carried : (k t : ℕ) → t + k ≡ 8 * L → (a : Solution) → onward G W strip content t ≡ some a
+      → (c : ℕ) → c < 2 * k → carriedTo G strip content u (2 * t + c) ≡ levelAt (a .levels) c
   unfolding levelAt
   onward-carried zero t e a p c h = absurd (let z : ⊥ = omega arith in z)
-  onward-carried (suc k) t e a p zero h = let z : 2 * t + 0 ≡ 2 * t = omega arith in rw (z, onward-step t k e a p .carried)
-  onward-carried (suc k) t e a p (suc zero) h = rw (onward-step t k e a p .carried)
+  onward-carried (suc k) t e a p zero h = let z : 2 * t + 0 ≡ 2 * t = omega arith in rw (z, onward-step t (omega arith) a p .carried)
+  onward-carried (suc k) t e a p (suc zero) h = rw (onward-step t (omega arith) a p .carried)
   onward-carried (suc k) t e a p (suc (suc c)) h =
       let z : 2 * t + suc (suc c) ≡ 2 * suc t + c = omega arith in
-      let o = onward-step t k e a p in
+      let o = onward-step t (omega arith) a p in
       rw (z, o .carried) (onward-carried k (suc t) (omega arith) (o .rest) (o .further) c (omega arith))
 
   module _ (D : Dear (stepsOf W)) where
     -- THE WRITE. The plan from state 0 is the write
-    onward-write : onward G W strip content 0 0 (8 * L) ≡ rewriteOf oneBit G W L strip unmarked content
-    unfolding stagesOf
+    onward-write : onward G W strip content 0 ≡ writeOf G W strip content
+    unfolding stagesOf pathState
     onward-write =
-        rw (← (stages-are G strip content (K .both) L))
-        (plain-write (wideFor G) (parity-choice (stepsOf W)) (λ s. wordOf G (2 * s)) (oneBitPrices (stepsOf W)) Pair
-        (oneBit-quotes 6 G (K .both) (stepsOf W))
+        let z : 8 * L - 0 ≡ 8 * L = omega arith in
+        rw (z, ← (stages-are G strip content (K .both) L))
+        (plain-write (encoderFor G) (parity-choice (stepsOf W)) (wordsOf G) (oneBitPrices (stepsOf W)) Pair
+        (oneBit-quotes (G .memory) G (K .both) (stepsOf W))
         (dataBits oneBit content) 2 (stageCount oneBit L) (stripCells oneBit L strip unmarked)
         (rw (stages-are G strip content (K .both) L) (stages-pairs G strip content 0 (8 * L)))
-        ∙ oneBit-write 6 G (suits-sound K) (K .reach) W D L strip unmarked content)
+        ∙ oneBit-write (G .memory) G (suits-sound K) (omega arith) W D L strip unmarked content)
 
     -- so what is carried out are its levels
-    carried-is : (a : Solution) → rewriteOf oneBit G W L strip unmarked content ≡ some a
-        → (c : ℕ) → c < 16 * L → carriedTo G strip content (followed (decisionAt G W strip content (8 * L))) c ≡ levelAt (a .levels) c
-    unfolding followedState
+    carried-is : (a : Solution) → writeOf G W strip content ≡ some a
+        → (c : ℕ) → c < 16 * L → carriedTo G strip content u c ≡ levelAt (a .levels) c
     carried-is a e c h =
         let z : 2 * 0 + c ≡ c = omega arith in rw z at (onward-carried (8 * L) 0 (omega arith) a (onward-write ∙ e) c (omega arith))
 
--- THE DIGITS. The state before a stage depends on the digits before it alone
-state-same : (u v : ℕ → ℕ) (n : ℕ) → ((t : ℕ) → t < n → u t ≡ v t) → (t : ℕ) → t ≤ n → stateAt u t ≡ stateAt v t
-unfolding stateAt
-state-same u v n e zero h = refl
-state-same u v n e (suc t) h = ap₂ (λ (s d : ℕ). (2 * s + d) % 64) (state-same u v n e t (omega arith)) (e t h)
+    -- and along the plan every stage has a solution
+    opened : (a : Solution) → writeOf G W strip content ≡ some a → (t : ℕ) → t ≤ 8 * L → Opened G W strip content t
+    opened a e zero h = record { found = a; is-found = onward-write ∙ e }
+    opened a e (suc t) h =
+        let o = opened a e t (omega arith) in
+        let p = onward-step t (omega arith) (o .found) (o .is-found) in
+        record { found = p .rest; is-found = p .further }
 
--- and what is carried out in the cells of n stages, on the digits of these stages alone
+    -- so every state on it has a cost
+    pub path-open : (a : Solution) → writeOf G W strip content ≡ some a → (t : ℕ) → t ≤ 8 * L
+        → costsFor G W (stagesFor G strip content t (8 * L - t)) (pathState G W strip content t) ≡ none → ⊥
+    path-open a e t h f =
+        let o = opened a e t h in
+        some-none (o .found) (sym (o .is-found)
+        ∙ play-shut (branchN (encoderFor G) (parity-choice (stepsOf W))) (nextFor G) (priceBy (wordsOf G) (quoteFor W) (nextFor G)) Pair
+        (oneBit-quotes (G .memory) G (K .both) (stepsOf W) .priced)
+        (stages-pairs G strip content t (8 * L - t)) (pathState G W strip content t) _ f)
+
+    -- THE FIRST CODE BITS. A bit that misses another, added to it
+    missed : (a b : Bool) → (one-if (not (Bool·beq a b)) + one-if a) % 2 ≡ one-if b
+    unfolding one-if
+    missed true true = refl
+    missed true false = refl
+    missed false true = refl
+    missed false false = refl
+
+    -- the misses and the bits that the first cells show make the first code bits
+    path-first : (t : ℕ) → (pathMiss G W strip content t + firstBit (level strip) t) % 2
+        ≡ parityOf (tapsOf (G .memory) (G .g1)) (windowOf (suc (G .memory)) u (suc t))
+    unfolding pathMiss missOf firstBit oneBitPrices cellAt pathDigit
+    path-first t =
+        let s : ℕ = pathState G W strip content t in
+        let d : Bool = planned G W strip content t s in
+        rw (path-newest G W strip content t, mod-odd (level strip (2 * t)), word-by (G .memory) G (K .both) s d, word-odd G (2 * s + one-if d))
+        (missed (odd (level strip (2 * t))) (firstOf G (2 * s + one-if d)) ∙ sym (parity-number _ (2 * s + one-if d)))
+
+    -- a miss is 0 or 1
+    miss-less : (t : ℕ) → pathMiss G W strip content t < 2
+    unfolding pathMiss missOf
+    miss-less t = one-less _
+
+    -- the trail of the first k stages is the window of their misses
+    trail-window : (k t : ℕ) → t + k ≤ 8 * L
+        → trailFor G W k (stagesFor G strip content t (8 * L - t)) (pathState G W strip content t) ≡ windowOf k (pathMiss G W strip content) (t + k)
+    unfolding trailOf stagesFrom pathState pathMiss
+    trail-window zero t h = omega (arith, window-less 0 (pathMiss G W strip content) (t + 0))
+    trail-window (suc k) t h =
+        let z : 8 * L - t ≡ suc (8 * L - suc t) = omega arith in
+        let m = pathMiss G W strip content in
+        let e : t + suc k ≡ suc t + k = omega arith in
+        let one : windowOf 1 m (suc t) ≡ m t = window-suc m miss-less 0 t ∙ (let n = window-less 0 m t in omega (arith, n)) in
+        rw (z, e)
+        (ap (λ (v : ℕ). m t * 2 ^ k + v) (trail-window k (suc t) (omega arith)) ∙ ap (λ (v : ℕ). v * 2 ^ k + windowOf k m (suc t + k)) (sym one)
+        ∙ sym (window-parts m miss-less 1 k (suc t)) ∙ ap (λ (n : ℕ). windowOf n m (suc t + k)) (let n : 1 + k ≡ suc k = omega arith in n))
+
+    -- THE PATH IS FOLLOWED: the trail that the history keeps and the bits of the first cells give the first code bits of each block
+    path-followed : {lows history : List ℕ} → Traced G W strip content history → Lows strip L lows → (a : Solution)
+        → writeOf G W strip content ≡ some a → Followed G lows history L u
+    path-followed {lows} {history} T B a e = record {
+      bits = digit-less G W strip content;
+      gives = λ q h. rw (told q h) (windows-give (G .memory) (G .g1) u first (digit-less G W strip content) first-less q (K .reach) (λ t l. refl));
+    }
+      where
+        first : ℕ → ℕ
+        first t = parityOf (tapsOf (G .memory) (G .g1)) (windowOf (suc (G .memory)) u (suc t))
+
+        first-less : (t : ℕ) → first t < 2
+        first-less t = parity-less (tapsOf (G .memory) (G .g1)) (windowOf (suc (G .memory)) u (suc t))
+
+        kept : (q : ℕ) → q < L → getD history (64 * q + windowOf (G .memory) u (8 * q)) 0 ≡ windowOf 8 (pathMiss G W strip content) (8 * (q + 1))
+        kept q h =
+            let s : ℕ = pathState G W strip content (8 * q) in
+            let z : 8 * (L - q) ≡ 8 * L - 8 * q = omega arith in
+            let y : 8 * (q + 1) ≡ 8 * q + 8 = omega arith in
+            let w : s ≡ windowOf (G .memory) u (8 * q) = path-window G W strip content (8 * q) in
+            let l : s < 2 ^ G .memory = rw w (window-less (G .memory) u (8 * q)) in
+            let k : getD history (64 * q + s) 0 ≡ trailFor G W 8 (stagesFor G strip content (8 * q) (8 * L - 8 * q)) s =
+            rw z at (T .kept q h s l (rw z (path-open a e (8 * q) (omega arith)))) in
+            rw (← w, y) (k ∙ trail-window 8 (8 * q) (omega arith))
+
+        told : (q : ℕ) → q < L → bitXor (getD history (64 * q + windowOf (G .memory) u (8 * q)) 0) (getD lows q 0) ≡ windowOf 8 first (8 * (q + 1))
+        told q h =
+            ap₂ bitXor (kept q h) (B .shown q h)
+            ∙ xor-windows 8 (pathMiss G W strip content) (firstBit (level strip)) miss-less (bit-less strip) (8 * (q + 1))
+            ∙ ap (λ (f : ℕ → ℕ). windowOf 8 f (8 * (q + 1))) (fun-ext λ t. path-first t)
+
+-- THE DIGITS. A window depends on the bits before its stage alone
+window-agree : (k : ℕ) (u v : ℕ → ℕ) (n : ℕ) → ((t : ℕ) → t < n → u t ≡ v t) → (t : ℕ) → t ≤ n → windowOf k u t ≡ windowOf k v t
+unfolding windowOf
+window-agree k u v n e zero h = refl
+window-agree k u v n e (suc t) h = ap₂ (λ (w b : ℕ). (2 * w + b) % 2 ^ k) (window-agree k u v n e t (omega arith)) (e t h)
+
+-- so what is carried out in the cells of n stages depends on the digits of these stages alone
 carriedTo-same : (G : Generators) (strip content : List ℕ) (u v : ℕ → ℕ) (n : ℕ) → ((t : ℕ) → t < n → u t ≡ v t)
     → (c : ℕ) → c < 2 * n → carriedTo G strip content u c ≡ carriedTo G strip content v c
 unfolding carriedTo wantedOf wantedFirst wantedSecond
 carriedTo-same G strip content u v n e c h =
-    let k : c / 2 < n = omega arith in
-    rw (state-same u v n e (c / 2) (omega arith), e (c / 2) k)
+    let k : suc (c / 2) ≤ n = omega arith in
+    rw (window-agree (suc (G .memory)) u v n e (suc (c / 2)) k)
+
+-- a digit of bytes that are the windows of a sequence
+digit-window : (u : ℕ → ℕ) → ((t : ℕ) → u t < 2) → (n : ℕ) (digits : List ℕ) → ((q : ℕ) → q < n → getD digits q 0 ≡ windowOf 8 u (8 * (q + 1)))
+    → (t : ℕ) → t < 8 * n → digitIn digits t ≡ u t
+unfolding digitIn
+digit-window u b n digits e t h =
+    let q : ℕ = t / 8 in
+    let l : q < n = omega arith in
+    let p : 7 - t % 8 < 8 = omega arith in
+    let z : 8 * q + (7 - (7 - t % 8)) ≡ t = omega arith in
+    ap (λ (x : ℕ). x / 2 ^ (7 - t % 8) % 2) (e q l) ∙ window-byte u b q (7 - t % 8) p ∙ ap u z
 
 -- THE PLAN: the bytes of the digits that are followed
-pub followed-plans : {G : Generators} {W strip content digits : List ℕ} → Suits G W → Dear (stepsOf W) → length content ≤ 64
-    → digits ≡ bytesOf (length content) (followed (decisionAt G W strip content (8 * length content))) → Plans G W strip content digits
-followed-plans {G} {W} {strip} {content} {digits} K D most e = record {
-  leads = λ a f c h.
+pub followed-plans : {G : Generators} {W strip content lows history digits : List ℕ} → Suits G W → Dear (stepsOf W)
+    → Traced G W strip content history → Lows strip (length content) lows
+    → ((u : ℕ → ℕ) → Followed G lows history (length content) u → (q : ℕ) → q < length content → getD digits q 0 ≡ windowOf 8 u (8 * (q + 1)))
+    → Plans G W strip content digits
+followed-plans {G} {W} {strip} {content} {lows} {history} {digits} K D T B f = record {
+  leads = λ a e c h.
       let l : c < 16 * length content = rw (oneBit-cells (length content)) at h in
-      carriedTo-same G strip content (bitOf digits) (followed dec) (8 * length content) digit c (omega arith)
-      ∙ carried-is G W K (length content) most strip content D a f c l;
+      let v = pathDigit G W strip content in
+      carriedTo-same G strip content (digitIn digits) v (8 * length content)
+      (digit-window v (digit-less G W strip content) (length content) digits (f v (path-followed G W K strip content D T B a e))) c (omega arith)
+      ∙ carried-is G W K strip content D a e c l;
 }
-  where
-    dec : ℕ → ℕ
-    dec = decisionAt G W strip content (8 * length content)
-
-    digit : (t : ℕ) → t < 8 * length content → bitOf digits t ≡ followed dec t
-    digit t h = ap (λ (x : List ℕ). bitOf x t) e ∙ bytesOf-bit (length content) (followed dec) (followed-bound dec) t h
-
--- an outcome that is done has a cost below closed
-done-below : (v c : ℕ) → toldOutcome v ≡ O.Done c → c < closed
-done-below v c = go (ltb v closed) refl
-  where
-    go : (b : Bool) → ltb v closed ≡ b → judged b v ≡ O.Done c → c < closed
-    go true e f = let z : v ≡ c = cc in omega (arith, ltb-true v closed e)
-    go false e f = absurd (let z : _≡_ {A = ℕ} 0 1 = cc in omega arith)
 
 -- WHAT A WRITE CANNOT DO: raise a cell by more than one
-module _ (G : Generators) (W : List ℕ) (K : Suits G W) (D : Dear (stepsOf W)) (L : ℕ) (most : L ≤ 64) (strip content : List ℕ)
-    (a : Solution)
-    (e : rewriteOf oneBit G W L strip unmarked content ≡ some a) where
-  pub strip-near : (c : ℕ) → c < cellCount oneBit L → levelAt (a .levels) c ≤ suc (level strip c)
-  unfolding carriedTo
-  strip-near c h =
-      let l : c < 16 * L = rw (oneBit-cells L) at h in
-      omega (
-        arith,
-        carried-is G W K L most strip content D a e c l,
-        mod-lt (level strip c + wantedOf G content (followed (decisionAt G W strip content (8 * L))) c) (zero-lt-suc 1),
-      )
-
-  -- or cost as much as closed
-  pub write-below : a .cost < closed
-  unfolding solutionOutcome
-  write-below =
-      done-below (getD (costsOver G W strip content (8 * L) (8 * L)) 0 0) (a .cost) (outcome-is G W K L most strip content D
-      ∙ ap solutionOutcome e)
+pub strip-near : {G : Generators} {W : List ℕ} → Suits G W → Dear (stepsOf W) → (strip content : List ℕ) (a : Solution)
+    → writeOf G W strip content ≡ some a → (c : ℕ) → c < cellCount oneBit (length content) → levelAt (a .levels) c ≤ suc (level strip c)
+unfolding carriedTo
+strip-near {G} {W} K D strip content a e c h =
+    let l : c < 16 * length content = rw (oneBit-cells (length content)) at h in
+    omega (
+      arith,
+      carried-is G W K strip content D a e c l,
+      mod-lt (level strip c + wantedOf G content (pathDigit G W strip content) c) (zero-lt-suc 1),
+    )

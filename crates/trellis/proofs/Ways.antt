@@ -1,0 +1,273 @@
+-- The stages of a strip in the plain search, and what the numbers of the states tell over blocks of them, from the last block to the first.
+--   Suits, suits, suits-sound                  what the program asks of a code and its weights, and that every code has it
+--   words-le, state-inside, next-zero, next-one   the words and the next states of a code
+--   label-told                                 the label of a stage
+--   stages-pairs, stages-are                   the stages of a strip are those of the search
+--   Reached                                    what the loop over the blocks holds
+--   reached-last, block-told, reached-more     at its start, and through a turn
+--   reached-first                              at its end: the number of state 0 tells the strip's outcome
+use mathlib.Core.Path.{_≡_, refl, sym, _∙_, ap, fun-ext, subst}
+use mathlib.Core.Bool.{Bool, true, false}
+use mathlib.Core.List.{List, [], _∷_}
+use mathlib.Core.Option.{Option, none, some}
+use Prim.Native.Nat.{ℕ, zero, suc, _<_, _≤_, _+_, _*_, _-_, _/_, _%_, _^_}
+use native.Mathlib.Omega.{arith}
+use native.Mathlib.Nat.{mod-lt, zero-lt-suc, pow-suc, min-le-right}
+use lib.Arith.{mod-mul}
+use lib.Pow.{pow-pos}
+use lib.ListN.{length, getD, replicate, length-replicate, length-map}
+use borrow.Author.Tests.{lt-ltb, le-ltb, ltb-true, ltb-false}
+use lib.Dec.{ltb}
+use Rattle.cells.specs.Places.{listOf, Each, no-more, and-each}
+use Rattle.cells.specs.Bytes.{bitOf}
+use Rattle.cells.proofs.Places.{listOf-same}
+use Rattle.codes.specs.Generators.{Generators}
+use Rattle.codes.specs.Codes.{generatorsOf}
+use Rattle.codes.specs.declared.Code.{Code}
+use Rattle.codes.specs.Layouts.{oneBit, stageCount}
+use Rattle.codes.specs.Sequences.{odd}
+use Rattle.codes.specs.Registers.{quotient}
+use Rattle.codes.specs.Numbers.{one-if}
+use Rattle.codes.specs.Taps.{wordOf, parityOf, windowOf}
+use Rattle.codes.specs.Encoders.{encoderOf, Proper}
+use Rattle.codes.specs.Blocks.{labelAt}
+use Rattle.codes.proofs.Codes.{memory-bounds, proper, second-leads, two-generators}
+use Rattle.codes.proofs.Layouts.{oneBit-stages, oneBit-cells}
+use Rattle.search.specs.Best.{Solution}
+use Rattle.search.specs.Strip.{Dear, cellsOf, stepsOf}
+use Rattle.search.specs.Search.{Stage, labels, stages}
+use Rattle.search.specs.Parity.{parity-choice}
+use Rattle.search.specs.Plan.{solutionCost, costs}
+use Rattle.search.specs.Numbered.{nextN}
+use Rattle.search.specs.OneBit.{oneBitPrices}
+use Rattle.search.specs.Layouts.{dataBits, unmarked, stripCells, stagesOf, rewriteOf, Sound}
+use Rattle.search.proofs.Plain.{plain-cost}
+use Rattle.search.proofs.OneBit.{Pair, pair, Both, oneBit-quotes}
+use Rattle.search.proofs.Layouts.{oneBit-sound, oneBit-write}
+use Rattle.stages.specs.Stage.{closed, top, wordsOf}
+use Rattle.stages.specs.Blocks.{rowAt, runOf, settledOf, Ran, Settled}
+use Rattle.stages.specs.Costs.{Tells, open-at, shut, Told, open-with}
+use Rattle.stages.specs.Trails.{stagesFrom, Quoted}
+use Rattle.stages.proofs.Costs.{told-settled, told-cost}
+use Rattle.stages.proofs.Trails.{run-told}
+use Rattle.trellis.specs.Rows.{Priced}
+use Rattle.trellis.specs.Ways.{encoderFor, labelFor, cellFor, stageFor, quoteFor, nextFor, stagesFor, costsFor, trailFor, blocksFor}
+use Rattle.trellis.specs.Outcomes.{toldOutcome, solutionOutcome}
+use Rattle.trellis.specs.Plans.{writeOf}
+
+-- what the program asks of a code and its weights: two generators that begin with 1, and weights of three bytes
+pub record Suits (G : Generators) (W : List ℕ) : Type 0 where
+  pub proper : Proper G
+  pub both : Both G
+  pub reach : G .memory ≤ 6
+  pub three : length W ≡ 3
+  pub bytes : (i : ℕ) → getD W i 0 ≤ 255
+
+-- every code suits weights of three bytes
+pub suits : (c : Code) (W : List ℕ) → length W ≡ 3 → ((i : ℕ) → getD W i 0 ≤ 255) → Suits (generatorsOf c) W
+suits c W three bytes = record {
+  proper = proper c;
+  both = record { g1-leads = proper c .leads; g2-leads = second-leads c; two = two-generators c };
+  reach = memory-bounds (c .name) .1;
+  three = three;
+  bytes = bytes;
+}
+
+-- a code that suits goes with one bit a cell
+pub suits-sound : {G : Generators} {W : List ℕ} → Suits G W → Sound oneBit G
+suits-sound {G} K = oneBit-sound G (K .both .g1-leads) (ap length (K .both .two))
+
+-- WORDS AND STATES. A word is one of four
+pub words-le : (G : Generators) (s : ℕ) → wordsOf G s ≤ 3
+unfolding wordOf parityOf
+words-le G s = omega arith
+
+module _ (G : Generators) (p : 0 < G .memory) where
+  -- the states are twice a half of them
+  twice : 2 ^ G .memory ≡ 2 ^ (G .memory - 1) * 2
+  twice = let e : G .memory ≡ suc (G .memory - 1) = omega arith in ap (λ (m : ℕ). 2 ^ m) e ∙ pow-suc 2 (G .memory - 1)
+
+  -- twice a state and a digit, among the states
+  doubled : (s b : ℕ) → b < 2 → (2 * s + b) % 2 ^ G .memory ≡ s % 2 ^ (G .memory - 1) * 2 + b
+  doubled s b h =
+      let x : (2 * s + b) / 2 ≡ s = omega arith in
+      let y : (2 * s + b) % 2 ≡ b = omega arith in
+      ap (λ (n : ℕ). (2 * s + b) % n) twice ∙ mod-mul (2 * s + b) (pow-pos (G .memory - 1)) (zero-lt-suc 1)
+      ∙ ap (λ (n : ℕ). n % 2 ^ (G .memory - 1) * 2 + (2 * s + b) % 2) x ∙ ap (λ (n : ℕ). s % 2 ^ (G .memory - 1) * 2 + n) y
+
+  -- the same without the digit
+  doubled-even : (s : ℕ) → 2 * s % 2 ^ G .memory ≡ s % 2 ^ (G .memory - 1) * 2
+  doubled-even s =
+      let e : 2 * s ≡ 2 * s + 0 = omega arith in
+      let f : s % 2 ^ (G .memory - 1) * 2 + 0 ≡ s % 2 ^ (G .memory - 1) * 2 = omega arith in
+      ap (λ (n : ℕ). n % 2 ^ G .memory) e ∙ doubled s 0 (omega arith) ∙ f
+
+  -- both states that follow are states
+  pub state-inside : (s : ℕ) → 2 * s % 2 ^ G .memory + 1 < 2 ^ G .memory
+  state-inside s = omega (arith, doubled-even s, twice, mod-lt s (pow-pos (G .memory - 1)))
+
+  -- the state that follows with the digit 0
+  pub next-zero : (g : Stage) (s : ℕ) → nextFor G g s false ≡ 2 * s % 2 ^ G .memory
+  unfolding nextN one-if
+  next-zero g s = let e : 2 * s + 0 ≡ 2 * s = omega arith in ap (λ (n : ℕ). n % 2 ^ G .memory) e
+
+  -- and with the digit 1
+  pub next-one : (g : Stage) (s : ℕ) → nextFor G g s true ≡ 2 * s % 2 ^ G .memory + 1
+  unfolding nextN one-if
+  next-one g s = doubled s 1 (omega arith) ∙ ap (λ (n : ℕ). n + 1) (sym (doubled-even s))
+
+-- LABELS. The data bits of one data bit a stage
+data-bits : (content : List ℕ) → dataBits oneBit content 0 ≡ (λ t. odd (bitOf content t))
+unfolding dataBits
+data-bits content = fun-ext λ t. ap (λ (n : ℕ). odd (bitOf content n)) (omega arith)
+
+-- the label of a stage
+pub label-told : (G : Generators) (content : List ℕ) (t : ℕ) → labelAt G content t ≡ one-if (labelFor G content t)
+unfolding labelAt
+label-told G content t = rw (data-bits content)
+
+-- THE STAGES of a strip: each has two cells and a label
+module _ (G : Generators) (strip content : List ℕ) where
+  pub stages-pairs : (t k : ℕ) → Each Pair (stagesFor G strip content t k)
+  unfolding stagesFrom
+  stages-pairs t zero = no-more
+  stages-pairs t (suc k) = and-each pair (stages-pairs (suc t) k)
+
+  module _ (K : Both G) where
+    -- one label a stage
+    one-other : length (encoderOf G .others) ≡ 1
+    unfolding encoderOf
+    one-other = length-map (G .others) _ ∙ ap length (K .two)
+
+    -- they are those of the search
+    stages-from : (t k : ℕ) → stages (encoderFor G) (dataBits oneBit content) 2 t k (listOf (k * 2) (λ c. cellFor strip (2 * t + c)))
+        ≡ stagesFor G strip content t k
+    unfolding stages stagesFrom labels listOf
+    stages-from t zero = refl
+    stages-from t (suc k) =
+        let e : suc k * 2 ≡ suc (suc (k * 2)) = omega arith in
+        let z : 2 * t + 0 ≡ 2 * t = omega arith in
+        let f : (i : ℕ) → 2 * t + suc (suc i) ≡ 2 * suc t + i = omega arith in
+        rw (e, z, one-other)
+        (ap (λ (l : List Stage). stageFor G strip content t ∷ l)
+        (ap (stages (encoderFor G) (dataBits oneBit content) 2 (suc t) k) (listOf-same (k * 2) _ _ (λ i h. ap (cellFor strip) (f i)))
+        ∙ stages-from (suc t) k))
+
+    -- all stages of a strip for L bytes of data
+    pub stages-are : (L : ℕ) → stagesOf oneBit (encoderFor G) L strip unmarked content ≡ stagesFor G strip content 0 (8 * L)
+    unfolding stagesOf stripCells cellsOf
+    stages-are L =
+        let e : 16 * L ≡ 8 * L * 2 = omega arith in
+        let f : (i : ℕ) → i ≡ 2 * 0 + i = omega arith in
+        rw (oneBit-stages L, oneBit-cells L)
+        (ap (stages (encoderFor G) (dataBits oneBit content) 2 0 (8 * L))
+        (ap (λ (n : ℕ). listOf n (cellFor strip)) e ∙ listOf-same (8 * L * 2) _ _ (λ i h. ap (cellFor strip) (f i)))
+        ∙ stages-from 0 (8 * L))
+
+-- THE COST of state 0 before the first stage is the write's
+cost-start : (G : Generators) (W : List ℕ) → Suits G W → Dear (stepsOf W) → (strip content : List ℕ)
+    → costsFor G W (blocksFor G strip content (length content) 0) 0 ≡ solutionCost (writeOf G W strip content)
+unfolding stagesOf
+cost-start G W K D strip content =
+    let L : ℕ = length content in
+    let z : L - 0 ≡ L = omega arith in
+    rw (z, ← (stages-are G strip content (K .both) L))
+    (plain-cost (encoderFor G) (parity-choice (stepsOf W)) (wordsOf G) (oneBitPrices (stepsOf W)) Pair
+    (oneBit-quotes (G .memory) G (K .both) (stepsOf W))
+    (dataBits oneBit content) 2 (stageCount oneBit L) (stripCells oneBit L strip unmarked)
+    (rw (stages-are G strip content (K .both) L) (stages-pairs G strip content 0 (8 * L)))
+    ∙ ap solutionCost (oneBit-write (G .memory) G (suits-sound K) (omega arith) W D L strip unmarked content))
+
+-- A LOOP over the blocks from the last to the first holds, before block q, the eight labels before it and numbers that tell what the states
+-- cost from there on, for all weights whose table it has
+pub record Reached (G : Generators) (rows strip content : List ℕ) (q before : ℕ) (numbers : List ℕ) : Type 0 where
+  pub within : q ≤ length content
+  pub labels-are : before ≡ windowOf 8 (labelAt G content) (8 * q)
+  pub long : length numbers ≡ 64
+  pub cut : (i : ℕ) → getD numbers i 0 ≤ top
+  pub told : (W : List ℕ) → Priced W rows → (s : ℕ) → s < 2 ^ G .memory
+      → Told 256 closed (510 * (8 * (length content - q))) 0 (getD numbers s 0)
+      (costsFor G W (blocksFor G strip content (length content) q) s) 0
+
+-- zeros
+zeros-at : (n k : ℕ) → _≡_ {A = ℕ} (getD (replicate n 0) k 0) 0
+zeros-at zero k = refl
+zeros-at (suc n) zero = refl
+zeros-at (suc n) (suc k) = zeros-at n k
+
+module _ (G : Generators) (rows strip content : List ℕ) where
+  -- the number of blocks
+  abbrev n : ℕ
+  n = length content
+
+  -- after the last block nothing costs anything
+  pub reached-last : {before : ℕ} → before ≡ windowOf 8 (labelAt G content) (8 * n) → Reached G rows strip content n before (replicate 64 0)
+  unfolding stagesFrom costs
+  reached-last e =
+      let z : 8 * (n - n) ≡ 0 = omega arith in record {
+        within = omega arith;
+        labels-are = e;
+        long = length-replicate {A = ℕ} 64 0;
+        cut = λ i. omega (arith, zeros-at 64 i);
+        told = λ W P s h. rw (z, zeros-at 64 s) (open-with {v = 0} {c = 0} {t = 0} (omega arith) (omega arith) (omega arith));
+      }
+
+  -- A TURN goes from before block q + 1 to before block q, by the numbers before the block and after it is settled
+  module _ (K : Proper G) {q before picks : ℕ} {numbers ran : List ℕ} (most : n ≤ 64) (inside : q < n)
+      (h : Reached G rows strip content (q + 1) before numbers)
+      (quoted : (W : List ℕ) → Priced W rows → (i : ℕ) → i < 8
+      → Quoted 510 rows (rowAt picks i) (quoteFor W (stageFor G strip content (8 * q + i))))
+      (r : Ran (2 ^ G .memory) (wordsOf G) rows picks numbers ran) where
+    -- the numbers before the block tell costs and trails
+    pub block-told : (W : List ℕ) → Priced W rows → (s : ℕ) → s < 2 ^ G .memory
+        → Told 256 closed (510 * (8 * (n - q))) 8 (getD ran s 0) (costsFor G W (blocksFor G strip content n q) s)
+        (trailFor G W 8 (blocksFor G strip content n q) s)
+    block-told W P s l =
+        let later : ℕ = 8 * (n - (q + 1)) in
+        let z : 8 * q + (8 - 8) ≡ 8 * q = omega arith in
+        let e : 8 + later ≡ 8 * (n - q) = omega arith in
+        let f : 8 * (q + 1) ≡ 8 * q + 8 = omega arith in
+        let b : 8 * 510 + 510 * later ≡ 510 * (8 * (n - q)) = omega arith in
+        let room : 8 * 510 + 510 * later < closed = omega arith in
+        subst (λ (v : ℕ). Told 256 closed (510 * (8 * (n - q))) 8 v (costsFor G W (blocksFor G strip content n q) s)
+        (trailFor G W 8 (blocksFor G strip content n q) s)) (sym (r .states s l))
+        (rw (z, e, b) at
+        (run-told (2 ^ G .memory) (wordsOf G) (words-le G) (quoteFor W) (nextFor G) (state-inside G (K .some-memory))
+        (next-zero G (K .some-memory)) (next-one G (K .some-memory)) 510 (510 * later) (8 * q) later (stageFor G strip content) rows picks
+        (λ i. getD numbers i 0) (quoted W P) (rw f at (h .told W P)) room 8 (omega arith) s l))
+
+    -- settled numbers are cut off
+    settled-cut : {settled : List ℕ} → Settled (2 ^ G .memory) ran settled → (i : ℕ) → getD settled i 0 ≤ top
+    unfolding settledOf
+    settled-cut {settled} t i = go (ltb i (2 ^ G .memory)) refl
+      where
+        go : (b : Bool) → ltb i (2 ^ G .memory) ≡ b → getD settled i 0 ≤ top
+        go true z = omega (arith, t .states i (ltb-true _ _ z), min-le-right (getD ran i 0 / 256 * 256) top)
+        go false z = omega (arith, t .others i (ltb-false _ _ z), r .others i (ltb-false _ _ z), h .cut i)
+
+    -- and once they are settled the turn is done
+    pub reached-more : {earlier : ℕ} {settled : List ℕ} → earlier ≡ windowOf 8 (labelAt G content) (8 * q) → Settled (2 ^ G .memory) ran settled
+        → Reached G rows strip content q earlier settled
+    reached-more {settled = settled} e t = record {
+      within = omega arith;
+      labels-are = e;
+      long = t .long;
+      cut = settled-cut t;
+      told = λ W P s l.
+          subst (λ (v : ℕ). Told 256 closed (510 * (8 * (n - q))) 0 v (costsFor G W (blocksFor G strip content n q) s) 0)
+          (sym (t .states s l)) (told-settled (omega arith) (omega arith) (block-told W P s l));
+    }
+
+-- AN OUTCOME by the number that tells the cost of a solution
+outcome-told : (m v : ℕ) (r : Option Solution) → m < closed → Tells closed m v (solutionCost r) → toldOutcome v ≡ solutionOutcome r
+unfolding solutionCost solutionOutcome
+outcome-told m v none l (shut h) = rw (le-ltb v closed h)
+outcome-told m v (some a) l (open-at h) = rw (lt-ltb v closed (omega arith))
+
+-- before the first block the number of state 0 tells the strip's outcome
+pub reached-first : {G : Generators} {rows strip content : List ℕ} {before : ℕ} {numbers : List ℕ} → length content ≤ 64
+    → Reached G rows strip content 0 before numbers → (W : List ℕ) → Suits G W → Priced W rows
+    → toldOutcome (getD numbers 0 0 / 256) ≡ solutionOutcome (writeOf G W strip content)
+reached-first {G} {rows} {strip} {content} {before} {numbers} most h W K P =
+    outcome-told (510 * (8 * (length content - 0))) (getD numbers 0 0 / 256) (writeOf G W strip content) (omega arith)
+    (rw (cost-start G W K (P .dear) strip content) at (told-cost (h .told W P 0 (pow-pos (G .memory)))))
