@@ -23,7 +23,7 @@ use Rattle.codes.specs.Blocks.{tappedOf, liftedOf, untappedOf, unliftedO
 use Rattle.codes.proofs.Taps.{parity-taps, low-bit}
 
 -- BITS. A bit of a sum without carries is the sum of the bits mod 2
-xor-bit : (a b p : ℕ) → bitXor a b / 2 ^ p % 2 ≡ (a / 2 ^ p % 2 + b / 2 ^ p % 2) % 2
+pub xor-bit : (a b p : ℕ) → bitXor a b / 2 ^ p % 2 ≡ (a / 2 ^ p % 2 + b / 2 ^ p % 2) % 2
 xor-bit a b p =
     let s : bitXor (a / 2 ^ p) (b / 2 ^ p) % 2 ≡ (a / 2 ^ p % 2 + b / 2 ^ p % 2) % 2 = omega (arith, xor-add-and (a / 2 ^ p) (b / 2 ^ p)) in
     ap (λ (x : ℕ). x % 2) (xor-shr a b p) ∙ s

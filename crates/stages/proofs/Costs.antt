@@ -107,8 +107,9 @@ told-settled {v = v} l f (shut-from h) =
     shut-from y
 
 -- the low byte of a number that tells a cost is its trail
-pub told-low : {m v c t : ℕ} → Told 256 closed m 8 v (some c) t → v % 256 ≡ t
-told-low (open-with e h s) = omega arith
+pub told-low : {m v t : ℕ} {o : Option ℕ} → Told 256 closed m 8 v o t → (o ≡ none → ⊥) → v % 256 ≡ t
+told-low (open-with e h s) some-cost = omega arith
+told-low (shut-from h) some-cost = absurd (some-cost refl)
 
 -- a number without a trail is the cost in 256ths
 pub told-cost : {m v t : ℕ} {o : Option ℕ} → Told 256 closed m 0 v o t → Tells closed m (v / 256) o

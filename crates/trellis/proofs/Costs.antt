@@ -1,44 +1,60 @@
--- Sums and minima of the numbers that tell optional costs: closed stays closed, and no sum brings it back among the costs.
---   tells-add      two numbers added up tell the two costs one after the other
---   tells-lesser   the lesser of two numbers tells the lesser of the two costs
-use mathlib.Core.Path.{_≡_, refl, sym, subst}
+-- Sums of the numbers that tell optional costs: closed stays closed, and no sum brings it back among the costs.
+--   tells-add   two numbers added up tell the two costs one after the other
+--   tells-cut   a number that is cut off at closed tells the same cost
+--   Below       an optional cost that is at most m where there is one; sums and the lesser of such costs
+use mathlib.Core.Path.{sym, subst}
 use mathlib.Core.Bool.{Bool, true, false, cond}
-use mathlib.Core.Option.{Option, some}
+use mathlib.Core.Option.{Option, none, some}
 use Prim.Native.Nat.{ℕ, _+_, _≤_, _<_, min}
 use native.Mathlib.Omega.{arith}
-use native.Mathlib.Nat.{min-eq-left, min-eq-right, min-le-left, le-min, le-of-lt}
+use native.Mathlib.Nat.{min-eq-left, le-min, le-refl}
 use lib.Dec.{ltb}
-use borrow.Author.Tests.{ltb-true, ltb-false}
-use Rattle.trellis.specs.Costs.{Tells, open-at, shut}
 use Rattle.search.specs.Plan.{add, lesser}
+use Rattle.stages.specs.Costs.{Tells, open-at, shut}
 
--- the lesser of two, by the test that the second is below the first
-min-cond : (a b : ℕ) → min a b ≡ cond (ltb b a) b a
-min-cond a b = go (ltb b a) refl
+-- two numbers added up tell the two costs one after the other
+pub tells-add : {c m n a b : ℕ} {o p : Option ℕ} → Tells c m a o → Tells c n b p → Tells c (m + n) (a + b) (add o p)
+unfolding add
+tells-add {c} {m} {n} {a} {b} (open-at h) (open-at k) = let e : a + b ≤ m + n = omega arith in open-at {c = a + b} e
+tells-add {c} {m} {n} {a} {b} (open-at h) (shut k) = let e : c ≤ a + b = omega arith in shut {v = a + b} e
+tells-add {c} {m} {n} {a} {b} (shut h) (open-at k) = let e : c ≤ a + b = omega arith in shut {v = a + b} e
+tells-add {c} {m} {n} {a} {b} (shut h) (shut k) = let e : c ≤ a + b = omega arith in shut {v = a + b} e
+
+-- a number that is cut off at closed tells the same cost
+pub tells-cut : {c m v : ℕ} {o : Option ℕ} → Tells c m v o → m < c → Tells c m (min v c) o
+tells-cut {c} {m} {v} (open-at h) l =
+    let e : v ≤ c = omega arith in
+    subst (λ (x : ℕ). Tells c m x (some v)) (sym (min-eq-left e)) (open-at {c = v} h)
+tells-cut {c} {m} {v} (shut h) l = shut {v = min v c} (le-min h (le-refl c))
+
+-- A BOUND: a cost is at most m, where there is one
+pub data Below (m : ℕ) : Option ℕ → Type 0 where
+  nothing : Below m none
+  at-most : {c : ℕ} → c ≤ m → Below m (some c)
+
+-- what a number tells is bounded so
+pub below-told : {c m v : ℕ} {o : Option ℕ} → Tells c m v o → Below m o
+below-told (open-at h) = at-most h
+below-told (shut h) = nothing
+
+-- two costs one after the other
+pub below-add : {m n : ℕ} {o p : Option ℕ} → Below m o → Below n p → Below (m + n) (add o p)
+unfolding add
+below-add nothing q = nothing
+below-add (at-most h) nothing = nothing
+below-add {m} {n} (at-most {c = c} h) (at-most {c = d} k) = let e : c + d ≤ m + n = omega arith in at-most e
+
+-- the lesser of two
+pub below-lesser : {m : ℕ} {o p : Option ℕ} → Below m o → Below m p → Below m (lesser o p)
+unfolding lesser
+below-lesser nothing q = q
+below-lesser (at-most h) nothing = at-most h
+below-lesser {m} (at-most {c = c} h) (at-most {c = d} k) = at-most (go (ltb d c))
   where
-    go : (t : Bool) → ltb b a ≡ t → min a b ≡ cond t b a
-    go true e = min-eq-right (le-of-lt (ltb-true b a e))
-    go false e = min-eq-left (ltb-false b a e)
+    go : (b : Bool) → cond b d c ≤ m
+    go true = k
+    go false = h
 
-module _ (top : ℕ) where
-  -- two numbers added up tell the two costs one after the other
-  pub tells-add : {m n a b : ℕ} {o p : Option ℕ} → Tells top m a o → Tells top n b p → Tells top (m + n) (a + b) (add o p)
-  unfolding add
-  tells-add {m} {n} {a} {b} (open-at h) (open-at k) = let e : a + b ≤ m + n = omega arith in open-at {c = a + b} e
-  tells-add {m} {n} {a} {b} (open-at h) (shut k) = let e : top ≤ a + b = omega arith in shut {v = a + b} e
-  tells-add {m} {n} {a} {b} (shut h) (open-at k) = let e : top ≤ a + b = omega arith in shut {v = a + b} e
-  tells-add {m} {n} {a} {b} (shut h) (shut k) = let e : top ≤ a + b = omega arith in shut {v = a + b} e
-
-  -- the lesser of two numbers tells the lesser of the two costs
-  pub tells-lesser : {m a b : ℕ} {o p : Option ℕ} → m < top → Tells top m a o → Tells top m b p → Tells top m (min a b) (lesser o p)
-  unfolding lesser
-  tells-lesser {m} {a} {b} l (open-at h) (open-at k) =
-      let e : min a b ≤ m = omega (arith, min-le-left a b) in
-      subst (λ (v : ℕ). Tells top m (min a b) (some v)) (min-cond a b) (open-at {c = min a b} e)
-  tells-lesser {m} {a} {b} l (open-at h) (shut k) =
-      let e : a ≤ b = omega arith in
-      subst (λ (v : ℕ). Tells top m v (some a)) (sym (min-eq-left e)) (open-at {c = a} h)
-  tells-lesser {m} {a} {b} l (shut h) (open-at k) =
-      let e : b ≤ a = omega arith in
-      subst (λ (v : ℕ). Tells top m v (some b)) (sym (min-eq-right e)) (open-at {c = b} k)
-  tells-lesser {m} {a} {b} l (shut h) (shut k) = shut {v = min a b} (le-min h k)
+-- a cost that there is
+pub below-some : {m n c : ℕ} → Below m (some c) → m < n → c < n
+below-some (at-most h) l = omega arith

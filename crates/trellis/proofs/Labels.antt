@@ -1,79 +1,71 @@
--- The register of the labels on numbers: it is the register of the laws, it steps back, and its newest bit is the quotient's.
---   register-back, register-more   the register steps back and forth by the data bit of a stage
---   label-quotient, label-le       its newest bit is the quotient's bit, 0 or 1
-use mathlib.Core.Path.{_≡_, sym, _∙_, ap}
-use mathlib.Core.Bool.{true, false}
-use mathlib.Core.List.{List, _∷_}
-use Prim.Native.Nat.{ℕ, zero, suc, _≤_, _+_, _%_}
+-- Eight stages divided by the first generator, in the program: the labels of the data, forth and back, and the digits of a way.
+--   byte-window    the window of a byte of data
+--   labels-forth   what is divided after eight labels are the next eight
+--   labels-back    and the division undone gives the eight before
+--   followed-step   what is divided after eight digits of a way that is followed are the next eight
+use mathlib.Core.Path.{_≡_, sym, _∙_, ap, ap₂}
+use mathlib.Core.List.{List}
+use Prim.Native.Nat.{ℕ, _<_, _≤_, _+_, _*_, _-_, _/_, _%_, _^_}
 use native.Mathlib.Omega.{arith}
-use native.Mathlib.Numerals.{add-one}
-use lib.ListN.{length, getD}
+use lib.Bits.{bitXor}
+use lib.ListN.{getD}
 use Rattle.cells.specs.Bytes.{bitOf}
-use Rattle.cells.proofs.Places.{length-listOf, listOf-at}
 use Rattle.cells.proofs.Bytes.{bit-bound}
-use Rattle.codes.specs.Generators.{Generators, digit}
-use Rattle.codes.specs.Sequences.{odd}
-use Rattle.codes.specs.Registers.{register, quotient}
-use Rattle.codes.specs.Numbers.{one-if, value}
-use Rattle.codes.specs.Taps.{tapsOf, forthOf, backOf}
-use Rattle.codes.specs.Encoders.{encoderOf, Proper}
-use Rattle.codes.proofs.Numbers.{one-if-odd, value-zeros, taps-value, register-forth, register-label, register-stepped-back}
-use Rattle.codes.proofs.Encoders.{first-digits}
-use Rattle.trellis.specs.Backward.{registerAt, labelAt}
+use Rattle.codes.specs.Generators.{Generators}
+use Rattle.codes.specs.Encoders.{Proper}
+use Rattle.codes.specs.Taps.{tapsOf, windowOf}
+use Rattle.codes.specs.Blocks.{Gives, labelAt}
+use Rattle.codes.proofs.Taps.{window-less}
+use Rattle.codes.proofs.Windows.{window-mod, window-of-word, label-bound, label-window, windows-give, windows-give-back}
+use Rattle.trellis.specs.Ways.{Followed}
 
-module _ (G : Generators) (p : Proper G) where
-  -- THE TAPS of the first generator are its digits, the first of them 1
-  first-taps : tapsOf (G .memory) (G .g1) ≡ value (true ∷ encoderOf G .first)
-  first-taps = taps-value (G .memory) (G .g1) ∙ sym (ap value (first-digits G (p .leads)))
+-- the window of byte q of the data
+pub byte-window : (content : List ℕ) (q : ℕ) {r : ℕ} → r ≡ windowOf 8 (λ i. getD content q 0 / 2 ^ (1 * i) % 2) 8
+    → r ≡ windowOf 8 (bitOf content) (8 * (q + 1))
+unfolding bitOf
+byte-window content q e =
+    e ∙ window-of-word (getD content q 0) 1 (bitOf content) (bit-bound content) q
+    (λ i h.
+    let x : 1 * i ≡ (8 * q + i) % 8 = omega arith in
+    let y : q ≡ (8 * q + i) / 8 = omega arith in
+    ap₂ (λ (k j : ℕ). getD content j 0 / 2 ^ k % 2) x y)
 
-  -- and the last
-  last-tap : getD (true ∷ encoderOf G .first) (G .memory) false ≡ true
-  unfolding odd
-  last-tap =
-      rw (first-digits G (p .leads)) (listOf-at (suc (G .memory)) (λ i. odd (digit (G .memory) (G .g1) i)) (G .memory) false (omega arith)
-      ∙ ap odd (p .ends))
+module _ {G : Generators} (P : Proper G) (reach : G .memory ≤ 6) (content : List ℕ) (q : ℕ) where
+  -- the taps of the first generator
+  abbrev taps : ℕ
+  taps = tapsOf (G .memory) (G .g1)
 
-  -- its digits after the first are as many as the memory
-  first-length : length (encoderOf G .first) ≡ G .memory
-  unfolding encoderOf
-  first-length = length-listOf (G .memory) _
+  -- the eight labels after stage 8·n
+  abbrev at : ℕ → ℕ
+  at n = windowOf 8 (labelAt G content) (8 * n)
 
-module _ (G : Generators) (p : Proper G) (content : List ℕ) where
-  -- a data bit is the number of its bit
-  data-bit : (t : ℕ) → one-if (odd (bitOf content t)) ≡ bitOf content t
-  data-bit t = one-if-odd (bitOf content t) (bit-bound content t)
+  -- what is divided after the labels of the blocks before q are those of block q
+  pub labels-forth : {before d r : ℕ} → before ≡ at q → d ≡ windowOf 8 (bitOf content) (8 * (q + 1))
+      → ((y : ℕ) → y < 256 → Gives taps (before * 256 + y) d 0 → y ≡ r) → r ≡ at (q + 1)
+  labels-forth e f h =
+      sym (h (at (q + 1)) (window-less 8 (labelAt G content) (8 * (q + 1)))
+      (rw (e, f)
+      (windows-give (G .memory) (G .g1) (labelAt G content) (bitOf content) (label-bound G content) (bit-bound content) q reach
+      (λ t l. label-window G P content t))))
 
-  -- THE REGISTER. It is the number of the register of the quotient's last bits
-  register-value : (t : ℕ) → registerAt G content t ≡ value (register (G .memory) (encoderOf G .first) (λ t. odd (bitOf content t)) t)
-  unfolding registerAt register
-  register-value zero = sym (value-zeros (G .memory))
-  register-value (suc t) =
-      rw (first-taps G p, register-value t)
-      (ap (forthOf (G .memory) _ _) (sym (data-bit t)) ∙ register-forth (G .memory) (encoderOf G .first) (λ t. odd (bitOf content t)) t)
+  -- and the division undone gives those before block q
+  pub labels-back : {later d r : ℕ} → 0 < q → later ≡ at (q + 1)
+      → d ≡ windowOf 8 (bitOf content) (8 * q) * 256 + windowOf 8 (bitOf content) (8 * (q + 1))
+      → ((y : ℕ) → y < 256 → Gives taps (y * 256 + later) d (8 - G .memory) → y ≡ r) → r ≡ at q
+  labels-back p e f h =
+      sym (h (at q) (window-less 8 (labelAt G content) (8 * q))
+      (rw (e, f)
+      (windows-give-back (G .memory) (G .g1) (labelAt G content) (bitOf content) (label-bound G content) (bit-bound content) q reach
+      (λ t l. label-window G P content t) p)))
 
-  -- it steps back by the data bit of the stage before
-  pub register-back : (t : ℕ) → backOf (G .memory) (tapsOf (G .memory) (G .g1)) (registerAt G content (suc t)) (bitOf content t)
-      ≡ registerAt G content t
-  register-back t =
-      rw (first-taps G p, register-value (suc t), register-value t)
-      (ap (backOf (G .memory) _ _) (sym (data-bit t))
-      ∙ register-stepped-back (G .memory) (encoderOf G .first) (λ t. odd (bitOf content t)) t (p .some-memory) (first-length G p)
-      (last-tap G p))
-
-  -- LABELS. A label is the quotient's bit
-  pub label-quotient : (t : ℕ) → labelAt G content t ≡ one-if (quotient (G .memory) (encoderOf G .first) (λ t. odd (bitOf content t)) t)
-  unfolding labelAt
-  label-quotient t = ap (λ (r : ℕ). r % 2) (register-value (suc t))
-      ∙ register-label (G .memory) (encoderOf G .first) (λ t. odd (bitOf content t)) t (p .some-memory)
-
--- what the loop over the data steps forth to
-pub register-more : (G : Generators) (content : List ℕ) (t : ℕ) {taps r d x : ℕ} → taps ≡ tapsOf (G .memory) (G .g1)
-    → r ≡ registerAt G content t → d ≡ bitOf content t
-    → x ≡ forthOf (G .memory) taps r d → x ≡ registerAt G content (t + 1)
-unfolding registerAt
-register-more G content t p q e f = rw (add-one, f, p, q, e)
-
--- a label is 0 or 1
-pub label-le : (G : Generators) (content : List ℕ) (t : ℕ) → labelAt G content t ≤ 1
-unfolding labelAt
-label-le G content t = omega arith
+-- DIGITS. What is divided after eight digits of a way that is followed are the next eight
+pub followed-step : (G : Generators) → G .memory ≤ 6 → {lows history : List ℕ} {n : ℕ} (u : ℕ → ℕ) → Followed G lows history n u
+    → (q : ℕ) → q < n → {before trail low r : ℕ} → before ≡ windowOf 8 u (8 * q)
+    → trail ≡ getD history (64 * q + before % 2 ^ G .memory) 0 → low ≡ getD lows q 0
+    → ((y : ℕ) → y < 256 → Gives (tapsOf (G .memory) (G .g1)) (before * 256 + y) (bitXor trail low) 0 → y ≡ r)
+    → r ≡ windowOf 8 u (8 * (q + 1))
+followed-step G reach {history = history} u f q h {before = before} e t l only =
+    let s : before % 2 ^ G .memory ≡ windowOf (G .memory) u (8 * q) =
+    ap (λ (w : ℕ). w % 2 ^ G .memory) e ∙ window-mod (G .memory) 8 u (8 * q) (omega arith) in
+    let k = t ∙ ap (λ (w : ℕ). getD history (64 * q + w) 0) s in
+    sym (only (windowOf 8 u (8 * (q + 1))) (window-less 8 u (8 * (q + 1))) (rw (e, k, l) (f .gives q h)))

@@ -6,20 +6,26 @@
 --   Reached                                    what the loop over the blocks holds
 --   reached-last, block-told, reached-more     at its start, and through a turn
 --   reached-first                              at its end: the number of state 0 tells the strip's outcome
+--   block-quoted                               the rows of a block tell the prices of its stages
+--   TracedFrom, traced-more                    the history of the blocks from q on
+--   block-lows                                 the bits that the first cells of a block show
+--   store-back                                 a loop that stores from the last place back
 use mathlib.Core.Path.{_≡_, refl, sym, _∙_, ap, fun-ext, subst}
 use mathlib.Core.Bool.{Bool, true, false}
+use mathlib.Core.Logic.{⊎-elim}
 use mathlib.Core.List.{List, [], _∷_}
 use mathlib.Core.Option.{Option, none, some}
 use Prim.Native.Nat.{ℕ, zero, suc, _<_, _≤_, _+_, _*_, _-_, _/_, _%_, _^_}
 use native.Mathlib.Omega.{arith}
-use native.Mathlib.Nat.{mod-lt, zero-lt-suc, pow-suc, min-le-right}
+use native.Mathlib.Nat.{mod-lt, zero-lt-suc, pow-suc, eq-or-lt-of-le}
 use lib.Arith.{mod-mul}
 use lib.Pow.{pow-pos}
-use lib.ListN.{length, getD, replicate, length-replicate, length-map}
-use borrow.Author.Tests.{lt-ltb, le-ltb, ltb-true, ltb-false}
-use lib.Dec.{ltb}
+use lib.ListN.{length, getD, set, replicate, length-replicate, length-map}
+use lib.Seq.{getD-set-same, getD-set-other}
+use borrow.Author.Tests.{lt-ltb, le-ltb}
 use Rattle.cells.specs.Places.{listOf, Each, no-more, and-each}
 use Rattle.cells.specs.Bytes.{bitOf}
+use Rattle.cells.specs.Levels.{level}
 use Rattle.cells.proofs.Places.{listOf-same}
 use Rattle.codes.specs.Generators.{Generators}
 use Rattle.codes.specs.Codes.{generatorsOf}
@@ -28,11 +34,12 @@ use Rattle.codes.specs.Layouts.{oneBit, stageCount}
 use Rattle.codes.specs.Sequences.{odd}
 use Rattle.codes.specs.Registers.{quotient}
 use Rattle.codes.specs.Numbers.{one-if}
-use Rattle.codes.specs.Taps.{wordOf, parityOf, windowOf}
+use Rattle.codes.specs.Taps.{wordOf, parityOf, windowOf, firstBit}
 use Rattle.codes.specs.Encoders.{encoderOf, Proper}
 use Rattle.codes.specs.Blocks.{labelAt}
 use Rattle.codes.proofs.Codes.{memory-bounds, proper, second-leads, two-generators}
 use Rattle.codes.proofs.Layouts.{oneBit-stages, oneBit-cells}
+use Rattle.codes.proofs.Windows.{window-byte, window-of-word, label-bound}
 use Rattle.search.specs.Best.{Solution}
 use Rattle.search.specs.Strip.{Dear, cellsOf, stepsOf}
 use Rattle.search.specs.Search.{Stage, labels, stages}
@@ -45,15 +52,17 @@ use Rattle.search.proofs.Plain.{plain-cost}
 use Rattle.search.proofs.OneBit.{Pair, pair, Both, oneBit-quotes}
 use Rattle.search.proofs.Layouts.{oneBit-sound, oneBit-write}
 use Rattle.stages.specs.Stage.{closed, top, wordsOf}
-use Rattle.stages.specs.Blocks.{rowAt, runOf, settledOf, Ran, Settled}
+use Rattle.stages.specs.Blocks.{rowAt, Ran, Settled, Kept}
 use Rattle.stages.specs.Costs.{Tells, open-at, shut, Told, open-with}
 use Rattle.stages.specs.Trails.{stagesFrom, Quoted}
-use Rattle.stages.proofs.Costs.{told-settled, told-cost}
+use Rattle.stages.proofs.Runs.{settled-le}
+use Rattle.stages.proofs.Costs.{told-settled, told-low, told-cost}
 use Rattle.stages.proofs.Trails.{run-told}
-use Rattle.trellis.specs.Rows.{Priced}
+use Rattle.trellis.specs.Rows.{Priced, pairOf, rowOf, bitsAt}
 use Rattle.trellis.specs.Ways.{encoderFor, labelFor, cellFor, stageFor, quoteFor, nextFor, stagesFor, costsFor, trailFor, blocksFor}
 use Rattle.trellis.specs.Outcomes.{toldOutcome, solutionOutcome}
 use Rattle.trellis.specs.Plans.{writeOf}
+use Rattle.trellis.proofs.Quotes.{pair-levels, row-quoted}
 
 -- what the program asks of a code and its weights: two generators that begin with 1, and weights of three bytes
 pub record Suits (G : Generators) (W : List ℕ) : Type 0 where
@@ -164,14 +173,12 @@ module _ (G : Generators) (strip content : List ℕ) where
         (ap (λ (n : ℕ). listOf n (cellFor strip)) e ∙ listOf-same (8 * L * 2) _ _ (λ i h. ap (cellFor strip) (f i)))
         ∙ stages-from 0 (8 * L))
 
--- THE COST of state 0 before the first stage is the write's
-cost-start : (G : Generators) (W : List ℕ) → Suits G W → Dear (stepsOf W) → (strip content : List ℕ)
-    → costsFor G W (blocksFor G strip content (length content) 0) 0 ≡ solutionCost (writeOf G W strip content)
+-- THE COST of state 0 before the first stage of L blocks is the write's
+pub cost-start : (G : Generators) (W : List ℕ) → Suits G W → Dear (stepsOf W) → (L : ℕ) (strip content : List ℕ)
+    → costsFor G W (stagesFor G strip content 0 (8 * L)) 0 ≡ solutionCost (rewriteOf oneBit G W L strip unmarked content)
 unfolding stagesOf
-cost-start G W K D strip content =
-    let L : ℕ = length content in
-    let z : L - 0 ≡ L = omega arith in
-    rw (z, ← (stages-are G strip content (K .both) L))
+cost-start G W K D L strip content =
+    rw (← (stages-are G strip content (K .both) L))
     (plain-cost (encoderFor G) (parity-choice (stepsOf W)) (wordsOf G) (oneBitPrices (stepsOf W)) Pair
     (oneBit-quotes (G .memory) G (K .both) (stepsOf W))
     (dataBits oneBit content) 2 (stageCount oneBit L) (stripCells oneBit L strip unmarked)
@@ -213,7 +220,7 @@ module _ (G : Generators) (rows strip content : List ℕ) where
       }
 
   -- A TURN goes from before block q + 1 to before block q, by the numbers before the block and after it is settled
-  module _ (K : Proper G) {q before picks : ℕ} {numbers ran : List ℕ} (most : n ≤ 64) (inside : q < n)
+  module _ (K : Proper G) (q picks : ℕ) {before : ℕ} {numbers ran : List ℕ} (most : n ≤ 64) (inside : q < n)
       (h : Reached G rows strip content (q + 1) before numbers)
       (quoted : (W : List ℕ) → Priced W rows → (i : ℕ) → i < 8
       → Quoted 510 rows (rowAt picks i) (quoteFor W (stageFor G strip content (8 * q + i))))
@@ -236,15 +243,6 @@ module _ (G : Generators) (rows strip content : List ℕ) where
         (next-zero G (K .some-memory)) (next-one G (K .some-memory)) 510 (510 * later) (8 * q) later (stageFor G strip content) rows picks
         (λ i. getD numbers i 0) (quoted W P) (rw f at (h .told W P)) room 8 (omega arith) s l))
 
-    -- settled numbers are cut off
-    settled-cut : {settled : List ℕ} → Settled (2 ^ G .memory) ran settled → (i : ℕ) → getD settled i 0 ≤ top
-    unfolding settledOf
-    settled-cut {settled} t i = go (ltb i (2 ^ G .memory)) refl
-      where
-        go : (b : Bool) → ltb i (2 ^ G .memory) ≡ b → getD settled i 0 ≤ top
-        go true z = omega (arith, t .states i (ltb-true _ _ z), min-le-right (getD ran i 0 / 256 * 256) top)
-        go false z = omega (arith, t .others i (ltb-false _ _ z), r .others i (ltb-false _ _ z), h .cut i)
-
     -- and once they are settled the turn is done
     pub reached-more : {earlier : ℕ} {settled : List ℕ} → earlier ≡ windowOf 8 (labelAt G content) (8 * q) → Settled (2 ^ G .memory) ran settled
         → Reached G rows strip content q earlier settled
@@ -252,7 +250,7 @@ module _ (G : Generators) (rows strip content : List ℕ) where
       within = omega arith;
       labels-are = e;
       long = t .long;
-      cut = settled-cut t;
+      cut = settled-le t (λ i l. omega (arith, r .others i l, h .cut i));
       told = λ W P s l.
           subst (λ (v : ℕ). Told 256 closed (510 * (8 * (n - q))) 0 v (costsFor G W (blocksFor G strip content n q) s) 0)
           (sym (t .states s l)) (told-settled (omega arith) (omega arith) (block-told W P s l));
@@ -269,5 +267,63 @@ pub reached-first : {G : Generators} {rows strip content : List ℕ} {before : �
     → Reached G rows strip content 0 before numbers → (W : List ℕ) → Suits G W → Priced W rows
     → toldOutcome (getD numbers 0 0 / 256) ≡ solutionOutcome (writeOf G W strip content)
 reached-first {G} {rows} {strip} {content} {before} {numbers} most h W K P =
-    outcome-told (510 * (8 * (length content - 0))) (getD numbers 0 0 / 256) (writeOf G W strip content) (omega arith)
-    (rw (cost-start G W K (P .dear) strip content) at (told-cost (h .told W P 0 (pow-pos (G .memory)))))
+    let z : length content - 0 ≡ length content = omega arith in
+    outcome-told (510 * (8 * length content)) (getD numbers 0 0 / 256) (writeOf G W strip content) (omega arith)
+    (rw (z, cost-start G W K (P .dear) (length content) strip content) at (told-cost (h .told W P 0 (pow-pos (G .memory)))))
+
+-- THE ROWS of block q, by its labels and its bits, tell the prices of its stages
+pub block-quoted : (G : Generators) {rows strip content numbers : List ℕ} (q picks : ℕ) {before bits : ℕ} → ((k : ℕ) → getD strip k 0 < 256)
+    → Reached G rows strip content (q + 1) before numbers → bits ≡ bitsAt strip q
+    → ((i : ℕ) → i < 8 → rowAt picks i ≡ rowOf bits before i) → (W : List ℕ) → Priced W rows → (i : ℕ) → i < 8
+    → Quoted 510 rows (rowAt picks i) (quoteFor W (stageFor G strip content (8 * q + i)))
+block-quoted G {rows} {strip} {content} {numbers} q picks {before} {bits} octets h e p W P i l =
+    let z : 8 * q + (7 - (7 - i)) ≡ 8 * q + i = omega arith in
+    let m : 7 - i < 8 = omega arith in
+    row-quoted W rows P strip octets G content q i before picks l (p i l ∙ ap (λ (b : ℕ). rowOf b before i) e)
+    (ap (λ (w : ℕ). w / 2 ^ (7 - i) % 2) (h .labels-are) ∙ window-byte (labelAt G content) (label-bound G content) q (7 - i) m
+    ∙ ap (labelAt G content) z ∙ label-told G content (8 * q + i))
+
+-- THE HISTORY has the trails of the blocks from q on
+pub record TracedFrom (G : Generators) (rows strip content history : List ℕ) (q : ℕ) : Type 0 where
+  pub long : length history ≡ 4096
+  pub kept : (W : List ℕ) → Priced W rows → (k : ℕ) → q ≤ k → k < length content → (s : ℕ) → s < 2 ^ G .memory
+      → (costsFor G W (blocksFor G strip content (length content) k) s ≡ none → ⊥)
+      → getD history (64 * k + s) 0 ≡ trailFor G W 8 (blocksFor G strip content (length content) k) s
+
+-- one block more, whose numbers tell its trails
+pub traced-more : (G : Generators) {rows strip content history history′ ran : List ℕ} {m : ℕ} (q : ℕ) → 2 ^ G .memory ≤ 64
+    → TracedFrom G rows strip content history (q + 1) → Kept (2 ^ G .memory) q ran history history′
+    → ((W : List ℕ) → Priced W rows → (s : ℕ) → s < 2 ^ G .memory → Told 256 closed m 8 (getD ran s 0)
+    (costsFor G W (blocksFor G strip content (length content) q) s) (trailFor G W 8 (blocksFor G strip content (length content) q) s))
+    → TracedFrom G rows strip content history′ q
+traced-more G {rows} {strip} {content} {history} {history′} {ran} q fits t k told = record {
+  long = k .long;
+  kept = λ W P j h l s b some-cost. ⊎-elim
+      (λ (e : q ≡ j). rw (← e) (k .here s b ∙ told-low (told W P s b) (rw e some-cost)))
+      (λ (e : q < j). k .after (64 * j + s) (omega arith) ∙ t .kept W P j (omega arith) l s b some-cost)
+      (eq-or-lt-of-le h);
+}
+
+-- THE LOWS. The row of a stage is odd where its first cell shows a one
+pub block-lows : (strip : List ℕ) (q picks before : ℕ) {bits r : ℕ} → ((k : ℕ) → getD strip k 0 < 256) → bits ≡ bitsAt strip q
+    → ((i : ℕ) → i < 8 → rowAt picks i ≡ rowOf bits before i) → r ≡ windowOf 8 (λ i. picks / 2 ^ (8 * i) % 2) 8
+    → r ≡ windowOf 8 (firstBit (level strip)) (8 * (q + 1))
+unfolding rowAt rowOf firstBit
+block-lows strip q picks before octets e p f =
+    f ∙ window-of-word picks 8 (firstBit (level strip)) (λ t. mod-lt _ (zero-lt-suc 1)) q
+    (λ i l.
+    let a = pair-levels strip octets q i l in
+    let b : picks / 2 ^ (8 * i) % 32 ≡ pairOf (bitsAt strip q / 2 ^ (6 * i) % 64) + before / 2 ^ (7 - i) % 2 * 16 =
+    p i l ∙ ap (λ (x : ℕ). pairOf (x / 2 ^ (6 * i) % 64) + before / 2 ^ (7 - i) % 2 * 16) e in
+    even-row (picks / 2 ^ (8 * i)) _ _ _ (before / 2 ^ (7 - i) % 2) b a)
+  where
+    even-row : (x levels first second label : ℕ) → x % 32 ≡ levels + label * 16 → levels ≡ first + 4 * second → x % 2 ≡ first % 2
+    even-row x levels first second label h k = omega arith
+
+-- STORES. A loop that stores f k at each place k from the last back has stored one more
+pub store-back : (r : List ℕ) (n u x : ℕ) (f : ℕ → ℕ) → u < length r → x ≡ f u → ((k : ℕ) → suc u ≤ k → k < n → getD r k 0 ≡ f k)
+    → (k : ℕ) → u ≤ k → k < n → getD (set r u x) k 0 ≡ f k
+store-back r n u x f h e p k l m = ⊎-elim
+    (λ (z : u ≡ k). rw (← z) (getD-set-same r u x 0 h ∙ e))
+    (λ (z : u < k). getD-set-other r u k x 0 (λ y. omega arith) ∙ p k z m)
+    (eq-or-lt-of-le l)

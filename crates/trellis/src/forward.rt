@@ -13,6 +13,13 @@ ghost use Rattle.trellis.specs.Ways.{Shaped, Followed};
 ghost use Rattle.trellis.specs.Outcomes.{solutionOutcome};
 ghost use Rattle.trellis.specs.Plans.{writeOf, Plans};
 
+// A byte as a wider number.
+fn wide(x: u8) -> u32
+    ensures { λ r. ⌜ (r ≡ x) × (r < 256) ⌝ }
+{
+    x as u32
+}
+
 // Follows the way that the states keep, from state 0: the trail of eight stages and the bits that the first cells show give the first code
 // bits, and these, divided by the first generator, the digits.
 fn follow(code: Code, lows: &[u8; 64], history: &[u8; 4096], digits: &mut [u8])
@@ -25,8 +32,9 @@ fn follow(code: Code, lows: &[u8; 64], history: &[u8; 4096], digits: &mut [u8])
     let mut before: u32 = 0;
     let mut q: usize = 0;
     while q < digits.len() {
-        let trail = history[64 * q + before as usize % states] as u32;
-        before = code.divide(before, trail ^ (lows[q] as u32));
+        let trail = wide(history[64 * q + before as usize % states]);
+        let low = wide(lows[q]);
+        before = code.divide(before, trail ^ low);
         digits[q] = before as u8;
         q += 1;
     }

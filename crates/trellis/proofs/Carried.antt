@@ -1,0 +1,461 @@
+-- CARRYING THE DIGITS OUT: what the table of pairs shows, the bits of a block by it, and the strip after one block more.
+--   shown-less     what is shown of a cell is three bits
+--   shows-all      256 numbers that are the pairs of two cells are their table
+--   shown-fits     the bits of a block fit 48 bits
+--   shown-more     the bits of one stage more, as the code adds them
+--   carriedBelow   the levels to reach where the cells before cell m are carried out
+--   carried-none   before the first cell the strip is as it was
+--   carried-block  one block more is carried out where its 48 bits are those that the table shows
+--   carried-all    past the last cell all are carried out
+--   digits-window                the window of eight digits is their byte
+--   block-first, block-second    what the digits of a block want of its cells
+use mathlib.Core.Path.{_≡_, refl, sym, _∙_, ap, ap₂}
+use mathlib.Core.Logic.{⊎-elim}
+use mathlib.Core.Bool.{Bool, cond}
+use mathlib.Core.List.{List, [], _∷_}
+use Prim.Native.Nat.{ℕ, zero, suc, _+_, _*_, _-_, _/_, _%_, _^_, _<_, _≤_}
+use native.Mathlib.Omega.{arith, ne-cases}
+use native.Mathlib.Nat.{mod-lt, zero-lt-suc}
+use lib.Dec.{ltb}
+use lib.Bits.{bitXor}
+use lib.ListN.{length, getD, set, List·getD-eq-default}
+use lib.Pow.{pow-mono, shr-shr, shl-exact}
+use lib.Seq.{ext-getD}
+use borrow.Author.Tests.{lt-ltb, le-ltb}
+use Rattle.cells.specs.Places.{number}
+use Rattle.cells.specs.Bytes.{bitOf, bytesOf}
+use Rattle.cells.specs.Levels.{level}
+use Rattle.cells.specs.Raising.{startOf, zeroFrom, raise, raisedTimes, triple, raisedTo}
+use Rattle.cells.proofs.Places.{same?, listOf-at, number-same, number-less}
+use Rattle.cells.proofs.Bytes.{number-bit}
+use Rattle.cells.proofs.Raising.{raisedTo-length, raisedTo-same, raisedTo-none}
+use Rattle.codes.specs.Generators.{Generators, g2}
+use Rattle.codes.specs.Taps.{tapsOf, parityOf, windowOf}
+use Rattle.codes.specs.Blocks.{labelAt}
+use Rattle.codes.proofs.Taps.{window-less}
+use Rattle.codes.proofs.Divisions.{xor-bit}
+use Rattle.codes.proofs.Windows.{window-byte, window-parity, label-bound}
+use Rattle.trellis.specs.Rows.{onesOf, bitsAt}
+use Rattle.trellis.specs.Carrying.{digitIn, wantedFirst, wantedSecond, wantedOf, carriedTo}
+use Rattle.trellis.specs.Carrying.{shownCell, shownPair, Shows, shownBits, byteIn, withBits}
+use Rattle.trellis.proofs.Digits.{low-bit, byte-number, packed, packed-less, packed-bit}
+use Rattle.trellis.proofs.Digits.{stored, length-stored, stored-at, stored-other}
+
+-- CELLS. A place of some bits set to 1 leaves bits
+set-bits : (l : List ℕ) (k : ℕ) → ((i : ℕ) → getD l i 0 < 2) → (i : ℕ) → getD (set l k 1) i 0 < 2
+set-bits [] k b i = b i
+set-bits (x ∷ l) zero b zero = omega arith
+set-bits (x ∷ l) zero b (suc i) = b (suc i)
+set-bits (x ∷ l) (suc k) b zero = b zero
+set-bits (x ∷ l) (suc k) b (suc i) = set-bits l k (λ i. b (suc i)) i
+
+-- and so do raises
+raised-bits : (s n : ℕ) (l : List ℕ) → ((i : ℕ) → getD l i 0 < 2) → (i : ℕ) → getD (raisedTimes s n l) i 0 < 2
+unfolding raisedTimes raise
+raised-bits s zero l b = b
+raised-bits s (suc n) l b = set-bits (raisedTimes s n l) (zeroFrom s (raisedTimes s n l)) (raised-bits s n l b)
+
+-- the three bits of a number
+abbrev three : ℕ → List ℕ
+three x = x % 2 ∷ x / 2 % 2 ∷ x / 4 % 2 ∷ []
+
+-- are bits
+three-bits : (x i : ℕ) → getD (three x) i 0 < 2
+three-bits x zero = mod-lt _ (zero-lt-suc 1)
+three-bits x (suc zero) = mod-lt _ (zero-lt-suc 1)
+three-bits x (suc (suc zero)) = mod-lt _ (zero-lt-suc 1)
+three-bits x (suc (suc (suc i))) = omega arith
+
+module _ (s x v : ℕ) where
+  -- a cell that is to show a bit is left with bits
+  shown-raised-bits : (i : ℕ) → getD (raisedTimes s ((onesOf x + v) % 2) (three x)) i 0 < 2
+  shown-raised-bits = raised-bits s ((onesOf x + v) % 2) (three x) (three-bits x)
+
+  -- what is shown is three bits
+  pub shown-less : shownCell s x v < 8
+  unfolding shownCell
+  shown-less = number-less 3 _ shown-raised-bits
+
+  -- those of the cell raised
+  shown-bit : (r : ℕ) → r < 3 → shownCell s x v / 2 ^ r % 2 ≡ getD (raisedTimes s ((onesOf x + v) % 2) (three x)) r 0
+  unfolding shownCell
+  shown-bit r h = number-bit 3 _ (λ i l. shown-raised-bits i) r h
+
+-- PAIRS of three bits, as one number: the bits of the first
+first-bit : (a b r : ℕ) → a < 8 → r < 3 → (a + 8 * b) / 2 ^ r % 2 ≡ a / 2 ^ r % 2
+first-bit a b r l h =
+    let e : (a + 8 * b) % 8 ≡ a = omega arith in
+    sym (low-bit (a + 8 * b) 3 r h) ∙ ap (λ (y : ℕ). y / 2 ^ r % 2) e
+
+-- and of the second
+second-bit : (a b r : ℕ) → a < 8 → (a + 8 * b) / 2 ^ (3 + r) % 2 ≡ b / 2 ^ r % 2
+second-bit a b r l =
+    let e : (a + 8 * b) / 8 ≡ b = omega arith in
+    ap (λ (y : ℕ). y % 2) (sym (shr-shr (a + 8 * b) 3 r) ∙ ap (λ (y : ℕ). y / 2 ^ r) e)
+
+-- what is shown of two cells is six bits
+pair-less : (first second k : ℕ) → shownPair first second k < 64
+unfolding shownPair
+pair-less first second k = omega (arith, shown-less first (k % 8) (k / 64 % 2), shown-less second (k / 8 % 8) (k / 128))
+
+-- the pair of cells x that are to show the bits v and w
+pair-of : (first second x v w : ℕ) → x < 64 → v < 2 → w < 2
+    → shownPair first second (x + 64 * (v + 2 * w)) ≡ shownCell first (x % 8) v + 8 * shownCell second (x / 8) w
+unfolding shownPair
+pair-of first second x v w h k l =
+    let place = x + 64 * (v + 2 * w) in
+    let a : place % 8 ≡ x % 8 = omega arith in
+    let b : place / 8 ≡ x / 8 + 8 * (v + 2 * w) = omega arith in
+    let c : place / 64 ≡ v + 2 * w = omega arith in
+    let b′ : place / 8 % 8 ≡ x / 8 = ap (λ (y : ℕ). y % 8) b ∙ omega arith in
+    let c′ : place / 64 % 2 ≡ v = ap (λ (y : ℕ). y % 2) c ∙ omega arith in
+    let d : place / 128 ≡ w = omega arith in
+    rw (a, b′, c′, d)
+
+-- 256 numbers that are the pairs are the table of them
+pub shows-all : (first second : ℕ) (pairs : List ℕ) → length pairs ≡ 256 → ((k : ℕ) → k < 256 → getD pairs k 0 ≡ shownPair first second k)
+    → Shows first second pairs
+shows-all first second pairs e p = record {
+  at = p;
+  less = λ k. ⊎-elim
+      (λ h. rw (p k (omega arith)) (pair-less first second k))
+      (λ h. rw (List·getD-eq-default pairs 0 {n = k} (omega arith)) (omega arith))
+      (same? (k / 256) 0);
+}
+
+-- A BLOCK. The place in the table of the pair of stage i
+abbrev placeIn : (bits first second i : ℕ) → ℕ
+placeIn bits first second i = bits / 2 ^ (6 * i) % 64 + 64 * (first / 2 ^ (7 - i) % 2 + 2 * (second / 2 ^ (7 - i) % 2))
+
+module _ (pairs : List ℕ) (less : (k : ℕ) → getD pairs k 0 < 64) (bits first second : ℕ) where
+  -- its bits are digits of six bits
+  shown-packed : (n : ℕ) → shownBits pairs bits first second n ≡ packed 6 (λ i. getD pairs (placeIn bits first second i) 0) n
+  unfolding shownBits packed
+  shown-packed zero = refl
+  shown-packed (suc n) = ap (λ (x : ℕ). x + getD pairs (placeIn bits first second n) 0 * 2 ^ (6 * n)) (shown-packed n)
+
+  -- 48 bits at most
+  pub shown-fits : (n : ℕ) → n ≤ 8 → shownBits pairs bits first second n < 2 ^ 48
+  shown-fits n h =
+      let l : 6 * n ≤ 48 = omega arith in
+      rw (shown-packed n) (omega (arith, packed-less 6 _ (λ i. less (placeIn bits first second i)) n, pow-mono l))
+
+  -- one stage more
+  pub shown-more : (i out : ℕ) → i < 8 → out ≡ shownBits pairs bits first second i
+      → out + (getD pairs (placeIn bits first second i) 0 * 2 ^ (6 * i)) % 2 ^ 64 ≡ shownBits pairs bits first second (i + 1)
+  unfolding shownBits
+  shown-more i out h e =
+      let s : suc i ≡ i + 1 = omega arith in
+      ap₂ _+_ e (shl-exact 6 (6 * i) 64 (less (placeIn bits first second i)) (omega arith)) ∙ ap (shownBits pairs bits first second) s
+
+  -- bit r of stage i
+  shown-stage : (i r : ℕ) → i < 8 → r < 6
+      → shownBits pairs bits first second 8 / 2 ^ (6 * i + r) % 2 ≡ getD pairs (placeIn bits first second i) 0 / 2 ^ r % 2
+  shown-stage i r h l =
+      ap (λ (x : ℕ). x / 2 ^ (6 * i + r) % 2) (shown-packed 8)
+      ∙ packed-bit 6 _ (λ j. less (placeIn bits first second j)) 8 i r h l
+
+-- A CELL by a number whose three bits are its own
+module _ (strip : List ℕ) (c x : ℕ) (bits : (r : ℕ) → r < 3 → x / 2 ^ r % 2 ≡ bitOf strip (3 * c + r)) where
+  -- the same three bits
+  cell-three : three x ≡ triple strip c
+  unfolding triple
+  cell-three =
+      let z : x / 1 ≡ x = omega arith in
+      let y : 3 * c + 0 ≡ 3 * c = omega arith in
+      let a : x % 2 ≡ bitOf strip (3 * c) = ap (λ (k : ℕ). k % 2) (sym z) ∙ bits 0 (omega arith) ∙ ap (bitOf strip) y in
+      let b : x / 2 % 2 ≡ bitOf strip (3 * c + 1) = bits 1 (omega arith) in
+      let d : x / 4 % 2 ≡ bitOf strip (3 * c + 2) = bits 2 (omega arith) in
+      cc
+
+  -- as many ones as the cell's level
+  cell-ones : onesOf x ≡ level strip c
+  unfolding onesOf level triple
+  cell-ones = ap (λ (l : List ℕ). getD l 0 0 + getD l 1 0 + getD l 2 0) cell-three
+
+  -- and where it is to show v, its bits are those of the cell raised to the level `to`
+  cell-shown : (s v to r : ℕ) → r < 3 → to ≡ level strip c + (level strip c + v) % 2
+      → shownCell s x v / 2 ^ r % 2 ≡ getD (raisedTimes s (to - level strip c) (triple strip c)) r 0
+  cell-shown s v to r h e =
+      let d : (level strip c + v) % 2 ≡ to - level strip c = omega arith in
+      shown-bit s x v r h
+      ∙ ap₂ (λ (n : ℕ) (l : List ℕ). getD (raisedTimes s n l) r 0) (ap (λ (k : ℕ). (k + v) % 2) cell-ones ∙ d) cell-three
+
+-- A STRIP RAISED. Its bit k
+abbrev raisedBit : List ℕ → (ℕ → ℕ) → ℕ → ℕ
+raisedBit strip to k = getD (raisedTimes (startOf (k / 3)) (to (k / 3) - level strip (k / 3)) (triple strip (k / 3))) (k % 3) 0
+
+module _ (strip : List ℕ) where
+  -- bit r of cell c
+  raised-at : (to : ℕ → ℕ) (c r : ℕ) → r < 3
+      → raisedBit strip to (3 * c + r) ≡ getD (raisedTimes (startOf c) (to c - level strip c) (triple strip c)) r 0
+  raised-at to c r h =
+      let x : (3 * c + r) / 3 ≡ c = omega arith in
+      let y : (3 * c + r) % 3 ≡ r = omega arith in
+      ap₂ (λ (d j : ℕ). getD (raisedTimes (startOf d) (to d - level strip d) (triple strip d)) j 0) x y
+
+  -- its byte i
+  raised-byte : (to : ℕ → ℕ) (i : ℕ) → i < length strip
+      → getD (raisedTo startOf strip to) i 0 ≡ number 8 (λ e. raisedBit strip to (8 * i + e))
+  unfolding raisedTo bytesOf
+  raised-byte to i h = listOf-at (length strip) _ i 0 h
+
+  -- which depends on the levels of its own cells alone
+  raised-byte-same : (to to′ : ℕ → ℕ) (i : ℕ) → i < length strip → ((c : ℕ) → 8 * i ≤ 3 * c + 2 → 3 * c ≤ 8 * i + 7 → to c ≡ to′ c)
+      → getD (raisedTo startOf strip to) i 0 ≡ getD (raisedTo startOf strip to′) i 0
+  raised-byte-same to to′ i h e =
+      raised-byte to i h
+      ∙ number-same 8 _ _ (λ j l.
+      let k = 8 * i + j in
+      ap (λ (n : ℕ). getD (raisedTimes (startOf (k / 3)) (n - level strip (k / 3)) (triple strip (k / 3))) (k % 3) 0)
+      (e (k / 3) (omega arith) (omega arith)))
+      ∙ sym (raised-byte to′ i h)
+
+-- A STRIP WITH 48 BITS in block q has six bytes stored there
+with-stored : (strip : List ℕ) (q bits : ℕ) → withBits strip q bits ≡ stored strip (6 * q) (byteIn bits) 6
+unfolding withBits stored
+with-stored strip q bits = let e : 6 * q + 0 ≡ 6 * q = omega arith in rw e
+
+-- THE STARTS of the two cells of a stage are those of the first two cells
+starts : (t : ℕ) → (startOf 0 ≡ startOf (2 * t)) × (startOf 1 ≡ startOf (2 * t + 1))
+unfolding startOf
+starts t = (refl, refl)
+
+-- CARRYING OUT the digits u
+module _ (G : Generators) (strip content : List ℕ) (u : ℕ → ℕ) where
+  -- the level of each cell where those before cell m are carried out
+  unfoldable pub carriedBelow : ℕ → ℕ → ℕ
+  carriedBelow m c = cond (ltb c m) (carriedTo G strip content u c) (level strip c)
+
+  -- a cell before cell m
+  below-done : (m c : ℕ) → c < m → carriedBelow m c ≡ carriedTo G strip content u c
+  unfolding carriedBelow
+  below-done m c h = ap (λ (b : Bool). cond b (carriedTo G strip content u c) (level strip c)) (lt-ltb _ _ h)
+
+  -- a cell from cell m on
+  below-left : (m c : ℕ) → m ≤ c → carriedBelow m c ≡ level strip c
+  unfolding carriedBelow
+  below-left m c h = ap (λ (b : Bool). cond b (carriedTo G strip content u c) (level strip c)) (le-ltb _ _ h)
+
+  -- before the first cell the strip is as it was
+  pub carried-none : ((i : ℕ) → getD strip i 0 < 256) → strip ≡ raisedTo startOf strip (carriedBelow 0)
+  carried-none bytes =
+      sym (raisedTo-same startOf strip (carriedBelow 0) (level strip) (λ c h. below-left 0 c (omega arith))
+      ∙ raisedTo-none startOf strip (record { below = λ i k. bytes i }))
+
+  -- past the last cell all are carried out
+  pub carried-all : (m : ℕ) → 8 * length strip ≤ 3 * m
+      → raisedTo startOf strip (carriedBelow m) ≡ raisedTo startOf strip (carriedTo G strip content u)
+  carried-all m h = raisedTo-same startOf strip (carriedBelow m) _ (λ c l. below-done m c (omega arith))
+
+  -- the bit that is wanted of the first cell of stage t
+  wanted-even : (t : ℕ) → wantedOf G content u (2 * t) ≡ wantedFirst G u t
+  unfolding wantedOf
+  wanted-even t =
+      let x : (2 * t) % 2 ≡ 0 = omega arith in
+      let y : (2 * t) / 2 ≡ t = omega arith in
+      rw (x, y)
+
+  -- and of the second
+  wanted-odd : (t : ℕ) → wantedOf G content u (2 * t + 1) ≡ wantedSecond G content u t
+  unfolding wantedOf
+  wanted-odd t =
+      let x : (2 * t + 1) % 2 ≡ 1 = omega arith in
+      let y : (2 * t + 1) / 2 ≡ t = omega arith in
+      rw (x, y)
+
+  -- a cell before cell m of which the bit v is wanted
+  below-wanted : (m c v : ℕ) → c < m → v ≡ wantedOf G content u c → carriedBelow m c ≡ level strip c + (level strip c + v) % 2
+  unfolding carriedTo
+  below-wanted m c v h e = below-done m c h ∙ ap (λ (w : ℕ). level strip c + (level strip c + w) % 2) (sym e)
+
+  -- the bytes of block q are those of the strip where the cells before it are carried out
+  left-byte : (q j : ℕ) → 6 * q + j < length strip → ((i : ℕ) → getD strip i 0 < 256)
+      → getD (raisedTo startOf strip (carriedBelow (16 * q))) (6 * q + j) 0 ≡ getD strip (6 * q + j) 0
+  left-byte q j h bytes =
+      raised-byte-same strip (carriedBelow (16 * q)) (level strip) (6 * q + j) h (λ c k l. below-left (16 * q) c (omega arith))
+      ∙ ap (λ (l : List ℕ). getD l (6 * q + j) 0) (raisedTo-none startOf strip (record { below = λ i k. bytes i }))
+
+  -- and so are its 48 bits
+  left-bits : (q : ℕ) → 6 * q + 6 ≤ length strip → ((i : ℕ) → getD strip i 0 < 256)
+      → bitsAt (raisedTo startOf strip (carriedBelow (16 * q))) q ≡ bitsAt strip q
+  unfolding bitsAt
+  left-bits q h bytes =
+      let z : 6 * q ≡ 6 * q + 0 = omega arith in
+      let first : getD (raisedTo startOf strip (carriedBelow (16 * q))) (6 * q) 0 ≡ getD strip (6 * q) 0 =
+      rw z (left-byte q 0 (omega arith) bytes) in
+      rw (
+        first,
+        left-byte q 1 (omega arith) bytes,
+        left-byte q 2 (omega arith) bytes,
+        left-byte q 3 (omega arith) bytes,
+        left-byte q 4 (omega arith) bytes,
+        left-byte q 5 (omega arith) bytes,
+      )
+
+  -- a cell of a byte i that is not in block q has the same level to reach after the block
+  below-other : (q i c : ℕ) → (i / 6 ≡ q → ⊥) → 8 * i ≤ 3 * c + 2 → 3 * c ≤ 8 * i + 7
+      → carriedBelow (16 * q) c ≡ carriedBelow (16 * (q + 1)) c
+  below-other q i c n h k =
+      ne-cases (i / 6) q (carriedBelow (16 * q) c ≡ carriedBelow (16 * (q + 1)) c) n
+      (λ l. below-done (16 * q) c (omega arith) ∙ sym (below-done (16 * (q + 1)) c (omega arith)))
+      (λ l. below-left (16 * q) c (omega arith) ∙ sym (below-left (16 * (q + 1)) c (omega arith)))
+
+  -- bit r of a cell before cell m, of which the bit v is wanted, by a number whose three bits are its own
+  cell-carried : (m c x v r : ℕ) → c < m → r < 3 → v ≡ wantedOf G content u c
+      → ((e : ℕ) → e < 3 → x / 2 ^ e % 2 ≡ bitOf strip (3 * c + e))
+      → shownCell (startOf c) x v / 2 ^ r % 2 ≡ raisedBit strip (carriedBelow m) (3 * c + r)
+  cell-carried m c x v r h l w bits =
+      cell-shown strip c x bits (startOf c) v (carriedBelow m c) r l (below-wanted m c v h w)
+      ∙ sym (raised-at strip (carriedBelow m) c r l)
+
+  -- BLOCK q, by the table and the bits that are wanted. `six` is the law `six-bit` of the rows, at this strip and block
+  module _ (q : ℕ) (pairs : List ℕ) (first second : ℕ) (shows : Shows (startOf 0) (startOf 1) pairs)
+      (six : (i r : ℕ) → i < 8 → r < 6 → bitsAt strip q / 2 ^ (6 * i) % 64 / 2 ^ r % 2 ≡ bitOf strip (48 * q + (6 * i + r)))
+      (wants-first : (i : ℕ) → i < 8 → first / 2 ^ (7 - i) % 2 ≡ wantedFirst G u (8 * q + i))
+      (wants-second : (i : ℕ) → i < 8 → second / 2 ^ (7 - i) % 2 ≡ wantedSecond G content u (8 * q + i)) where
+    -- the two cells of stage i
+    stage-pair : (i : ℕ) → getD pairs (placeIn (bitsAt strip q) first second i) 0
+        ≡ shownCell (startOf (2 * (8 * q + i))) (bitsAt strip q / 2 ^ (6 * i) % 64 % 8) (first / 2 ^ (7 - i) % 2)
+        + 8 * shownCell (startOf (2 * (8 * q + i) + 1)) (bitsAt strip q / 2 ^ (6 * i) % 64 / 8) (second / 2 ^ (7 - i) % 2)
+    stage-pair i =
+        let x = bitsAt strip q / 2 ^ (6 * i) % 64 in
+        let v = first / 2 ^ (7 - i) % 2 in
+        let w = second / 2 ^ (7 - i) % 2 in
+        let x-less : x < 64 = mod-lt _ (zero-lt-suc 63) in
+        let v-less : v < 2 = mod-lt _ (zero-lt-suc 1) in
+        let w-less : w < 2 = mod-lt _ (zero-lt-suc 1) in
+        shows .at (x + 64 * (v + 2 * w)) (omega arith)
+        ∙ pair-of (startOf 0) (startOf 1) x v w x-less v-less w-less
+        ∙ ap₂ (λ (a b : ℕ). shownCell a (x % 8) v + 8 * shownCell b (x / 8) w) (starts (8 * q + i) .0) (starts (8 * q + i) .1)
+
+    -- bit r of the first
+    stage-first : (i r : ℕ) → i < 8 → r < 3 → getD pairs (placeIn (bitsAt strip q) first second i) 0 / 2 ^ r % 2
+        ≡ raisedBit strip (carriedBelow (16 * (q + 1))) (48 * q + (6 * i + r))
+    stage-first i r h l =
+        let c = 2 * (8 * q + i) in
+        let x = bitsAt strip q / 2 ^ (6 * i) % 64 in
+        let k : 3 * c + r ≡ 48 * q + (6 * i + r) = omega arith in
+        ap (λ (y : ℕ). y / 2 ^ r % 2) (stage-pair i)
+        ∙ first-bit _ _ r (shown-less (startOf c) (x % 8) (first / 2 ^ (7 - i) % 2)) l
+        ∙ cell-carried (16 * (q + 1)) c (x % 8) _ r (omega arith) l (wants-first i h ∙ sym (wanted-even (8 * q + i)))
+        (λ e m. low-bit x 3 e m ∙ six i e h (omega arith) ∙ ap (bitOf strip) (omega arith))
+        ∙ ap (raisedBit strip (carriedBelow (16 * (q + 1)))) k
+
+    -- and of the second
+    stage-second : (i r : ℕ) → i < 8 → r < 3 → getD pairs (placeIn (bitsAt strip q) first second i) 0 / 2 ^ (3 + r) % 2
+        ≡ raisedBit strip (carriedBelow (16 * (q + 1))) (48 * q + (6 * i + (3 + r)))
+    stage-second i r h l =
+        let c = 2 * (8 * q + i) in
+        let x = bitsAt strip q / 2 ^ (6 * i) % 64 in
+        let k : 3 * (c + 1) + r ≡ 48 * q + (6 * i + (3 + r)) = omega arith in
+        ap (λ (y : ℕ). y / 2 ^ (3 + r) % 2) (stage-pair i)
+        ∙ second-bit _ _ r (shown-less (startOf c) (x % 8) (first / 2 ^ (7 - i) % 2))
+        ∙ cell-carried (16 * (q + 1)) (c + 1) (x / 8) _ r (omega arith) l (wants-second i h ∙ sym (wanted-odd (8 * q + i)))
+        (λ e m. ap (λ (y : ℕ). y % 2) (shr-shr x 3 e) ∙ six i (3 + e) h (omega arith) ∙ ap (bitOf strip) (omega arith))
+        ∙ ap (raisedBit strip (carriedBelow (16 * (q + 1)))) k
+
+    -- bit m of the block
+    block-bit : (m : ℕ) → m < 48 → shownBits pairs (bitsAt strip q) first second 8 / 2 ^ m % 2
+        ≡ raisedBit strip (carriedBelow (16 * (q + 1))) (48 * q + m)
+    block-bit m h =
+        let i = m / 6 in
+        let r = m % 6 in
+        let e : m ≡ 6 * i + r = omega arith in
+        ap (λ (k : ℕ). shownBits pairs (bitsAt strip q) first second 8 / 2 ^ k % 2) e
+        ∙ shown-stage pairs (shows .less) (bitsAt strip q) first second i r (omega arith) (omega arith)
+        ∙ ⊎-elim
+        (λ z. stage-first i r (omega arith) (omega arith))
+        (λ z.
+        let f : r ≡ 3 + (r - 3) = omega arith in
+        rw f (stage-second i (r - 3) (omega arith) (omega arith)))
+        (same? (r / 3) 0)
+        ∙ ap (λ (k : ℕ). raisedBit strip (carriedBelow (16 * (q + 1))) (48 * q + k)) (sym e)
+
+    -- byte j of the block
+    block-byte : (j : ℕ) → j < 6 → 6 * q + j < length strip → byteIn (shownBits pairs (bitsAt strip q) first second 8) j
+        ≡ getD (raisedTo startOf strip (carriedBelow (16 * (q + 1)))) (6 * q + j) 0
+    unfolding byteIn
+    block-byte j h l =
+        let x = shownBits pairs (bitsAt strip q) first second 8 in
+        sym (byte-number (x / 2 ^ (8 * j) % 256) (mod-lt _ (zero-lt-suc 255)))
+        ∙ number-same 8 _ _ (λ e k.
+        let d : 48 * q + (8 * j + e) ≡ 8 * (6 * q + j) + e = omega arith in
+        low-bit (x / 2 ^ (8 * j)) 8 e k ∙ ap (λ (y : ℕ). y % 2) (shr-shr x (8 * j) e) ∙ block-bit (8 * j + e) (omega arith)
+        ∙ ap (raisedBit strip (carriedBelow (16 * (q + 1)))) d)
+        ∙ sym (raised-byte strip (carriedBelow (16 * (q + 1))) (6 * q + j) l)
+
+    -- one block more is carried out: the loop's turn
+    pub carried-block : (n : ℕ) (s : List ℕ) → ((i : ℕ) → getD strip i 0 < 256) → length strip ≡ 6 * n → q < n
+        → s ≡ raisedTo startOf strip (carriedBelow (16 * q))
+        → withBits s q (shownBits pairs (bitsAt s q) first second 8) ≡ raisedTo startOf strip (carriedBelow (16 * (q + 1)))
+    carried-block n s bytes size inside e =
+        let now = raisedTo startOf strip (carriedBelow (16 * q)) in
+        let next = raisedTo startOf strip (carriedBelow (16 * (q + 1))) in
+        let x = shownBits pairs (bitsAt strip q) first second 8 in
+        let now-length : length now ≡ length strip = raisedTo-length startOf strip (carriedBelow (16 * q)) in
+        let next-length : length next ≡ length strip = raisedTo-length startOf strip (carriedBelow (16 * (q + 1))) in
+        let same-length : length (stored now (6 * q) (byteIn x) 6) ≡ length next =
+        length-stored now (6 * q) (byteIn x) 6 ∙ now-length ∙ sym next-length in
+        ap₂ (λ (l : List ℕ) (b : ℕ). withBits l q (shownBits pairs b first second 8)) e
+        (ap (λ (l : List ℕ). bitsAt l q) e ∙ left-bits q (omega arith) bytes)
+        ∙ with-stored now q x
+        ∙ ext-getD 0 _ next same-length (λ i h.
+        ⊎-elim
+        (λ z.
+        let d : i ≡ 6 * q + i % 6 = omega arith in
+        ap (λ (k : ℕ). getD (stored now (6 * q) (byteIn x) 6) k 0) d
+        ∙ stored-at now (6 * q) (byteIn x) 6 (i % 6) (omega arith) (omega arith)
+        ∙ block-byte (i % 6) (omega arith) (omega arith)
+        ∙ ap (λ (k : ℕ). getD next k 0) (sym d))
+        (λ z.
+        stored-other now (6 * q) (byteIn x) 6 i (λ j k f. z (omega arith))
+        ∙ raised-byte-same strip (carriedBelow (16 * q)) (carriedBelow (16 * (q + 1))) i (omega arith) (λ c a b. below-other q i c z a b))
+        (same? (i / 6) q))
+
+-- WHAT THE DIGITS WANT, by eight stages at a time. A digit is 0 or 1
+digit-less : (digits : List ℕ) (t : ℕ) → digitIn digits t < 2
+unfolding digitIn
+digit-less digits t = mod-lt _ (zero-lt-suc 1)
+
+-- the window of eight digits is their byte
+pub digits-window : (digits : List ℕ) (q : ℕ) → getD digits q 0 < 256 → windowOf 8 (digitIn digits) (8 * (q + 1)) ≡ getD digits q 0
+unfolding digitIn
+digits-window digits q h =
+    let w : ℕ = windowOf 8 (digitIn digits) (8 * (q + 1)) in
+    sym (byte-number w (window-less 8 (digitIn digits) (8 * (q + 1))))
+    ∙ number-same 8 _ _ (λ p l.
+    let e : (8 * q + (7 - p)) / 8 ≡ q = omega arith in
+    let f : 7 - (8 * q + (7 - p)) % 8 ≡ p = omega arith in
+    window-byte (digitIn digits) (digit-less digits) q p l ∙ ap₂ (λ (k j : ℕ). getD digits k 0 / 2 ^ j % 2) e f)
+    ∙ byte-number (getD digits q 0) h
+
+module _ (G : Generators) (reach : G .memory ≤ 6) (content digits : List ℕ) (q : ℕ) (byte : getD digits q 0 < 256) {before w : ℕ}
+    (e : before ≡ windowOf 8 (digitIn digits) (8 * q)) (f : w ≡ before * 256 + getD digits q 0) where
+  -- the bits of a generator g by the window of sixteen digits
+  bits-made : (g r : ℕ) → ((p : ℕ) → r / 2 ^ p % 2 ≡ parityOf (tapsOf (G .memory) g) (w / 2 ^ p)) → (i : ℕ) → i < 8
+      → r / 2 ^ (7 - i) % 2 ≡ parityOf (tapsOf (G .memory) g) (windowOf (suc (G .memory)) (digitIn digits) (suc (8 * q + i)))
+  bits-made g r made i h =
+      let x : 8 * q + 7 - (7 - i) ≡ 8 * q + i = omega arith in
+      let y : w ≡ windowOf 8 (digitIn digits) (8 * q) * 256 + windowOf 8 (digitIn digits) (8 * (q + 1)) =
+      f ∙ ap₂ (λ (a b : ℕ). a * 256 + b) e (sym (digits-window digits q byte)) in
+      made (7 - i) ∙ ap (λ (z : ℕ). parityOf (tapsOf (G .memory) g) (z / 2 ^ (7 - i))) y
+      ∙ window-parity (digitIn digits) (digit-less digits) (G .memory) g q (7 - i) (omega arith) (omega arith)
+      ∙ ap (λ (t : ℕ). parityOf (tapsOf (G .memory) g) (windowOf (suc (G .memory)) (digitIn digits) (suc t))) x
+
+  -- what is wanted of the first cells
+  pub block-first : (first : ℕ) → ((p : ℕ) → first / 2 ^ p % 2 ≡ parityOf (tapsOf (G .memory) (G .g1)) (w / 2 ^ p)) → (i : ℕ) → i < 8
+      → first / 2 ^ (7 - i) % 2 ≡ wantedFirst G (digitIn digits) (8 * q + i)
+  unfolding wantedFirst
+  block-first first made i h = bits-made (G .g1) first made i h
+
+  -- and of the second: the labels are added without carries
+  pub block-second : (second : ℕ) {labels : ℕ} → ((p : ℕ) → second / 2 ^ p % 2 ≡ parityOf (tapsOf (G .memory) (g2 G)) (w / 2 ^ p))
+      → labels ≡ windowOf 8 (labelAt G content) (8 * (q + 1)) → (i : ℕ) → i < 8
+      → bitXor second labels / 2 ^ (7 - i) % 2 ≡ wantedSecond G content (digitIn digits) (8 * q + i)
+  unfolding wantedSecond
+  block-second second {labels} made l i h =
+      let x : 8 * q + (7 - (7 - i)) ≡ 8 * q + i = omega arith in
+      xor-bit second labels (7 - i)
+      ∙ ap₂ (λ (a b : ℕ). (a + b) % 2) (bits-made (g2 G) second made i h)
+      (ap (λ (z : ℕ). z / 2 ^ (7 - i) % 2) l ∙ window-byte (labelAt G content) (label-bound G content) q (7 - i) (omega arith) ∙ ap (labelAt G content) x)

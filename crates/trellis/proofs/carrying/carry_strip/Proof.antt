@@ -1,0 +1,165 @@
+-- The invariant: the cells of the first q blocks are carried out and no other, and the labels and the digits are those before block q.
+use mathlib.Core.Path.{_≡_, refl, sym, _∙_, ap}
+use Prim.Native.Nat.{ℕ, _≤_, _<_, _+_, _*_, _-_}
+use native.Mathlib.Omega.{arith}
+use lib.Bits.{bitXor}
+use lib.ListN.{length, getD}
+use borrow.Author.Needs.{needs}
+use Rattle.cells.specs.Raising.{startOf, raisedTo}
+use Rattle.cells.proofs.Raising.{raisedTo-length}
+use Rattle.codes.specs.Codes.{generatorsOf}
+use Rattle.codes.specs.Taps.{windowOf}
+use Rattle.codes.specs.Blocks.{labelAt}
+use Rattle.codes.proofs.Codes.{proper, memory-bounds}
+use Rattle.codes.proofs.Layouts.{oneBit-bytes}
+use Rattle.trellis.specs.Carrying.{digitIn, shownBits, withBits}
+use Rattle.trellis.proofs.Quotes.{six-bit}
+use Rattle.trellis.proofs.Labels.{labels-forth}
+use Rattle.trellis.proofs.Carried.{carriedBelow, carried-none, carried-block, carried-all, digits-window, block-first, block-second}
+use Rattle.trellis.proofs.carrying.carry_strip.Statement.{statement}
+use Rattle.trellis.proofs.carrying.carry_strip.Tie as tie
+
+abbrev Inv-loop : tie.InvT-loop
+Inv-loop code pairs strip₀ «data» digits labels₀ before₀ q₀ strip labels before q =
+    (q ≤ length «data»)
+    × (labels < 256)
+    × (labels ≡ windowOf 8 (labelAt (generatorsOf code) «data») (8 * q))
+    × (before < 256)
+    × (before ≡ windowOf 8 (digitIn digits) (8 * q))
+    × (strip ≡ raisedTo startOf strip₀ (carriedBelow (generatorsOf code) strip₀ «data» (digitIn digits) (16 * q)))
+
+abbrev μ-loop : tie.MeasureT-loop
+μ-loop code pairs strip₀ «data» digits labels₀ before₀ q₀ strip labels before q = length «data» - q
+
+-- in a turn the strip is as long as it was
+same-size : (c : tie.In-loop Inv-loop μ-loop) → length (c .before .loop .strip) ≡ 6 * length (c .before .before .before .before .before .args .«data» .now)
+same-size c =
+    let s = c .before .before .before .before .before in
+    let a = s .args in
+    ap length (c .before .loop .inv .5) ∙ raisedTo-length startOf (a .strip .now) _ ∙ s .pre .0 .size ∙ oneBit-bytes (length (a .«data» .now))
+
+-- so the block lies in it
+block-inside : (c : tie.In-loop Inv-loop μ-loop) → (6 * c .before .loop .q + 6 ≤ length (c .before .loop .strip)) × (c .before .loop .q < 64)
+block-inside c =
+    (omega (arith, same-size c, c .loop-test .taken), omega (arith, c .loop-test .taken, c .before .before .before .before .before .pre .0 .most))
+
+loop-holds : tie.Need-loop-holds Inv-loop μ-loop
+unfolding windowOf
+loop-holds c =
+    let k = c .before .before in
+    let a = k .before .args in
+    let octets : (i : ℕ) → getD (a .strip .now) i 0 < 256 = λ i. omega (arith, k .slice-known .given i) in
+    (omega arith, omega arith, refl, omega arith, refl, carried-none (generatorsOf (a .code)) (a .strip .now) (a .«data» .now) _ octets)
+
+data-window-requires : tie.Need-data-window-requires Inv-loop μ-loop
+data-window-requires c κs = search needs
+
+divide-requires : tie.Need-divide-requires Inv-loop μ-loop
+divide-requires c κs = search needs
+
+shared-slice-read-digit : tie.Need-shared-slice-read-digit Inv-loop μ-loop
+shared-slice-read-digit c = search needs
+
+cast-digit : tie.Need-cast-digit Inv-loop μ-loop
+cast-digit c = record { fits = omega (arith, c .shared-slice-known3 .given (c .before .before .before .before .loop .q)) }
+
+mul-w : tie.Need-mul-w Inv-loop μ-loop
+mul-w c = search needs
+
+add-w : tie.Need-add-w Inv-loop μ-loop
+add-w c =
+    let l = c .before .before .before .before .loop in
+    record { fits = omega (arith, l .inv .3, c .shared-slice-known3 .given (l .q)) }
+
+first-bits-requires : tie.Need-first-bits-requires Inv-loop μ-loop
+first-bits-requires c κs =
+    let l = c .before .before .before .before .loop in
+    omega (arith, l .inv .3, c .shared-slice-known3 .given (l .q))
+
+second-bits-requires : tie.Need-second-bits-requires Inv-loop μ-loop
+second-bits-requires c κs =
+    let l = c .before .before .before .before .before .loop in
+    omega (arith, l .inv .3, c .before .shared-slice-known3 .given (l .q))
+
+bits-of-requires : tie.Need-bits-of-requires Inv-loop μ-loop
+bits-of-requires c κs = block-inside (c .before .before .before .before .before .before)
+
+shown-bits-requires : tie.Need-shown-bits-requires Inv-loop μ-loop
+shown-bits-requires c κs = c .before .before .before .before .before .before .before .before .before .before .before .before .pre .1 .less
+
+put-bits-requires : tie.Need-put-bits-requires Inv-loop μ-loop
+put-bits-requires c κs = block-inside (c .before .before .before .before .before .before .before .before .before)
+
+add-q : tie.Need-add-q Inv-loop μ-loop
+add-q c = search needs
+
+loop-less : tie.Need-loop-less Inv-loop μ-loop
+loop-less c = search needs
+
+loop-again : tie.Need-loop-again Inv-loop μ-loop
+loop-again c =
+    let t = c .before .before .before .before .before .before .before .before .before .before .before .before in
+    let l = t .before .loop in
+    let k = t .before .before .before .before in
+    let s = k .before in
+    let a = s .args in
+    let G = generatorsOf (a .code) in
+    let reach = memory-bounds (a .code .name) .1 in
+    let octets : (i : ℕ) → getD (a .strip .now) i 0 < 256 = λ i. omega (arith, k .slice-known .given i) in
+    let byte : getD (a .digits .now) (l .q) 0 < 256 = omega (arith, c .before .before .before .before .before .before .before .before .before .shared-slice-known3 .given (l .q)) in
+    let labels = labels-forth (proper (a .code)) reach (a .«data» .now) (l .q) (l .inv .2) (c .before .before .before .before .before .before .before .before .before .before .before .data-window .ensures .0) (c .before .before .before .before .before .before .before .before .before .before .divide .ensures .1) in
+    let wants = block-first G reach (a .«data» .now) (a .digits .now) (l .q) byte (l .inv .4) refl _ (c .before .before .before .before .before .before .before .before .first-bits .ensures .1) in
+    let wants-second = block-second G reach (a .«data» .now) (a .digits .now) (l .q) byte (l .inv .4) refl _ (c .before .before .before .before .before .before .before .second-bits .ensures .1) labels in
+    let size = s .pre .0 .size ∙ oneBit-bytes (length (a .«data» .now)) in
+    let bits = c .before .before .before .before .shown-bits .ensures
+    ∙ ap (λ (b : ℕ). shownBits (a .pairs .now) b (c .before .before .before .before .before .before .before .before .first-bits .result) (bitXor (c .before .before .before .before .before .before .before .second-bits .result) (c .before .before .before .before .before .before .before .before .before .before .divide .result)) 8)
+    (c .before .before .before .before .before .bits-of .ensures) in (
+      search needs,
+      c .before .before .before .before .before .before .before .before .before .before .divide .ensures .0,
+      labels,
+      byte,
+      sym (digits-window (a .digits .now) (l .q) byte),
+      c .before .before .put-bits .ensures ∙ ap (withBits (l .strip) (l .q)) bits
+          ∙ carried-block G (a .strip .now) (a .«data» .now) (digitIn (a .digits .now)) (l .q) (a .pairs .now) _ _ (s .pre .1)
+          (six-bit (a .strip .now) octets (l .q)) wants wants-second (length (a .«data» .now)) (l .strip) octets size (t .loop-test .taken) (l .inv .5),
+    )
+
+same-length : tie.Need-same-length Inv-loop μ-loop
+same-length c =
+    let s = c .before .before .before .before .before in
+    ap length (c .before .loop .inv .5) ∙ raisedTo-length startOf (s .args .strip .now) _
+
+returns : tie.Need-returns Inv-loop μ-loop
+returns c =
+    let l = c .before .loop in
+    let s = c .before .before .before .before .before in
+    let a = s .args in
+    let n : ℕ = length (a .«data» .now) in
+    let e : l .q ≡ n = omega arith in
+    let size = s .pre .0 .size ∙ oneBit-bytes n in
+    l .inv .5 ∙ ap (λ (q : ℕ). raisedTo startOf (a .strip .now) (carriedBelow (generatorsOf (a .code)) (a .strip .now) (a .«data» .now) (digitIn (a .digits .now)) (16 * q))) e
+    ∙ carried-all (generatorsOf (a .code)) (a .strip .now) (a .«data» .now) (digitIn (a .digits .now)) (16 * n) (omega arith)
+
+pub carry-strip-spec : {M : Type 1} → statement M
+carry-strip-spec =
+    tie.close
+    (tie.spec
+    Inv-loop
+    μ-loop
+    loop-holds
+    data-window-requires
+    divide-requires
+    shared-slice-read-digit
+    cast-digit
+    mul-w
+    add-w
+    first-bits-requires
+    second-bits-requires
+    bits-of-requires
+    shown-bits-requires
+    put-bits-requires
+    add-q
+    loop-less
+    loop-again
+    same-length
+    returns)

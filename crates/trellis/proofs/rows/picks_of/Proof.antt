@@ -1,0 +1,115 @@
+-- The loop's invariant: the rows of the stages before i are picked, and take i bytes. The measure is what is left of eight stages.
+use mathlib.Core.Path.{_≡_, refl}
+use Prim.Native.Nat.{ℕ, _-_, _*_, _/_, _^_, _≤_, _<_}
+use native.Mathlib.Omega.{arith}
+use borrow.Author.Needs.{needs}
+use Rattle.stages.specs.Blocks.{rowAt}
+use Rattle.trellis.specs.Rows.{rowOf}
+use Rattle.trellis.proofs.Quotes.{pairs-le, row-le, row-shl, picks-less, picks-fit, picks-more}
+use Rattle.trellis.proofs.rows.picks_of.Statement.{statement}
+use Rattle.trellis.proofs.rows.picks_of.Tie as tie
+
+abbrev Inv-loop : tie.InvT-loop
+Inv-loop bits labels pairs picks₀ i₀ picks i =
+    (i ≤ 8) × (picks < 2 ^ (8 * i)) × ((j : ℕ) → j < i → rowAt picks j ≡ rowOf bits labels j)
+
+abbrev μ-loop : tie.MeasureT-loop
+μ-loop bits labels pairs picks₀ i₀ picks i = 8 - i
+
+loop-holds : tie.Need-loop-holds Inv-loop μ-loop
+loop-holds c = (search needs, omega arith, λ j h. absurd (let z : ⊥ = omega arith in z))
+
+mul-pair : tie.Need-mul-pair Inv-loop μ-loop
+mul-pair c = search needs
+
+cast-pair : tie.Need-cast-pair Inv-loop μ-loop
+cast-pair c = search needs
+
+shr-pair : tie.Need-shr-pair Inv-loop μ-loop
+shr-pair c = search needs
+
+array-read-pair : tie.Need-array-read-pair Inv-loop μ-loop
+array-read-pair c = search needs
+
+cast-pair-2 : tie.Need-cast-pair-2 Inv-loop μ-loop
+cast-pair-2 c = record { fits = omega (arith, pairs-le (c .before .before .args .bits / 2 ^ (6 * c .before .loop .i))) }
+
+sub-label : tie.Need-sub-label Inv-loop μ-loop
+sub-label c = search needs
+
+shr-label : tie.Need-shr-label Inv-loop μ-loop
+shr-label c = search needs
+
+cast-label : tie.Need-cast-label Inv-loop μ-loop
+cast-label c = search needs
+
+mul-picks : tie.Need-mul-picks Inv-loop μ-loop
+mul-picks c = search needs
+
+add-picks : tie.Need-add-picks Inv-loop μ-loop
+add-picks c = record { fits = omega (arith, pairs-le (c .before .before .args .bits / 2 ^ (6 * c .before .loop .i))) }
+
+mul-picks-2 : tie.Need-mul-picks-2 Inv-loop μ-loop
+mul-picks-2 c = search needs
+
+cast-picks : tie.Need-cast-picks Inv-loop μ-loop
+cast-picks c = search needs
+
+shl-picks : tie.Need-shl-picks Inv-loop μ-loop
+shl-picks c = search needs
+
+add-picks-2 : tie.Need-add-picks-2 Inv-loop μ-loop
+add-picks-2 c =
+    let a = c .before .before .args in
+    let l = c .before .loop in
+    let t : l .i < 8 = c .loop-test .taken in
+    record {
+      fits = rw (row-shl (a .bits) (a .labels) (l .i) t)
+          (picks-fit (l .picks) _ (l .i) (l .inv .1) (row-le (a .bits) (a .labels) (l .i)) t);
+    }
+
+add-i : tie.Need-add-i Inv-loop μ-loop
+add-i c = search needs
+
+loop-less : tie.Need-loop-less Inv-loop μ-loop
+loop-less c = search needs
+
+loop-again : tie.Need-loop-again Inv-loop μ-loop
+loop-again c =
+    let a = c .before .before .args in
+    let l = c .before .loop in
+    let m = row-shl (a .bits) (a .labels) (l .i) (c .loop-test .taken) in
+    let n = row-le (a .bits) (a .labels) (l .i) in (
+      search needs,
+      rw m (picks-less (l .picks) _ (l .i) (l .inv .1) n),
+      rw m (picks-more (l .picks) _ (l .i) (l .inv .1) n (rowOf (a .bits) (a .labels)) refl (l .inv .2)),
+    )
+
+returns : tie.Need-returns Inv-loop μ-loop
+returns c = let e : c .before .loop .i ≡ 8 = omega arith in λ i h. c .before .loop .inv .2 i (omega arith)
+
+pub picks-of-spec : {M : Type 1} → statement M
+picks-of-spec =
+    tie.close
+    (tie.spec
+    Inv-loop
+    μ-loop
+    loop-holds
+    mul-pair
+    cast-pair
+    shr-pair
+    array-read-pair
+    cast-pair-2
+    sub-label
+    shr-label
+    cast-label
+    mul-picks
+    add-picks
+    mul-picks-2
+    cast-picks
+    shl-picks
+    add-picks-2
+    add-i
+    loop-less
+    loop-again
+    returns)
