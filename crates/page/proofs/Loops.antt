@@ -15,7 +15,7 @@ use native.Mathlib.Omega.{arith}
 use native.Mathlib.Nat.{not-suc-le-zero, add-sub-cancel-left, sub-zero, mul-le-mul}
 use lib.ListN.{length, take, drop, length-append}
 use lib.Seq.{drop-drop, take-at, drop-at, length-take-le}
-use Rattle.cells.specs.Bytes.{bitOf, Octets}
+use Rattle.cells.specs.Bytes.{Octets}
 use Rattle.cells.specs.Climbs.{house}
 use Rattle.cells.specs.Raising.{startOf, startIn, raisedTo}
 use Rattle.cells.proofs.Raising.{raisedTo-length}
@@ -25,12 +25,13 @@ use Rattle.codes.specs.Layouts.{Layout, oneBit, cellCount, byteCount}
 use Rattle.search.specs.Best.{Solution}
 use Rattle.search.specs.Strip.{Dear, stepsOf}
 use Rattle.search.specs.Levels.{levelAt}
-use Rattle.trellis.specs.Backward.{wordsOf, Shaped}
-use Rattle.trellis.specs.Forward.{carriedTo}
+use Rattle.trellis.specs.Rows.{Table, Priced}
+use Rattle.trellis.specs.Ways.{Shaped}
+use Rattle.trellis.specs.Carrying.{digitIn, carriedTo}
 use Rattle.trellis.specs.Outcomes.{solutionOutcome}
 use Rattle.trellis.specs.Plans.{writeOf, Plans}
 use Rattle.trellis.specs.declared.Outcome.{Outcome}
-use Rattle.trellis.proofs.Prices.{Suits}
+use Rattle.trellis.proofs.Ways.{Suits}
 use Rattle.demand.specs.Jobs.{part, Job}
 use Rattle.demand.specs.Computed.{stripWrite, pageWrite, spentStrip}
 use Rattle.demand.proofs.Jobs.{part-length}
@@ -66,6 +67,10 @@ strip-fits {lay} {L} {S} Z {k} h = omega (arith, Z .page-is, within (byteCount l
 pub part-fits : {lay : Layout} {L S : ℕ} {page content : List ℕ} → Sized lay L S page content → {k : ℕ} → k < S → L * k + L ≤ length content
 part-fits {lay} {L} {S} Z {k} h = omega (arith, Z .data-is, within L k S h)
 
+-- THE TABLE of weights that suit a code, none of them free
+pub table-priced : {G : Generators} {W rows : List ℕ} → Suits G W → Dear (stepsOf W) → Table W rows → Priced W rows
+table-priced K D T = record { three = K .three; bytes = K .bytes; dear = D; table = T }
+
 -- THE PLANS of the strips before k
 pub record PlannedTo (G : Generators) (W : List ℕ) (L S : ℕ) (page content digits : List ℕ) (k : ℕ) : Type 0 where
   pub size : length digits ≡ L * S
@@ -88,13 +93,11 @@ module _ {L S : ℕ} {page content : List ℕ} (Z : Sized oneBit L S page conten
   data-length = lent-length L k content (part-fits Z h)
 
   -- the strip and the part are in order
-  pub turn-shaped : {G : Generators} {W words : List ℕ} → words ≡ wordsOf G → Dear (stepsOf W)
-      → Shaped G W words x (take (L * k + L - L * k) (drop (L * k) content))
-  turn-shaped w D = record {
-    words-are = w;
+  pub turn-shaped : {W rows : List ℕ} → Table W rows → Shaped rows x (take (L * k + L - L * k) (drop (L * k) content))
+  turn-shaped T = record {
+    cut = T .cut;
     size = ap length strip-is ∙ part-length (byteCount oneBit L) S k page (Z .page-is) h ∙ ap (byteCount oneBit) (sym data-length);
     most = omega (arith, data-length, one-to-64 L (Z .bytes-in));
-    dear = D;
   }
 
   -- its outcome is that of the strip's write
@@ -178,7 +181,7 @@ pub record CarriedUpTo (G : Generators) (L S : ℕ) (before content digits page 
   pub size : length page ≡ length before
   pub so-far : (j : ℕ) → j < k
       → stripPart L j page
-      ≡ raisedTo startOf (stripPart L j before) (carriedTo G (stripPart L j before) (part L j content) (bitOf (part L j digits)))
+      ≡ raisedTo startOf (stripPart L j before) (carriedTo G (stripPart L j before) (part L j content) (digitIn (part L j digits)))
   pub rest : drop (byteCount oneBit L * k) page ≡ drop (byteCount oneBit L * k) before
 
 -- what is left of a list after part k is stored is what was left of the list before
@@ -208,7 +211,7 @@ pub carried-more : {G : Generators} {L S b : ℕ} {before content digits page ys
     → b ≡ byteCount oneBit L → length before ≡ byteCount oneBit L * S → k < S
     → ys ≡ raisedTo startOf (take (b * k + b - b * k) (drop (b * k) page))
     (carriedTo G (take (b * k + b - b * k) (drop (b * k) page)) (take (L * k + L - L * k) (drop (L * k) content))
-    (bitOf (take (L * k + L - L * k) (drop (L * k) digits))))
+    (digitIn (take (L * k + L - L * k) (drop (L * k) digits))))
     → CarriedUpTo G L S before content digits (take (b * k) page ++ (ys ++ drop (b * k + b - b * k) (drop (b * k) page))) (k + 1)
 unfolding part
 carried-more {G} {L} {S} {b} {before} {content} {digits} {page} {ys} {k} p q z h e = rw q (go (rw q at e))
@@ -218,7 +221,7 @@ carried-more {G} {L} {S} {b} {before} {content} {digits} {page} {ys} {k} p q z h
 
     go : ys ≡ raisedTo startOf (take (n * k + n - n * k) (drop (n * k) page))
         (carriedTo G (take (n * k + n - n * k) (drop (n * k) page)) (take (L * k + L - L * k) (drop (L * k) content))
-        (bitOf (take (L * k + L - L * k) (drop (L * k) digits))))
+        (digitIn (take (L * k + L - L * k) (drop (L * k) digits))))
         → CarriedUpTo G L S before content digits (take (n * k) page ++ (ys ++ drop (n * k + n - n * k) (drop (n * k) page))) (k + 1)
     go e =
         let own = rw (lent n k page, lent L k content, lent L k digits, p .rest) at e in
@@ -228,7 +231,7 @@ carried-more {G} {L} {S} {b} {before} {content} {digits} {page} {ys} {k} p q z h
           size = stored-length n k page ys fits own-length ∙ p .size;
           so-far = part-more n k page ys
               (λ j y. y ≡ raisedTo startOf (stripPart L j before)
-              (carriedTo G (stripPart L j before) (part L j content) (bitOf (part L j digits))))
+              (carriedTo G (stripPart L j before) (part L j content) (digitIn (part L j digits))))
               fits own-length own (p .so-far);
           rest = rest-more n k page ys before fits own-length (p .rest);
         }

@@ -10,7 +10,6 @@ use native.Mathlib.Omega.{arith}
 use native.Mathlib.Nat.{div-add-mod}
 use lib.ListN.{length, drop}
 use lib.Seq.{getD-take, getD-drop}
-use Rattle.cells.specs.Bytes.{bitOf}
 use Rattle.cells.specs.Levels.{level}
 use Rattle.cells.specs.Raising.{startOf, startIn, raisedTo}
 use Rattle.cells.proofs.Raising.{raisedTo-length, raisedTo-same, raisedTo-start}
@@ -23,11 +22,10 @@ use Rattle.search.specs.Levels.{levelAt}
 use Rattle.search.specs.Layouts.{unmarked, rewriteOf}
 use Rattle.search.proofs.Best.{the-best}
 use Rattle.search.proofs.Layouts.{strip-solves, strip-width}
-use Rattle.trellis.specs.Backward.{closed}
-use Rattle.trellis.specs.Forward.{carriedTo}
+use Rattle.stages.specs.Stage.{closed}
+use Rattle.trellis.specs.Carrying.{digitIn, carriedTo}
 use Rattle.trellis.specs.Plans.{writeOf}
-use Rattle.trellis.proofs.Prices.{Suits}
-use Rattle.trellis.proofs.Program.{suits-sound}
+use Rattle.trellis.proofs.Ways.{Suits, suits-sound}
 use Rattle.trellis.proofs.Plans.{strip-near, write-below}
 use Rattle.demand.specs.Jobs.{part}
 use Rattle.demand.specs.Computed.{stripBytes, stripWrite, pageWrite}
@@ -47,7 +45,7 @@ module _ (G : Generators) (W : List ℕ) (K : Suits G W) (D : Dear (stepsOf W)) 
   -- no strip's write costs as much as closed
   pub strip-below : (k : ℕ) (a : Solution) → stripWrite (plainJob G W L S before content) k ≡ some a → a .cost < closed
   unfolding stripWrite stripBytes
-  strip-below k a e = write-below G W K D L most (stripPart L k before) (part L k content) a e
+  strip-below k a e = write-below G W K D L (stripPart L k before) (part L k content) a e most
 
   -- a strip's write has a level for each cell
   strip-levels : (k : ℕ) (b : Solution) → stripWrite (plainJob G W L S before content) k ≡ some b → length (b .levels) ≡ cellCount oneBit L
@@ -100,7 +98,7 @@ module _ (G : Generators) (W : List ℕ) (K : Suits G W) (D : Dear (stepsOf W)) 
           long : length (part L k content) ≡ L
           long = part-length L S k content fill h
 
-          level-is : (i : ℕ) → i < n → carriedTo G (stripPart L k before) (part L k content) (bitOf (part L k digits)) i
+          level-is : (i : ℕ) → i < n → carriedTo G (stripPart L k before) (part L k content) (digitIn (part L k digits)) i
               ≡ levelAt (a .levels) (n * k + i)
           level-is i l =
               p .planned a e k h .leads (own a e k h .own) (write-same k long ∙ own a e k h .is) i (rw long l) ∙ own-level a e k h i l
@@ -120,5 +118,5 @@ module _ (G : Generators) (W : List ℕ) (K : Suits G W) (D : Dear (stepsOf W)) 
             arith,
             own-level a e k h i l,
             part-level n (byteCount oneBit L) (oneBit-whole L .cells-fill) k before i l,
-            strip-near G W K D L most (stripPart L k before) (part L k content) (own a e k h .own) (own a e k h .is) i l,
+            strip-near G W K D L (stripPart L k before) (part L k content) (own a e k h .own) (own a e k h .is) i l,
           )

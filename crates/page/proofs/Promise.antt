@@ -23,7 +23,7 @@ use Rattle.search.specs.Levels.{levelAt}
 use Rattle.search.specs.Layouts.{Sound}
 use Rattle.search.proofs.OneBit.{Both}
 use Rattle.search.proofs.Layouts.{oneBit-sound}
-use Rattle.trellis.proofs.Prices.{Suits}
+use Rattle.trellis.proofs.Ways.{Suits}
 use Rattle.demand.specs.Jobs.{Job, width, Whole, InOrder}
 use Rattle.demand.specs.Demand.{Could}
 use Rattle.demand.specs.Computed.{pageWrite, spentStrip}

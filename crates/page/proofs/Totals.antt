@@ -12,7 +12,7 @@ use native.Mathlib.Nat.{mod-eq-of-lt}
 use Rattle.cells.specs.Places.{listOf}
 use Rattle.search.specs.Best.{Solution}
 use Rattle.search.specs.Trellis.{joined, all, first-none}
-use Rattle.trellis.specs.Backward.{closed}
+use Rattle.stages.specs.Stage.{closed}
 use Rattle.trellis.specs.Outcomes.{solutionOutcome}
 use Rattle.trellis.specs.declared.Outcome.{Outcome}
 use Rattle.trellis.specs.declared.Outcome.the-variants as O

@@ -6,12 +6,11 @@ use mathlib.Core.List.{List}
 use mathlib.Core.Option.{some}
 use Prim.Native.Nat.{ℕ, _<_}
 use lib.ListN.{length}
-use Rattle.cells.specs.Bytes.{bitOf}
 use Rattle.cells.specs.Raising.{startOf, raisedTo}
 use Rattle.codes.specs.Generators.{Generators}
 use Rattle.codes.specs.Layouts.{oneBit, byteCount}
 use Rattle.search.specs.Best.{Solution}
-use Rattle.trellis.specs.Forward.{carriedTo}
+use Rattle.trellis.specs.Carrying.{digitIn, carriedTo}
 use Rattle.trellis.specs.Plans.{Plans}
 use Rattle.demand.specs.Jobs.{part}
 use Rattle.demand.specs.Computed.{pageWrite}
@@ -31,4 +30,4 @@ pub record Carried (G : Generators) (L S : ℕ) (before content digits after : L
   pub same-size : length after ≡ length before
   pub carried : (k : ℕ) → k < S
       → stripPart L k after
-      ≡ raisedTo startOf (stripPart L k before) (carriedTo G (stripPart L k before) (part L k content) (bitOf (part L k digits)))
+      ≡ raisedTo startOf (stripPart L k before) (carriedTo G (stripPart L k before) (part L k content) (digitIn (part L k digits)))

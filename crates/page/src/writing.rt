@@ -5,9 +5,10 @@ use crate::shape;
 use codes::Code;
 use refusals::Completion;
 use trellis::backward::price_strip;
-use trellis::backward::words_of;
-use trellis::forward::carry_strip;
+use trellis::carrying::carry_strip;
+use trellis::carrying::shown_pairs;
 use trellis::forward::plan_strip;
+use trellis::rows::rows_of;
 ghost use mathlib.Core.Path.{_≡_};
 ghost use mathlib.Core.Option.{none};
 ghost use Prim.Native.Nat.{_*_};
@@ -34,15 +35,14 @@ fn price_strips(
     requires { ⌜ Dear (stepsOf weights) ⌝ }
     ensures { λ r. ⌜ r ≡ jobAnswer none (plainJob (generatorsOf code) weights bytes strips (now (page .entry)) (now («data» .entry))) ⌝ }
 {
-    let words = words_of(code);
+    let rows = rows_of(weights);
     let mut total = Total::new();
     let mut k: usize = 0;
     while k < strips {
         let a = bytes * k;
         let outcome = price_strip(
             code,
-            &words,
-            weights,
+            &rows,
             shape::strip(page, bytes, k),
             &data[a..a + bytes],
         );
@@ -71,15 +71,14 @@ fn plan_strips(
     ensures { λ r. ⌜ r ≡ jobAnswer none (plainJob (generatorsOf code) weights bytes strips (now (page .entry)) (now («data» .entry))) ⌝ }
     ensures { λ r. ⌜ Planned (generatorsOf code) weights bytes strips (now (page .entry)) (now («data» .entry)) (now (digits .exit)) ⌝ }
 {
-    let words = words_of(code);
+    let rows = rows_of(weights);
     let mut total = Total::new();
     let mut k: usize = 0;
     while k < strips {
         let a = bytes * k;
         let outcome = plan_strip(
             code,
-            &words,
-            weights,
+            &rows,
             shape::strip(page, bytes, k),
             &data[a..a + bytes],
             &mut digits[a..a + bytes],
@@ -93,7 +92,7 @@ fn plan_strips(
     total.answer()
 }
 
-// Carries the digits out, strip by strip.
+// Carries the digits out, strip by strip. The raises of every cell look for a zero from bit 0 on (`startOf`).
 fn carry_strips(
     code: Code,
     bytes: usize,
@@ -107,6 +106,7 @@ fn carry_strips(
     ensures { λ _. ⌜ Carried (generatorsOf code) bytes strips
         (now (page .entry)) (now («data» .entry)) (now (digits .entry)) (now (page .exit)) ⌝ }
 {
+    let pairs = shown_pairs(0, 0);
     let n = codes::STRIP_BYTES * bytes;
     let mut k: usize = 0;
     while k < strips {
@@ -114,6 +114,7 @@ fn carry_strips(
         let b = bytes * k;
         carry_strip(
             code,
+            &pairs,
             &mut page[a..a + n],
             &data[b..b + bytes],
             &digits[b..b + bytes],

@@ -1,12 +1,15 @@
 -- Sums of the numbers that tell optional costs: closed stays closed, and no sum brings it back among the costs.
 --   tells-add   two numbers added up tell the two costs one after the other
 --   tells-cut   a number that is cut off at closed tells the same cost
+--   Below       an optional cost that is at most m where there is one; sums and the lesser of such costs
 use mathlib.Core.Path.{sym, subst}
-use mathlib.Core.Option.{Option, some}
+use mathlib.Core.Bool.{Bool, true, false, cond}
+use mathlib.Core.Option.{Option, none, some}
 use Prim.Native.Nat.{ℕ, _+_, _≤_, _<_, min}
 use native.Mathlib.Omega.{arith}
 use native.Mathlib.Nat.{min-eq-left, le-min, le-refl}
-use Rattle.search.specs.Plan.{add}
+use lib.Dec.{ltb}
+use Rattle.search.specs.Plan.{add, lesser}
 use Rattle.stages.specs.Costs.{Tells, open-at, shut}
 
 -- two numbers added up tell the two costs one after the other
@@ -23,3 +26,35 @@ tells-cut {c} {m} {v} (open-at h) l =
     let e : v ≤ c = omega arith in
     subst (λ (x : ℕ). Tells c m x (some v)) (sym (min-eq-left e)) (open-at {c = v} h)
 tells-cut {c} {m} {v} (shut h) l = shut {v = min v c} (le-min h (le-refl c))
+
+-- A BOUND: a cost is at most m, where there is one
+pub data Below (m : ℕ) : Option ℕ → Type 0 where
+  nothing : Below m none
+  at-most : {c : ℕ} → c ≤ m → Below m (some c)
+
+-- what a number tells is bounded so
+pub below-told : {c m v : ℕ} {o : Option ℕ} → Tells c m v o → Below m o
+below-told (open-at h) = at-most h
+below-told (shut h) = nothing
+
+-- two costs one after the other
+pub below-add : {m n : ℕ} {o p : Option ℕ} → Below m o → Below n p → Below (m + n) (add o p)
+unfolding add
+below-add nothing q = nothing
+below-add (at-most h) nothing = nothing
+below-add {m} {n} (at-most {c = c} h) (at-most {c = d} k) = let e : c + d ≤ m + n = omega arith in at-most e
+
+-- the lesser of two
+pub below-lesser : {m : ℕ} {o p : Option ℕ} → Below m o → Below m p → Below m (lesser o p)
+unfolding lesser
+below-lesser nothing q = q
+below-lesser (at-most h) nothing = at-most h
+below-lesser {m} (at-most {c = c} h) (at-most {c = d} k) = at-most (go (ltb d c))
+  where
+    go : (b : Bool) → cond b d c ≤ m
+    go true = k
+    go false = h
+
+-- a cost that there is
+pub below-some : {m n c : ℕ} → Below m (some c) → m < n → c < n
+below-some (at-most h) l = omega arith

@@ -173,14 +173,12 @@ module _ (G : Generators) (strip content : List ℕ) where
         (ap (λ (n : ℕ). listOf n (cellFor strip)) e ∙ listOf-same (8 * L * 2) _ _ (λ i h. ap (cellFor strip) (f i)))
         ∙ stages-from 0 (8 * L))
 
--- THE COST of state 0 before the first stage is the write's
-cost-start : (G : Generators) (W : List ℕ) → Suits G W → Dear (stepsOf W) → (strip content : List ℕ)
-    → costsFor G W (blocksFor G strip content (length content) 0) 0 ≡ solutionCost (writeOf G W strip content)
+-- THE COST of state 0 before the first stage of L blocks is the write's
+pub cost-start : (G : Generators) (W : List ℕ) → Suits G W → Dear (stepsOf W) → (L : ℕ) (strip content : List ℕ)
+    → costsFor G W (stagesFor G strip content 0 (8 * L)) 0 ≡ solutionCost (rewriteOf oneBit G W L strip unmarked content)
 unfolding stagesOf
-cost-start G W K D strip content =
-    let L : ℕ = length content in
-    let z : L - 0 ≡ L = omega arith in
-    rw (z, ← (stages-are G strip content (K .both) L))
+cost-start G W K D L strip content =
+    rw (← (stages-are G strip content (K .both) L))
     (plain-cost (encoderFor G) (parity-choice (stepsOf W)) (wordsOf G) (oneBitPrices (stepsOf W)) Pair
     (oneBit-quotes (G .memory) G (K .both) (stepsOf W))
     (dataBits oneBit content) 2 (stageCount oneBit L) (stripCells oneBit L strip unmarked)
@@ -269,8 +267,9 @@ pub reached-first : {G : Generators} {rows strip content : List ℕ} {before : �
     → Reached G rows strip content 0 before numbers → (W : List ℕ) → Suits G W → Priced W rows
     → toldOutcome (getD numbers 0 0 / 256) ≡ solutionOutcome (writeOf G W strip content)
 reached-first {G} {rows} {strip} {content} {before} {numbers} most h W K P =
-    outcome-told (510 * (8 * (length content - 0))) (getD numbers 0 0 / 256) (writeOf G W strip content) (omega arith)
-    (rw (cost-start G W K (P .dear) strip content) at (told-cost (h .told W P 0 (pow-pos (G .memory)))))
+    let z : length content - 0 ≡ length content = omega arith in
+    outcome-told (510 * (8 * length content)) (getD numbers 0 0 / 256) (writeOf G W strip content) (omega arith)
+    (rw (z, cost-start G W K (P .dear) (length content) strip content) at (told-cost (h .told W P 0 (pow-pos (G .memory)))))
 
 -- THE ROWS of block q, by its labels and its bits, tell the prices of its stages
 pub block-quoted : (G : Generators) {rows strip content numbers : List ℕ} (q picks : ℕ) {before bits : ℕ} → ((k : ℕ) → getD strip k 0 < 256)

@@ -1,32 +1,39 @@
 -- The invariant: with the outcomes of the strips from k on, the total comes to the page's answer, and the parts of the digits before k are
 -- the strips' plans.
-use mathlib.Core.Path.{sym, _∙_}
-use Prim.Native.Nat.{_+_, _*_, _-_, _≤_}
+use mathlib.Core.Path.{_≡_, sym, _∙_}
+use mathlib.Core.List.{List}
+use Prim.Native.Nat.{ℕ, _+_, _*_, _-_, _≤_}
 use native.Mathlib.Omega.{arith}
 use lib.ListN.{length}
 use mir.Syntax.{w8}
 use borrow.Author.Needs.{needs, elem-fits}
 use Rattle.codes.specs.Codes.{generatorsOf}
-use Rattle.trellis.proofs.Prices.{Suits}
-use Rattle.trellis.proofs.Program.{suits}
+use Rattle.trellis.specs.Rows.{Priced}
+use Rattle.trellis.proofs.Ways.{suits}
 use Rattle.page.specs.Answers.{plainJob}
 use Rattle.page.proofs.Strips.{lent-length}
-use Rattle.page.proofs.Loops.{part-fits, turn-shaped, turn-outcome, PlannedTo, planned-none, planned-more, Reached, reached-none, reached-more, reached-spent, spent-none, reached-all}
+use Rattle.page.proofs.Loops.{part-fits, turn-shaped, turn-outcome, table-priced, PlannedTo, planned-none, planned-more, Reached, reached-none, reached-more, reached-spent, spent-none, reached-all}
 use Rattle.page.proofs.writing.plan_strips.Statement.{statement}
 use Rattle.page.proofs.writing.plan_strips.Tie as tie
 
 abbrev Inv-loop : tie.InvT-loop
-Inv-loop code weights bytes strips page «data» digits₀ words total₀ k₀ digits total k =
-    (Reached (plainJob (generatorsOf code) weights bytes strips page «data») total k)
-    × (PlannedTo (generatorsOf code) weights bytes strips page «data» digits k)
+Inv-loop code bytes strips page «data» digits₀ rows total₀ k₀ digits total k =
+    (length digits ≡ bytes * strips)
+    × ((W : List ℕ) → Priced W rows → Reached (plainJob (generatorsOf code) W bytes strips page «data») total k)
+    × ((W : List ℕ) → Priced W rows → PlannedTo (generatorsOf code) W bytes strips page «data» digits k)
 
 abbrev μ-loop : tie.MeasureT-loop
-μ-loop code weights bytes strips page «data» digits₀ words total₀ k₀ digits total k = strips - k
+μ-loop code bytes strips page «data» digits₀ rows total₀ k₀ digits total k = strips - k
 
--- the code suits the weights
-suited : (c : tie.Start Inv-loop μ-loop) → Suits (generatorsOf (c .args .code)) (c .args .weights)
-suited c = suits (c .args .code) (c .args .weights) (c .good .1 .0 .1 .0 .1)
-    (λ i. let h = elem-fits w8 w8 (c .args .weights) _ i (c .good .1 .0 .1 .1) tt .fits in omega arith)
+-- the table is that of the weights
+priced : (c : tie.After-rows-of Inv-loop μ-loop) → let s = c .before .before .before .before in Priced (s .args .weights) (c .rows-of .result)
+priced c =
+    let s = c .before .before .before .before in
+    let W = s .args .weights in
+    table-priced
+    (suits (s .args .code) W (s .good .1 .0 .1 .0 .1)
+    (λ i. let h = elem-fits w8 w8 W _ i (s .good .1 .0 .1 .1) tt .fits in omega arith))
+    (s .pre .1 .0) (c .rows-of .ensures)
 
 -- in a turn the part ends within the data
 fit : (c : tie.In-loop Inv-loop μ-loop)
@@ -39,31 +46,35 @@ fit-digits : (c : tie.In-loop Inv-loop μ-loop)
     → let a = c .before .before .before .before .before .before .before .args in
     a .bytes * c .before .loop .k + a .bytes ≤ length (c .before .loop .digits)
 fit-digits c =
-    omega (arith, fit c, c .before .loop .inv .1 .size, c .before .before .before .before .before .before .before .pre .0 .data-is)
+    omega (arith, fit c, c .before .loop .inv .0, c .before .before .before .before .before .before .before .pre .0 .data-is)
 
 -- after a turn the total has one more strip
 one-more : (c : tie.After-add Inv-loop μ-loop) → let l = c .before .before .before .before .before .before .before .before .before in
-    let a = l .before .before .before .before .before .before .args in
-    Reached (plainJob (generatorsOf (a .code)) (a .weights) (a .bytes) (a .strips) (a .page .now) (a .«data» .now)) (c .add .result)
-    (l .loop .k + 1)
-one-more c =
+    let r = l .before .before in let a = r .before .before .before .before .args in
+    (W : List ℕ) → Priced W (r .rows-of .result)
+    → Reached (plainJob (generatorsOf (a .code)) W (a .bytes) (a .strips) (a .page .now) (a .«data» .now)) (c .add .result) (l .loop .k + 1)
+one-more c W P =
     let t = c .before .before .before .before .before .before .before .before in
     let s = t .before .before .before .before .before .before .before in
     let is = c .before .before .before .before .before .before .strip .ensures in
-    reached-more (t .before .loop .inv .0) (t .loop-test .taken)
-    (turn-outcome (s .pre .0) (t .loop-test .taken) is (suited s) (s .pre .1 .0) (c .before .before .before .plan-strip .ensures .0))
+    reached-more (t .before .loop .inv .1 W P) (t .loop-test .taken)
+    (turn-outcome (s .pre .0) (t .loop-test .taken) is (suits (s .args .code) W (P .three) (P .bytes)) (P .dear)
+    (c .before .before .before .plan-strip .ensures .0 W P))
     (c .add .ensures)
 
-words-of-requires : tie.Need-words-of-requires Inv-loop μ-loop
-words-of-requires c κs = search needs
+rows-of-requires : tie.Need-rows-of-requires Inv-loop μ-loop
+rows-of-requires c κs = search needs
 
 new-requires : tie.Need-new-requires Inv-loop μ-loop
 new-requires c κs = search needs
 
 loop-holds : tie.Need-loop-holds Inv-loop μ-loop
 loop-holds c =
-    let s = c .before .before .before .before .before in
-    (reached-none (suited s) (s .pre .1 .0) (s .pre .0) (c .new .ensures), planned-none (s .pre .1 .1))
+    let s = c .before .before .before .before .before in (
+      s .pre .1 .1,
+      λ W P. reached-none (suits (s .args .code) W (P .three) (P .bytes)) (P .dear) (s .pre .0) (c .new .ensures),
+      λ W P. planned-none (s .pre .1 .1),
+    )
 
 mul-a : tie.Need-mul-a Inv-loop μ-loop
 mul-a c = omega (arith, fit c)
@@ -102,7 +113,7 @@ plan-strip-requires c κs =
     let s = n .before .before .before .before in
     let a = s .args in
     let l = t .before .loop in (
-      turn-shaped (s .pre .0) (t .loop-test .taken) (c .before .before .strip .ensures) (n .words-of .ensures) (s .pre .1 .0),
+      turn-shaped (s .pre .0) (t .loop-test .taken) (c .before .before .strip .ensures) (n .rows-of .ensures),
       lent-length (a .bytes) (l .k) (l .digits) (fit-digits t) ∙ sym (lent-length (a .bytes) (l .k) (a .«data» .now) (fit t)),
     )
 
@@ -117,9 +128,10 @@ same-length c = search needs
 
 returns : tie.Need-returns Inv-loop μ-loop
 returns c =
-    let r = one-more (c .before .before) in
+    let r = c .before .before .before .before .before .before .before .before .before .before .before .before .before in
+    let g = one-more (c .before .before) _ (priced r) in
     let e = c .before .if1 .taken in
-    (reached-spent r e (c .answer .ensures), record { planned = λ a f. absurd (spent-none r e a f) })
+    (reached-spent g e (c .answer .ensures), record { planned = λ a f. absurd (spent-none g e a f) })
 
 add-k : tie.Need-add-k Inv-loop μ-loop
 add-k c = search needs
@@ -131,10 +143,12 @@ loop-again : tie.Need-loop-again Inv-loop μ-loop
 loop-again c =
     let t = c .before .before .before .before .before .before .before .before .before in
     let s = t .before .before .before .before .before .before .before in
-    let is = c .before .before .before .before .before .before .before .strip .ensures in (
+    let is = c .before .before .before .before .before .before .before .strip .ensures in
+    let p = c .before .before .before .before .plan-strip .ensures in
+    let P = priced (t .before .before .before) in (
+      planned-more (s .pre .0) (t .loop-test .taken) is (t .before .loop .inv .2 _ P) (p .1 .0, p .1 .1 _ P) .size,
       one-more (c .before),
-      planned-more (s .pre .0) (t .loop-test .taken) is (t .before .loop .inv .1)
-          (c .before .before .before .before .plan-strip .ensures .1),
+      λ W Q. planned-more (s .pre .0) (t .loop-test .taken) is (t .before .loop .inv .2 W Q) (p .1 .0, p .1 .1 W Q),
     )
 
 answer-requires-2 : tie.Need-answer-requires-2 Inv-loop μ-loop
@@ -145,10 +159,10 @@ same-length-2 c = search needs
 
 returns-2 : tie.Need-returns-2 Inv-loop μ-loop
 returns-2 c =
-    let l = c .before .before .loop in (
-      reached-all (l .inv .0) (c .before .loop-test .left)
-          (c .answer2 .ensures),
-      record { planned = λ a e j h. l .inv .1 .so-far j (omega (arith, c .before .loop-test .left)) },
+    let l = c .before .before .loop in
+    let P = priced (c .before .before .before .before) in (
+      reached-all (l .inv .1 _ P) (c .before .loop-test .left) (c .answer2 .ensures),
+      record { planned = λ a e j h. l .inv .2 _ P .so-far j (omega (arith, c .before .loop-test .left)) },
     )
 
 pub plan-strips-spec : {M : Type 1} → statement M
@@ -157,7 +171,7 @@ plan-strips-spec =
     (tie.spec
     Inv-loop
     μ-loop
-    words-of-requires
+    rows-of-requires
     new-requires
     loop-holds
     mul-a

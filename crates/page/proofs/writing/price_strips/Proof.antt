@@ -1,29 +1,35 @@
 -- The invariant: with the outcomes of the strips from k on, the total comes to the page's answer. A total that is spent stays, so it may
 -- answer at once.
-use Prim.Native.Nat.{_+_, _*_, _-_, _≤_}
+use mathlib.Core.List.{List}
+use Prim.Native.Nat.{ℕ, _+_, _*_, _-_, _≤_}
 use native.Mathlib.Omega.{arith}
 use lib.ListN.{length}
 use mir.Syntax.{w8}
 use borrow.Author.Needs.{needs, elem-fits}
 use Rattle.codes.specs.Codes.{generatorsOf}
-use Rattle.trellis.proofs.Prices.{Suits}
-use Rattle.trellis.proofs.Program.{suits}
+use Rattle.trellis.specs.Rows.{Priced}
+use Rattle.trellis.proofs.Ways.{suits}
 use Rattle.page.specs.Answers.{plainJob}
-use Rattle.page.proofs.Loops.{part-fits, turn-shaped, turn-outcome, Reached, reached-none, reached-more, reached-spent, reached-all}
+use Rattle.page.proofs.Loops.{part-fits, turn-shaped, turn-outcome, table-priced, Reached, reached-none, reached-more, reached-spent, reached-all}
 use Rattle.page.proofs.writing.price_strips.Statement.{statement}
 use Rattle.page.proofs.writing.price_strips.Tie as tie
 
 abbrev Inv-loop : tie.InvT-loop
-Inv-loop code weights bytes strips page «data» words total₀ k₀ total k =
-    Reached (plainJob (generatorsOf code) weights bytes strips page «data») total k
+Inv-loop code bytes strips page «data» rows total₀ k₀ total k =
+    (W : List ℕ) → Priced W rows → Reached (plainJob (generatorsOf code) W bytes strips page «data») total k
 
 abbrev μ-loop : tie.MeasureT-loop
-μ-loop code weights bytes strips page «data» words total₀ k₀ total k = strips - k
+μ-loop code bytes strips page «data» rows total₀ k₀ total k = strips - k
 
--- the code suits the weights
-suited : (c : tie.Start Inv-loop μ-loop) → Suits (generatorsOf (c .args .code)) (c .args .weights)
-suited c = suits (c .args .code) (c .args .weights) (c .good .1 .0 .1 .0 .1)
-    (λ i. let h = elem-fits w8 w8 (c .args .weights) _ i (c .good .1 .0 .1 .1) tt .fits in omega arith)
+-- the table is that of the weights
+priced : (c : tie.After-rows-of Inv-loop μ-loop) → let s = c .before .before .before in Priced (s .args .weights) (c .rows-of .result)
+priced c =
+    let s = c .before .before .before in
+    let W = s .args .weights in
+    table-priced
+    (suits (s .args .code) W (s .good .1 .0 .1 .0 .1)
+    (λ i. let h = elem-fits w8 w8 W _ i (s .good .1 .0 .1 .1) tt .fits in omega arith))
+    (s .pre .1) (c .rows-of .ensures)
 
 -- in a turn the part ends within the data
 fit : (c : tie.In-loop Inv-loop μ-loop)
@@ -32,18 +38,18 @@ fit c = part-fits (c .before .before .before .before .before .before .pre .0) (c
 
 -- after a turn the total has one more strip
 one-more : (c : tie.After-add Inv-loop μ-loop)
-    → let l = c .before .before .before .before .before .before in let a = l .before .before .before .before .before .args in
-    Reached (plainJob (generatorsOf (a .code)) (a .weights) (a .bytes) (a .strips) (a .page .now) (a .«data» .now)) (c .add .result)
-    (l .loop .k + 1)
-one-more c =
+    → let l = c .before .before .before .before .before .before in let r = l .before .before in let a = r .before .before .before .args in
+    (W : List ℕ) → Priced W (r .rows-of .result)
+    → Reached (plainJob (generatorsOf (a .code)) W (a .bytes) (a .strips) (a .page .now) (a .«data» .now)) (c .add .result) (l .loop .k + 1)
+one-more c W P =
     let t = c .before .before .before .before .before in
     let s = t .before .before .before .before .before .before in
-    reached-more (t .before .loop .inv) (t .loop-test .taken)
-    (turn-outcome (s .pre .0) (t .loop-test .taken) (c .before .before .before .strip .ensures) (suited s) (s .pre .1)
-    (c .before .price-strip .ensures)) (c .add .ensures)
+    reached-more (t .before .loop .inv W P) (t .loop-test .taken)
+    (turn-outcome (s .pre .0) (t .loop-test .taken) (c .before .before .before .strip .ensures)
+    (suits (s .args .code) W (P .three) (P .bytes)) (P .dear) (c .before .price-strip .ensures W P)) (c .add .ensures)
 
-words-of-requires : tie.Need-words-of-requires Inv-loop μ-loop
-words-of-requires c κs = search needs
+rows-of-requires : tie.Need-rows-of-requires Inv-loop μ-loop
+rows-of-requires c κs = search needs
 
 new-requires : tie.Need-new-requires Inv-loop μ-loop
 new-requires c κs = search needs
@@ -51,7 +57,7 @@ new-requires c κs = search needs
 loop-holds : tie.Need-loop-holds Inv-loop μ-loop
 loop-holds c =
     let s = c .before .before .before .before in
-    reached-none (suited s) (s .pre .1) (s .pre .0) (c .new .ensures)
+    λ W P. reached-none (suits (s .args .code) W (P .three) (P .bytes)) (P .dear) (s .pre .0) (c .new .ensures)
 
 mul-a : tie.Need-mul-a Inv-loop μ-loop
 mul-a c = omega (arith, fit c)
@@ -76,7 +82,7 @@ price-strip-requires c κs =
     let t = c .before .before .before in
     let n = t .before .before .before in
     let s = n .before .before .before in
-    turn-shaped (s .pre .0) (t .loop-test .taken) (c .before .strip .ensures) (n .words-of .ensures) (s .pre .1)
+    turn-shaped (s .pre .0) (t .loop-test .taken) (c .before .strip .ensures) (n .rows-of .ensures)
 
 add-requires : tie.Need-add-requires Inv-loop μ-loop
 add-requires c κs = search needs
@@ -85,7 +91,9 @@ answer-requires : tie.Need-answer-requires Inv-loop μ-loop
 answer-requires c κs = search needs
 
 returns : tie.Need-returns Inv-loop μ-loop
-returns c = reached-spent (one-more (c .before .before)) (c .before .if1 .taken) (c .answer .ensures)
+returns c =
+    let r = c .before .before .before .before .before .before .before .before .before .before in
+    reached-spent (one-more (c .before .before) _ (priced r)) (c .before .if1 .taken) (c .answer .ensures)
 
 add-k : tie.Need-add-k Inv-loop μ-loop
 add-k c = search needs
@@ -100,7 +108,7 @@ answer-requires-2 : tie.Need-answer-requires-2 Inv-loop μ-loop
 answer-requires-2 c κs = search needs
 
 returns-2 : tie.Need-returns-2 Inv-loop μ-loop
-returns-2 c = reached-all (c .before .before .loop .inv) (c .before .loop-test .left) (c .answer2 .ensures)
+returns-2 c = reached-all (c .before .before .loop .inv _ (priced (c .before .before .before .before))) (c .before .loop-test .left) (c .answer2 .ensures)
 
 pub price-strips-spec : {M : Type 1} → statement M
 price-strips-spec =
@@ -108,7 +116,7 @@ price-strips-spec =
     (tie.spec
     Inv-loop
     μ-loop
-    words-of-requires
+    rows-of-requires
     new-requires
     loop-holds
     mul-a

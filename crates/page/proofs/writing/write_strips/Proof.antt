@@ -7,8 +7,7 @@ use lib.ListN.{length, drop, replicate}
 use mir.Syntax.{w8}
 use borrow.Author.Needs.{needs, elem-fits}
 use Rattle.codes.specs.Codes.{generatorsOf}
-use Rattle.trellis.proofs.Prices.{Suits}
-use Rattle.trellis.proofs.Program.{suits}
+use Rattle.trellis.proofs.Ways.{Suits, suits}
 use Rattle.page.proofs.Loops.{whole-most, front-length, front-fits, front-back, done-page, spent-page, not-refused}
 use Rattle.page.proofs.writing.write_strips.Statement.{statement}
 use Rattle.page.proofs.writing.write_strips.Tie as tie

@@ -112,8 +112,8 @@ loop-again c =
     let wants-second = block-second G reach (a .«data» .now) (a .digits .now) (l .q) byte (l .inv .4) refl _ (c .before .before .before .before .before .before .before .second-bits .ensures .1) labels in
     let size = s .pre .0 .size ∙ oneBit-bytes (length (a .«data» .now)) in
     let bits = c .before .before .before .before .shown-bits .ensures
-        ∙ ap (λ (b : ℕ). shownBits (a .pairs .now) b (c .before .before .before .before .before .before .before .before .first-bits .result) (bitXor (c .before .before .before .before .before .before .before .second-bits .result) (c .before .before .before .before .before .before .before .before .before .before .divide .result)) 8)
-        (c .before .before .before .before .before .bits-of .ensures) in (
+    ∙ ap (λ (b : ℕ). shownBits (a .pairs .now) b (c .before .before .before .before .before .before .before .before .first-bits .result) (bitXor (c .before .before .before .before .before .before .before .second-bits .result) (c .before .before .before .before .before .before .before .before .before .before .divide .result)) 8)
+    (c .before .before .before .before .before .bits-of .ensures) in (
       search needs,
       c .before .before .before .before .before .before .before .before .before .before .divide .ensures .0,
       labels,

@@ -99,7 +99,7 @@ loop-again c =
     let n : l .q < length (a .digits .now) = omega (arith, t .loop-test .taken, l .inv .1) in
     let place = ap (λ (s : ℕ). getD (a .history .now) (64 * l .q + l .before % s) 0) (t .before .before .states .ensures .0) in
     let step : (u : ℕ → ℕ) → Followed (generatorsOf (a .code)) (a .lows .now) (a .history .now) (length (a .digits .now)) u
-        → c .divide .result ≡ windowOf 8 u (8 * (l .q + 1)) =
+    → c .divide .result ≡ windowOf 8 u (8 * (l .q + 1)) =
     λ u f. followed-step (generatorsOf (a .code)) (memory-bounds (a .code .name) .1) u f (l .q) n (l .inv .3 u f)
     (c .before .before .before .wide .ensures .0 ∙ place) (c .before .wide2 .ensures .0) (c .divide .ensures .1) in (
       omega arith,
