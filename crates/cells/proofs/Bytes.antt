@@ -43,7 +43,7 @@ number-bit (suc n) f b (suc j) h =
     ∙ number-bit n (λ i. f (suc i)) (λ i h. b (suc i) (omega arith)) j (omega arith)
 
 -- a number below 2 ^ n is the number of its n bits
-number-bits : (n x : ℕ) → x < 2 ^ n → number n (λ j. (x / 2 ^ j) % 2) ≡ x
+pub number-bits : (n x : ℕ) → x < 2 ^ n → number n (λ j. (x / 2 ^ j) % 2) ≡ x
 unfolding number
 number-bits zero x h = omega arith
 number-bits (suc n) x h =
@@ -96,7 +96,7 @@ unfolding bytesOf
 bytesOf-same n f g e = listOf-same n _ _ (λ q h. number-same 8 _ _ (λ i l. e (8 * q + i) (omega arith)))
 
 -- a byte is the number of its bits
-byte-bits : (bytes : List ℕ) (q : ℕ) → getD bytes q 0 < 256 → number 8 (λ i. bitOf bytes (8 * q + i)) ≡ getD bytes q 0
+pub byte-bits : (bytes : List ℕ) (q : ℕ) → getD bytes q 0 < 256 → number 8 (λ i. bitOf bytes (8 * q + i)) ≡ getD bytes q 0
 unfolding bitOf
 byte-bits bytes q b =
     number-same 8 _ (λ i. (getD bytes q 0 / 2 ^ i) % 2) (λ i l.

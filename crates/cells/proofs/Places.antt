@@ -13,6 +13,7 @@
 --   each-first      what holds of every element holds of the first, and of the rest (each-rest)
 --   and-both        both of two tests hold
 --   sameList-eq     lists that are found the same are the same
+--   zeros-at        a list of zeros, read anywhere
 use mathlib.Core.Path.{_≡_, refl, sym, _∙_, ap, ap₂}
 use mathlib.Core.Bool.{Bool, true, false, _&&_}
 use mathlib.Core.List.{List, [], _∷_}
@@ -21,7 +22,7 @@ use Prim.Native.Nat.{ℕ, zero, suc, _<_, _≤_, _+_, _*_, _/_, _%_, _^_}
 use native.Mathlib.Omega.{arith}
 use native.Mathlib.Nat.{not-suc-le-zero, div-div-eq-div-mul, mul-assoc, mul-comm, pow-suc}
 use lib.Pow.{pow-mono, shl-exact}
-use lib.ListN.{length, getD, set}
+use lib.ListN.{length, getD, set, replicate}
 use lib.Seq.{ext-getD, getD-set-same, getD-set-other}
 use lib.Dec.{eqb}
 use borrow.Author.Count.{below-more}
@@ -197,3 +198,9 @@ sameList-eq [] [] e = refl
 sameList-eq [] (y ∷ b) e = cc
 sameList-eq (x ∷ a) [] e = cc
 sameList-eq (x ∷ a) (y ∷ b) e = let p = and-both (eqb x y) (sameList a b) e in ap₂ _∷_ (eqb-true x y (p .0)) (sameList-eq a b (p .1))
+
+-- a list of zeros, read anywhere
+pub zeros-at : (n k : ℕ) → _≡_ {A = ℕ} (getD (replicate n 0) k 0) 0
+zeros-at zero k = refl
+zeros-at (suc n) zero = refl
+zeros-at (suc n) (suc k) = zeros-at n k

@@ -144,7 +144,7 @@ lifted-bit taps m y p h k l =
         ∙ sym (shr-shr (y * 256) (8 - m + p) i))
 
 -- PARITIES. A parity is 0 or 1
-parity-less : (taps w : ℕ) → parityOf taps w < 2
+pub parity-less : (taps w : ℕ) → parityOf taps w < 2
 unfolding parityOf
 parity-less taps w = mod-lt _ (zero-lt-suc 1)
 

@@ -103,7 +103,7 @@ parity-window n x b m g t h =
     ∙ ap (λ (y : ℕ). y % 2) (sumOf-same (suc m) _ _ (λ i l. ap (λ (y : ℕ). digit m g i * y) (window-bit n x b t i (omega arith))))
 
 -- the bit of a first cell is 0 or 1
-first-bound : (v : ℕ → ℕ) (t : ℕ) → firstBit v t < 2
+pub first-bound : (v : ℕ → ℕ) (t : ℕ) → firstBit v t < 2
 unfolding firstBit
 first-bound v t = mod-lt _ (zero-lt-suc 1)
 

@@ -4,16 +4,16 @@
 --   counts                        a fair event keeps the ledger
 --   call-fair                     every call is a fair event
 --   ledger-from, ledger           any sequence of calls
-use mathlib.Core.Path.{_≡_, refl, sym, _∙_, ap}
+use mathlib.Core.Path.{_≡_, sym, _∙_, ap}
 use mathlib.Core.List.{List, [], _∷_}
 use mathlib.Core.Option.{Option, none, some}
-use Prim.Native.Nat.{ℕ, zero, suc, _<_, _≤_, _+_, _*_, _-_, _/_, _%_, _^_}
+use Prim.Native.Nat.{ℕ, _<_, _≤_, _+_, _*_, _-_, _/_, _%_, _^_}
 use native.Mathlib.Omega.{arith}
 use native.Mathlib.Nat.{zero-div}
 use lib.ListN.{length, getD, replicate}
 use Rattle.cells.specs.Bytes.{bitOf}
 use Rattle.cells.specs.Levels.{level, raisesOf}
-use Rattle.cells.proofs.Places.{sumOf-same, sumOf-add, sumOf-zero}
+use Rattle.cells.proofs.Places.{zeros-at, sumOf-same, sumOf-add, sumOf-zero}
 use Rattle.codes.proofs.Layouts.{oneBit-cells, oneBit-bytes}
 use Rattle.page.specs.Answers.{kept}
 use Rattle.page.specs.Promise.{Wrote, done, spent, refused}
@@ -23,13 +23,7 @@ use Rattle.page.specs.declared.Answer.{Answer}
 use Rattle.refusals.proofs.Refusals.{in-order}
 use Rattle.page.proofs.Promise.{wrote}
 
--- ERASED PAGES. Every bit is 0
-zeros-at : (n i : ℕ) → _≡_ {A = ℕ} (getD (replicate n 0) i 0) 0
-zeros-at zero i = refl
-zeros-at (suc n) zero = refl
-zeros-at (suc n) (suc i) = zeros-at n i
-
--- so the levels are
+-- ERASED PAGES. Every level is 0
 erased-level : (n c : ℕ) → level (replicate n 0) c ≡ 0
 unfolding level bitOf
 erased-level n c = omega (arith, bit (3 * c), bit (3 * c + 1), bit (3 * c + 2))

@@ -17,7 +17,7 @@ use Rattle.search.specs.Trellis.{before}
 use Rattle.search.specs.Plan.{add, lesser, turn}
 use Rattle.stages.specs.Stage.{closed, top}
 use Rattle.stages.specs.Blocks.{settledOf}
-use Rattle.stages.specs.Costs.{Tells, open-at, shut, Told, open-with, shut-from}
+use Rattle.stages.specs.Costs.{Tells, open-at, shut, Trailed, open-with, shut-from}
 
 -- a bit in front of a trail of k stages makes one of k + 1
 longer : (k e t : ℕ) → e ≤ 1 → t < 2 ^ k → e * 2 ^ k + t < 2 ^ suc k
@@ -31,8 +31,8 @@ module _ (unit shut-at : ℕ) where
   above p h = mul-le-mul (le-refl unit) h
 
   -- A BRANCH: its price and its bit are added
-  pub told-way : {b m k p a e t : ℕ} {o c : Option ℕ} → e ≤ 1 → Tells shut-at b p o → Told unit shut-at m k a c t
-      → Told unit shut-at (b + m) (suc k) (a + (unit * p + e * 2 ^ k)) (add o c) (e * 2 ^ k + t)
+  pub told-way : {b m k p a e t : ℕ} {o c : Option ℕ} → e ≤ 1 → Tells shut-at b p o → Trailed unit shut-at m k a c t
+      → Trailed unit shut-at (b + m) (suc k) (a + (unit * p + e * 2 ^ k)) (add o c) (e * 2 ^ k + t)
   unfolding add
   told-way {b} {m} {k} {p} {a} {e} {t} l (open-at h) (open-with {c = c} f g s) =
       let d : unit * (p + c) ≡ unit * p + unit * c = mul-add unit p c in
@@ -58,17 +58,17 @@ module _ (unit shut-at : ℕ) where
       (none-wins : tie ≡ false → t < u) where
     -- of two that cost the same
     by-tie : (c : ℕ) → x ≡ unit * c + t → y ≡ unit * c + u → c ≤ m → t < 2 ^ k → u < 2 ^ k → (b : Bool) → tie ≡ b
-        → Told unit shut-at m k (min x y) (some c) (cond b u t)
+        → Trailed unit shut-at m k (min x y) (some c) (cond b u t)
     by-tie c e f h s r true z = let l : y ≤ x = omega (arith, one z) in open-with (min-eq-right l ∙ f) h r
     by-tie c e f h s r false z = let l : x ≤ y = omega (arith, none-wins z) in open-with (min-eq-left l ∙ e) h s
 
-    pub told-least : {o p : Option ℕ} → Told unit shut-at m k x o t → Told unit shut-at m k y p u
-        → Told unit shut-at m k (min x y) (lesser o p) (cond (turn o p tie) u t)
+    pub told-least : {o p : Option ℕ} → Trailed unit shut-at m k x o t → Trailed unit shut-at m k y p u
+        → Trailed unit shut-at m k (min x y) (lesser o p) (cond (turn o p tie) u t)
     unfolding lesser turn before
     told-least (open-with {c = c} e h s) (open-with {c = d} f g r) = go (ltb d c) (eqb d c) refl refl
       where
         go : (a b : Bool) → ltb d c ≡ a → eqb d c ≡ b
-            → Told unit shut-at m k (min x y) (some (cond a d c)) (cond (a || b && tie) u t)
+            → Trailed unit shut-at m k (min x y) (some (cond a d c)) (cond (a || b && tie) u t)
         go true b q z =
             let n : u < unit = omega arith in
             let l : y ≤ x = omega (arith, less d c u (ltb-true d c q) n) in
@@ -92,8 +92,8 @@ module _ (unit shut-at : ℕ) where
     told-least (shut-from h) (shut-from g) = shut-from {v = min x y} (le-min h g)
 
 -- SETTLED: the low byte of a number is cleared, and the cost is told as before
-pub told-settled : {m k v t : ℕ} {o : Option ℕ} → m < closed → 2 ^ k ≤ 256 → Told 256 closed m k v o t
-    → Told 256 closed m 0 (settledOf v) o 0
+pub told-settled : {m k v t : ℕ} {o : Option ℕ} → m < closed → 2 ^ k ≤ 256 → Trailed 256 closed m k v o t
+    → Trailed 256 closed m 0 (settledOf v) o 0
 unfolding settledOf
 told-settled {v = v} l f (open-with {c = c} {t = t} e h s) =
     let d : v / 256 * 256 ≡ 256 * c = omega arith in
@@ -107,12 +107,12 @@ told-settled {v = v} l f (shut-from h) =
     shut-from y
 
 -- the low byte of a number that tells a cost is its trail
-pub told-low : {m v t : ℕ} {o : Option ℕ} → Told 256 closed m 8 v o t → (o ≡ none → ⊥) → v % 256 ≡ t
+pub told-low : {m v t : ℕ} {o : Option ℕ} → Trailed 256 closed m 8 v o t → (o ≡ none → ⊥) → v % 256 ≡ t
 told-low (open-with e h s) some-cost = omega arith
 told-low (shut-from h) some-cost = absurd (some-cost refl)
 
 -- a number without a trail is the cost in 256ths
-pub told-cost : {m v t : ℕ} {o : Option ℕ} → Told 256 closed m 0 v o t → Tells closed m (v / 256) o
+pub told-cost : {m v t : ℕ} {o : Option ℕ} → Trailed 256 closed m 0 v o t → Tells closed m (v / 256) o
 told-cost {m} {v} (open-with {c = c} e h s) =
     let z : v / 256 ≡ c = omega arith in subst (λ (n : ℕ). Tells closed m n (some c)) (sym z) (open-at h)
 told-cost {m} {v} (shut-from h) = let z : closed ≤ v / 256 = omega arith in shut z

@@ -8,7 +8,6 @@ use mathlib.Core.Option.{Option}
 use Prim.Native.Nat.{ℕ, zero, suc, _+_, _-_, _*_, _%_, _^_, _≤_, _<_, min}
 use native.Mathlib.Omega.{arith}
 use native.Mathlib.Nat.{mul-le-mul, le-refl, pow-suc}
-use lib.ListN.{getD}
 use lib.Pow.{pow-pos, pow-mono}
 use Rattle.codes.specs.Sequences.{_+₂_, odd}
 use Rattle.codes.specs.Numbers.{one-if}
@@ -17,8 +16,8 @@ use Rattle.search.specs.Plan.{add, lesser, turn, way, costs, digit-at}
 use Rattle.search.specs.Plain.{Prices, branchWord, branchPrice, branchTie}
 use Rattle.search.proofs.Windows.{mod-odd}
 use Rattle.stages.specs.Stage.{closed, stageOf}
-use Rattle.stages.specs.Blocks.{rowAt, flagOf, markedOf, runOf}
-use Rattle.stages.specs.Costs.{Tells, Told}
+use Rattle.stages.specs.Blocks.{pickAt, flagOf, markedOf, blockOf}
+use Rattle.stages.specs.Costs.{Tells, Trailed}
 use Rattle.stages.specs.Trails.{stagesFrom, priceBy, tieBy, missOf, digitOf, trailOf, Quoted}
 use Rattle.stages.proofs.Costs.{told-way, told-least}
 
@@ -75,14 +74,14 @@ module _ {G : Type 0} (n : ℕ) (words : ℕ → ℕ) (words-le : (s : ℕ) → 
   module _ (unit shut-at b m k : ℕ) (g : G) (gs : List G) (prices plain after : ℕ → ℕ)
       (priced : (j : ℕ) → j ≤ 3 → prices j ≡ unit * plain j + flagOf (one-if (quote g .stay)) j * 2 ^ k)
       (tells : (j : ℕ) → j ≤ 3 → Tells shut-at b (plain j) (quote g .of j))
-      (told : (s : ℕ) → s < n → Told unit shut-at m k (after s) (costBy gs s) (trailBy k gs s))
+      (told : (s : ℕ) → s < n → Trailed unit shut-at m k (after s) (costBy gs s) (trailBy k gs s))
       (room : b + m < shut-at) (fits : 2 ^ suc k ≤ unit) where
     -- a branch by its word j and its next state x
     branch-told : (j x : ℕ) → j ≤ 3 → x < n
-        → Told unit shut-at (b + m) (suc k) (after x + prices j) (add (quote g .of j) (costBy gs x))
+        → Trailed unit shut-at (b + m) (suc k) (after x + prices j) (add (quote g .of j) (costBy gs x))
         (flagOf (one-if (quote g .stay)) j * 2 ^ k + trailBy k gs x)
     branch-told j x h l =
-        subst (λ (v : ℕ). Told unit shut-at (b + m) (suc k) (after x + v) (add (quote g .of j) (costBy gs x))
+        subst (λ (v : ℕ). Trailed unit shut-at (b + m) (suc k) (after x + v) (add (quote g .of j) (costBy gs x))
         (flagOf (one-if (quote g .stay)) j * 2 ^ k + trailBy k gs x)) (sym (priced j h))
         (told-way unit shut-at (flag-le (one-if (quote g .stay)) j) (tells j h) (told x l))
 
@@ -126,7 +125,7 @@ module _ {G : Type 0} (n : ℕ) (words : ℕ → ℕ) (words-le : (s : ℕ) → 
       trail-by false = rw (next-zero g s, flag-miss (quote g .stay) w)
 
       -- the number of the state tells the lesser branch, and its trail
-      pub stage-told : Told unit shut-at (b + m) (suc k) (stageOf n words prices after s) (costBy (g ∷ gs) s) (trailBy (suc k) (g ∷ gs) s)
+      pub stage-told : Trailed unit shut-at (b + m) (suc k) (stageOf n words prices after s) (costBy (g ∷ gs) s) (trailBy (suc k) (g ∷ gs) s)
       unfolding stageOf costs way branchPrice branchWord trailOf digitOf digit-at branchTie
       stage-told =
           let o = add (quote g .of w) (costBy gs x) in
@@ -134,7 +133,7 @@ module _ {G : Type 0} (n : ℕ) (words : ℕ → ℕ) (words-le : (s : ℕ) → 
           let near : x < n = omega (arith, inside s) in
           let other : 3 - w ≤ 3 = omega arith in
           rw (next-zero g s, next-one g s)
-          (subst (λ (t : ℕ). Told unit shut-at (b + m) (suc k) (min (after x + prices w) (after (x + 1) + prices (3 - w))) (lesser o p) t)
+          (subst (λ (t : ℕ). Trailed unit shut-at (b + m) (suc k) (min (after x + prices w) (after (x + 1) + prices (3 - w))) (lesser o p) t)
           (sym (trail-by (turn o p (tieBy words quote next g s))))
           (told-least unit shut-at (tieBy words quote next g s) room fits
           (λ e. one-lower (trailBy k gs (x + 1)) (trailBy k gs x) (trail-less k gs (x + 1)) e)
@@ -143,8 +142,8 @@ module _ {G : Type 0} (n : ℕ) (words : ℕ → ℕ) (words-le : (s : ℕ) → 
 
   -- A BLOCK from stage t on, with `later` stages after it, in 256ths
   module _ (most m t later : ℕ) (stage : ℕ → G) (rows : List ℕ) (picks : ℕ) (after : ℕ → ℕ)
-      (quoted : (i : ℕ) → i < 8 → Quoted most rows (rowAt picks i) (quote (stage (t + i))))
-      (told : (s : ℕ) → s < n → Told 256 closed m 0 (after s) (costBy (stagesFrom stage (t + 8) later) s) 0)
+      (quoted : (i : ℕ) → i < 8 → Quoted most rows (pickAt picks i) (quote (stage (t + i))))
+      (told : (s : ℕ) → s < n → Trailed 256 closed m 0 (after s) (costBy (stagesFrom stage (t + 8) later) s) 0)
       (room : 8 * most + m < closed) where
     -- the last k stages of the block, and those after it
     abbrev last : ℕ → List G
@@ -167,12 +166,12 @@ module _ {G : Type 0} (n : ℕ) (words : ℕ → ℕ) (words-le : (s : ℕ) → 
 
     -- THE BLOCK, its last k stages
     pub run-told : (k : ℕ) → k ≤ 8 → (s : ℕ) → s < n
-        → Told 256 closed (k * most + m) k (runOf n words rows picks after k s) (costBy (last k) s) (trailBy k (last k) s)
-    unfolding runOf trailOf
+        → Trailed 256 closed (k * most + m) k (blockOf n words rows picks after k s) (costBy (last k) s) (trailBy k (last k) s)
+    unfolding blockOf trailOf
     run-told zero h s l = let e : 0 * most + m ≡ m = omega arith in let f : 0 + later ≡ later = omega arith in rw (e, f) (told s l)
     run-told (suc k) h s l =
         let i : ℕ = 7 - k in
-        let r : ℕ = rowAt picks i in
+        let r : ℕ = pickAt picks i in
         let row = quoted i (omega arith) in
         let fine : k ≤ 7 = omega arith in
         let b : suc k * most + m ≡ most + (k * most + m) = omega arith in
@@ -180,4 +179,4 @@ module _ {G : Type 0} (n : ℕ) (words : ℕ → ℕ) (words-le : (s : ℕ) → 
         let c : 2 ^ suc k ≤ 2 ^ 8 = pow-mono h in
         rw (b, last-more k fine)
         (stage-told 256 closed most (k * most + m) k (stage (t + i)) (last k) (markedOf rows r k) (row .plain)
-        (runOf n words rows picks after k) (row-marked r k _ row) (row .tells) (run-told k (omega arith)) (omega arith) (omega arith) s)
+        (blockOf n words rows picks after k) (row-marked r k _ row) (row .tells) (run-told k (omega arith)) (omega arith) (omega arith) s)

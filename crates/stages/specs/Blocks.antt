@@ -1,20 +1,20 @@
 -- A BLOCK is eight stages. Costs are held in 256ths, and a word whose first code bit is not the row's costs a little more, at a bit of the low
 -- byte that is the stage's own: so ties fall as they must, and the low byte of a state's number says how it came to the end of the block.
---   rowAt picks i        the row of stage i of the block: a byte of picks
+--   pickAt picks i        the row of stage i of the block: a byte of picks
 --   flagOf low j         1 where the first code bit of the word j is not `low`
 --   markedOf rows r k    the price of each word of the row r, marked at the bit k
---   runOf                the numbers of the states before the last k stages of the block
+--   blockOf                the numbers of the states before the last k stages of the block
 --   settledOf            a number with its low byte cleared, and cut off at `top`
 --   RunAsked, Ran, Settled, Kept   what the functions of a block ask and give
 use Prim.Native.Nat.{ℕ, zero, suc, _+_, _-_, _*_, _/_, _%_, _^_, _≤_, _<_, min}
 use mathlib.Core.List.{List}
 use mathlib.Core.Path.{_≡_}
 use lib.ListN.{length, getD}
-use Rattle.stages.specs.Stage.{top, mostCost, stageOf}
+use Rattle.stages.specs.Stage.{top, stageOf}
 
 -- the row of stage i: 32 rows are in use
-unfoldable pub rowAt : ℕ → ℕ → ℕ
-rowAt picks i = picks / 2 ^ (8 * i) % 32
+unfoldable pub pickAt : ℕ → ℕ → ℕ
+pickAt picks i = picks / 2 ^ (8 * i) % 32
 
 -- 1 where the first code bit of the word j is not `low`
 unfoldable pub flagOf : ℕ → ℕ → ℕ
@@ -26,9 +26,9 @@ markedOf rows r k j = getD rows (4 * r + j) 0 + flagOf (r % 2) j * 2 ^ k
 
 -- n states, their words, and the numbers after the block: the numbers before its last k stages
 module _ (n : ℕ) (words : ℕ → ℕ) (rows : List ℕ) (picks : ℕ) (after : ℕ → ℕ) where
-  unfoldable pub runOf : ℕ → ℕ → ℕ
-  runOf zero = after
-  runOf (suc k) = stageOf n words (markedOf rows (rowAt picks (7 - k)) k) (runOf k)
+  unfoldable pub blockOf : ℕ → ℕ → ℕ
+  blockOf zero = after
+  blockOf (suc k) = stageOf n words (markedOf rows (pickAt picks (7 - k)) k) (blockOf k)
 
 -- the low byte cleared, and no number above `top` told from it
 unfoldable pub settledOf : ℕ → ℕ
@@ -43,7 +43,7 @@ pub record RunAsked (costs rows : List ℕ) : Type 0 where
 -- the numbers of n states before the block; the other places are not touched
 pub record Ran (n : ℕ) (words : ℕ → ℕ) (rows : List ℕ) (picks : ℕ) (entry exit : List ℕ) : Type 0 where
   pub long : length exit ≡ 64
-  pub states : (s : ℕ) → s < n → getD exit s 0 ≡ runOf n words rows picks (λ i. getD entry i 0) 8 s
+  pub states : (s : ℕ) → s < n → getD exit s 0 ≡ blockOf n words rows picks (λ i. getD entry i 0) 8 s
   pub others : (s : ℕ) → n ≤ s → getD exit s 0 ≡ getD entry s 0
 
 -- the numbers of n states settled; the other places are not touched

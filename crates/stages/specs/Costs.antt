@@ -1,7 +1,7 @@
 -- Costs as a program holds them: a number for each optional cost. Closed is any number from `closed` on, never a cost, and no sum brings it
 -- back among the costs.
 --   Tells   the number v tells an optional cost
---   Told    the same in `unit`ths, with the trail of k stages below the unit
+--   Trailed    the same in `unit`ths, with the trail of k stages below the unit
 use mathlib.Core.Path.{_≡_}
 use Prim.Native.Nat.{ℕ, _+_, _*_, _^_, _≤_, _<_}
 use mathlib.Core.Option.{Option, none, some}
@@ -12,6 +12,6 @@ pub data Tells (closed most : ℕ) : ℕ → Option ℕ → Type 0 where
   shut : {v : ℕ} → closed ≤ v → Tells closed most v none
 
 -- the number v in `unit`ths tells the optional cost and, where there is one, the trail t of k stages
-pub data Told (unit closed most k : ℕ) : ℕ → Option ℕ → ℕ → Type 0 where
-  open-with : {v c t : ℕ} → v ≡ unit * c + t → c ≤ most → t < 2 ^ k → Told unit closed most k v (some c) t
-  shut-from : {v t : ℕ} → unit * closed ≤ v → Told unit closed most k v none t
+pub data Trailed (unit closed most k : ℕ) : ℕ → Option ℕ → ℕ → Type 0 where
+  open-with : {v c t : ℕ} → v ≡ unit * c + t → c ≤ most → t < 2 ^ k → Trailed unit closed most k v (some c) t
+  shut-from : {v t : ℕ} → unit * closed ≤ v → Trailed unit closed most k v none t

@@ -1,8 +1,8 @@
 // One stage of the search of 64 states: one function that a reader can hold in the head, in the shape that the vector unit likes.
 ghost use mathlib.Core.Path.{_≡_};
-ghost use Prim.Native.Nat.{ℕ, _+_, _^_, _<_, _≤_, min};
-ghost use lib.ListN.{length, getD};
-ghost use Rattle.stages.specs.Stage.{pick, stagedAt, StageAsked, HalfAsked, Staged};
+ghost use Prim.Native.Nat.{_+_, _^_, _<_, _≤_, min};
+ghost use lib.ListN.{getD};
+ghost use Rattle.stages.specs.Stage.{pick, StageAsked, HalfAsked, Staged};
 
 // The first for the digit 0, else the second.
 fn pick(d: u8, x: u32, y: u32) -> u32

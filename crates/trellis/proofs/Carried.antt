@@ -27,18 +27,18 @@ use Rattle.cells.specs.Bytes.{bitOf, bytesOf}
 use Rattle.cells.specs.Levels.{level}
 use Rattle.cells.specs.Raising.{startOf, zeroFrom, raise, raisedTimes, triple, raisedTo}
 use Rattle.cells.proofs.Places.{same?, listOf-at, number-same, number-less}
-use Rattle.cells.proofs.Bytes.{number-bit}
+use Rattle.cells.proofs.Bytes.{number-bit, number-bits}
 use Rattle.cells.proofs.Raising.{raisedTo-length, raisedTo-same, raisedTo-none}
 use Rattle.codes.specs.Generators.{Generators, g2}
 use Rattle.codes.specs.Taps.{tapsOf, parityOf, windowOf}
 use Rattle.codes.specs.Blocks.{labelAt}
-use Rattle.codes.proofs.Taps.{window-less}
+use Rattle.codes.proofs.Taps.{low-bit, window-less}
 use Rattle.codes.proofs.Divisions.{xor-bit}
 use Rattle.codes.proofs.Windows.{window-byte, window-parity, label-bound}
 use Rattle.trellis.specs.Rows.{onesOf, bitsAt}
 use Rattle.trellis.specs.Carrying.{digitIn, wantedFirst, wantedSecond, wantedOf, carriedTo}
 use Rattle.trellis.specs.Carrying.{shownCell, shownPair, Shows, shownBits, byteIn, withBits}
-use Rattle.trellis.proofs.Digits.{low-bit, byte-number, packed, packed-less, packed-bit}
+use Rattle.trellis.proofs.Digits.{packed, packed-less, packed-bit}
 use Rattle.trellis.proofs.Digits.{stored, length-stored, stored-at, stored-other}
 
 -- CELLS. A place of some bits set to 1 leaves bits
@@ -56,20 +56,20 @@ raised-bits s zero l b = b
 raised-bits s (suc n) l b = set-bits (raisedTimes s n l) (zeroFrom s (raisedTimes s n l)) (raised-bits s n l b)
 
 -- the three bits of a number
-abbrev three : ℕ → List ℕ
-three x = x % 2 ∷ x / 2 % 2 ∷ x / 4 % 2 ∷ []
+abbrev threeBits : ℕ → List ℕ
+threeBits x = x % 2 ∷ x / 2 % 2 ∷ x / 4 % 2 ∷ []
 
 -- are bits
-three-bits : (x i : ℕ) → getD (three x) i 0 < 2
-three-bits x zero = mod-lt _ (zero-lt-suc 1)
-three-bits x (suc zero) = mod-lt _ (zero-lt-suc 1)
-three-bits x (suc (suc zero)) = mod-lt _ (zero-lt-suc 1)
-three-bits x (suc (suc (suc i))) = omega arith
+threeBits-small : (x i : ℕ) → getD (threeBits x) i 0 < 2
+threeBits-small x zero = mod-lt _ (zero-lt-suc 1)
+threeBits-small x (suc zero) = mod-lt _ (zero-lt-suc 1)
+threeBits-small x (suc (suc zero)) = mod-lt _ (zero-lt-suc 1)
+threeBits-small x (suc (suc (suc i))) = omega arith
 
 module _ (s x v : ℕ) where
   -- a cell that is to show a bit is left with bits
-  shown-raised-bits : (i : ℕ) → getD (raisedTimes s ((onesOf x + v) % 2) (three x)) i 0 < 2
-  shown-raised-bits = raised-bits s ((onesOf x + v) % 2) (three x) (three-bits x)
+  shown-raised-bits : (i : ℕ) → getD (raisedTimes s ((onesOf x + v) % 2) (threeBits x)) i 0 < 2
+  shown-raised-bits = raised-bits s ((onesOf x + v) % 2) (threeBits x) (threeBits-small x)
 
   -- what is shown is three bits
   pub shown-less : shownCell s x v < 8
@@ -77,7 +77,7 @@ module _ (s x v : ℕ) where
   shown-less = number-less 3 _ shown-raised-bits
 
   -- those of the cell raised
-  shown-bit : (r : ℕ) → r < 3 → shownCell s x v / 2 ^ r % 2 ≡ getD (raisedTimes s ((onesOf x + v) % 2) (three x)) r 0
+  shown-bit : (r : ℕ) → r < 3 → shownCell s x v / 2 ^ r % 2 ≡ getD (raisedTimes s ((onesOf x + v) % 2) (threeBits x)) r 0
   unfolding shownCell
   shown-bit r h = number-bit 3 _ (λ i l. shown-raised-bits i) r h
 
@@ -85,7 +85,7 @@ module _ (s x v : ℕ) where
 first-bit : (a b r : ℕ) → a < 8 → r < 3 → (a + 8 * b) / 2 ^ r % 2 ≡ a / 2 ^ r % 2
 first-bit a b r l h =
     let e : (a + 8 * b) % 8 ≡ a = omega arith in
-    sym (low-bit (a + 8 * b) 3 r h) ∙ ap (λ (y : ℕ). y / 2 ^ r % 2) e
+    sym (low-bit 3 r (a + 8 * b) h) ∙ ap (λ (y : ℕ). y / 2 ^ r % 2) e
 
 -- and of the second
 second-bit : (a b r : ℕ) → a < 8 → (a + 8 * b) / 2 ^ (3 + r) % 2 ≡ b / 2 ^ r % 2
@@ -158,7 +158,7 @@ module _ (pairs : List ℕ) (less : (k : ℕ) → getD pairs k 0 < 64) (bits fir
 -- A CELL by a number whose three bits are its own
 module _ (strip : List ℕ) (c x : ℕ) (bits : (r : ℕ) → r < 3 → x / 2 ^ r % 2 ≡ bitOf strip (3 * c + r)) where
   -- the same three bits
-  cell-three : three x ≡ triple strip c
+  cell-three : threeBits x ≡ triple strip c
   unfolding triple
   cell-three =
       let z : x / 1 ≡ x = omega arith in
@@ -339,7 +339,7 @@ module _ (G : Generators) (strip content : List ℕ) (u : ℕ → ℕ) where
         ap (λ (y : ℕ). y / 2 ^ r % 2) (stage-pair i)
         ∙ first-bit _ _ r (shown-less (startOf c) (x % 8) (first / 2 ^ (7 - i) % 2)) l
         ∙ cell-carried (16 * (q + 1)) c (x % 8) _ r (omega arith) l (wants-first i h ∙ sym (wanted-even (8 * q + i)))
-        (λ e m. low-bit x 3 e m ∙ six i e h (omega arith) ∙ ap (bitOf strip) (omega arith))
+        (λ e m. low-bit 3 e x m ∙ six i e h (omega arith) ∙ ap (bitOf strip) (omega arith))
         ∙ ap (raisedBit strip (carriedBelow (16 * (q + 1)))) k
 
     -- and of the second
@@ -378,10 +378,10 @@ module _ (G : Generators) (strip content : List ℕ) (u : ℕ → ℕ) where
     unfolding byteIn
     block-byte j h l =
         let x = shownBits pairs (bitsAt strip q) first second 8 in
-        sym (byte-number (x / 2 ^ (8 * j) % 256) (mod-lt _ (zero-lt-suc 255)))
+        sym (number-bits 8 (x / 2 ^ (8 * j) % 256) (mod-lt _ (zero-lt-suc 255)))
         ∙ number-same 8 _ _ (λ e k.
         let d : 48 * q + (8 * j + e) ≡ 8 * (6 * q + j) + e = omega arith in
-        low-bit (x / 2 ^ (8 * j)) 8 e k ∙ ap (λ (y : ℕ). y % 2) (shr-shr x (8 * j) e) ∙ block-bit (8 * j + e) (omega arith)
+        low-bit 8 e (x / 2 ^ (8 * j)) k ∙ ap (λ (y : ℕ). y % 2) (shr-shr x (8 * j) e) ∙ block-bit (8 * j + e) (omega arith)
         ∙ ap (raisedBit strip (carriedBelow (16 * (q + 1)))) d)
         ∙ sym (raised-byte strip (carriedBelow (16 * (q + 1))) (6 * q + j) l)
 
@@ -423,12 +423,12 @@ pub digits-window : (digits : List ℕ) (q : ℕ) → getD digits q 0 < 256 → 
 unfolding digitIn
 digits-window digits q h =
     let w : ℕ = windowOf 8 (digitIn digits) (8 * (q + 1)) in
-    sym (byte-number w (window-less 8 (digitIn digits) (8 * (q + 1))))
+    sym (number-bits 8 w (window-less 8 (digitIn digits) (8 * (q + 1))))
     ∙ number-same 8 _ _ (λ p l.
     let e : (8 * q + (7 - p)) / 8 ≡ q = omega arith in
     let f : 7 - (8 * q + (7 - p)) % 8 ≡ p = omega arith in
     window-byte (digitIn digits) (digit-less digits) q p l ∙ ap₂ (λ (k j : ℕ). getD digits k 0 / 2 ^ j % 2) e f)
-    ∙ byte-number (getD digits q 0) h
+    ∙ number-bits 8 (getD digits q 0) h
 
 module _ (G : Generators) (reach : G .memory ≤ 6) (content digits : List ℕ) (q : ℕ) (byte : getD digits q 0 < 256) {before w : ℕ}
     (e : before ≡ windowOf 8 (digitIn digits) (8 * q)) (f : w ≡ before * 256 + getD digits q 0) where

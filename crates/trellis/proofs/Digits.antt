@@ -1,33 +1,21 @@
 -- Digits of some bits each, packed into a number, and numbers stored one after the other.
---   low-bit        the low w bits of a number have its bits
---   byte-number    a byte is the number of its bits
 --   packed         the number of n digits of w bits each, the first worth least, which fits n times w bits (packed-less)
 --   packed-bit     bit r of digit i
 --   stored         a list with n numbers stored from place p on, as long as before (length-stored)
 --   stored-at      the numbers stored, and every other place as it was (stored-other)
 use mathlib.Core.Path.{_≡_, refl, sym, _∙_, ap}
 use mathlib.Core.Logic.{⊎-elim}
-use mathlib.Core.List.{List, [], _∷_}
+use mathlib.Core.List.{List}
 use Prim.Native.Nat.{ℕ, zero, suc, _+_, _*_, _-_, _/_, _%_, _^_, _<_, _≤_}
 use native.Mathlib.Omega.{arith, ne-cases}
 use native.Mathlib.Nat.{not-suc-le-zero, mul-assoc, mul-le-mul-right, add-mul-div-right, add-mul-mod-self-right}
 use lib.ListN.{length, getD, set, length-set}
-use lib.Pow.{pow-add, pow-pos, high, field, mod-mod-pow, shr-shr}
+use lib.Pow.{pow-add, pow-pos, high, shr-shr}
 use lib.Seq.{getD-set-same, getD-set-other}
-use Rattle.cells.specs.Places.{listOf, number}
-use Rattle.cells.specs.Bytes.{bitOf, bytesOf}
-use Rattle.cells.proofs.Places.{same?, number-same}
-use Rattle.cells.proofs.Bytes.{bytes-bits}
+use Rattle.cells.proofs.Places.{same?}
 use Rattle.cells.proofs.Parts.{within}
 
--- BITS OF NUMBERS. The low w bits of a number have its bits
-pub low-bit : (x w r : ℕ) → r < w → x % 2 ^ w / 2 ^ r % 2 ≡ x / 2 ^ r % 2
-low-bit x w r h =
-    let e = w - r - 1 in
-    let s : w ≡ e + 1 + r = omega arith in
-    ap (λ (k : ℕ). x % 2 ^ k / 2 ^ r % 2) s ∙ ap (λ (y : ℕ). y % 2) (field x (e + 1) r) ∙ mod-mod-pow (x / 2 ^ r) e 1
-
--- what is added above a bit leaves the bit
+-- BITS OF NUMBERS. What is added above a bit leaves the bit
 bit-below : (x y r e : ℕ) → (x + y * 2 ^ (e + 1 + r)) / 2 ^ r % 2 ≡ x / 2 ^ r % 2
 bit-below x y r e =
     let m : y * 2 ^ (e + 1 + r) ≡ y * 2 ^ e * 2 * 2 ^ r =
@@ -36,16 +24,6 @@ bit-below x y r e =
     ap (λ (z : ℕ). (x + z) / 2 ^ r % 2) m
     ∙ ap (λ (z : ℕ). z % 2) (add-mul-div-right x (y * 2 ^ e * 2) (pow-pos r))
     ∙ add-mul-mod-self-right (x / 2 ^ r) (y * 2 ^ e) 2
-
--- a byte is the number of its bits
-pub byte-number : (x : ℕ) → x < 256 → number 8 (λ i. x / 2 ^ i % 2) ≡ x
-unfolding bytesOf listOf bitOf
-byte-number x h =
-    number-same 8 _ (λ i. bitOf (x ∷ []) (8 * 0 + i)) (λ i l.
-    let d : (8 * 0 + i) / 8 ≡ 0 = omega arith in
-    let m : (8 * 0 + i) % 8 ≡ i = omega arith in
-    rw (d, m))
-    ∙ ap (λ (l : List ℕ). getD l 0 0) (bytes-bits 1 (x ∷ []) refl (λ q k. let z : q ≡ 0 = omega arith in rw z h))
 
 -- DIGITS of w bits each, the first worth least
 unfoldable pub packed : ℕ → (ℕ → ℕ) → ℕ → ℕ

@@ -20,17 +20,18 @@ use Rattle.codes.specs.Generators.{Generators}
 use Rattle.codes.specs.Layouts.{oneBit, stageCount, cellCount}
 use Rattle.codes.specs.Sequences.{_+₂_, odd}
 use Rattle.codes.specs.Numbers.{one-if}
-use Rattle.codes.specs.Taps.{tapsOf, parityOf, wordOf, windowOf, firstBit}
+use Rattle.codes.specs.Taps.{tapsOf, parityOf, windowOf, firstBit}
 use Rattle.codes.proofs.Numbers.{one-if-le, sum-bits}
 use Rattle.codes.proofs.Layouts.{oneBit-cells}
-use Rattle.codes.proofs.Taps.{window-less}
+use Rattle.codes.proofs.Taps.{first-bound, window-less}
+use Rattle.codes.proofs.Divisions.{parity-less}
 use Rattle.codes.proofs.Windows.{window-suc, window-parts, window-byte, windows-give, xor-windows}
 use Rattle.search.specs.Best.{Solution}
 use Rattle.search.specs.Strip.{Dear, stepsOf}
 use Rattle.search.specs.Levels.{cellAt, levelAt}
 use Rattle.search.specs.Search.{Stage}
 use Rattle.search.specs.Parity.{parity-choice}
-use Rattle.search.specs.Plan.{solutionCost, way, costs, digit-at, plan, play}
+use Rattle.search.specs.Plan.{solutionCost, way, costs, plan, play}
 use Rattle.search.specs.Numbered.{branchN, nextN}
 use Rattle.search.specs.Plain.{branchWord, branchPrice}
 use Rattle.search.specs.OneBit.{oneBitPrices}
@@ -44,7 +45,7 @@ use Rattle.search.proofs.Layouts.{oneBit-write}
 use Rattle.search.proofs.Windows.{mod-odd, firstOf, secondOf, parity-number, word-odd}
 use Rattle.stages.specs.Stage.{closed, wordsOf}
 use Rattle.stages.specs.Trails.{stagesFrom, priceBy, tieBy, missOf, digitOf, trailOf}
-use Rattle.trellis.specs.Ways.{encoderFor, labelFor, cellFor, stageFor, quoteFor, nextFor, stagesFor, costsFor, trailFor, blocksFor, Traced, Lows, Followed}
+use Rattle.trellis.specs.Ways.{encoderFor, labelFor, cellFor, stageFor, quoteFor, nextFor, stagesFor, costsFor, trailFor, Traced, Lows, Followed}
 use Rattle.trellis.specs.Carrying.{digitIn, wantedFirst, wantedSecond, wantedOf, carriedTo}
 use Rattle.trellis.specs.Plans.{writeOf, Plans}
 use Rattle.trellis.proofs.Costs.{Below, at-most, below-told, below-add, below-lesser, below-some}
@@ -54,16 +55,6 @@ use Rattle.trellis.proofs.Ways.{Suits, suits-sound, label-told, stages-
 -- a bit as a number is below 2
 one-less : (b : Bool) → one-if b < 2
 one-less b = omega (arith, one-if-le b)
-
--- a parity is 0 or 1
-parity-less : (taps w : ℕ) → parityOf taps w < 2
-unfolding parityOf
-parity-less taps w = mod-lt _ (zero-lt-suc 1)
-
--- and so is the bit that a first cell shows
-bit-less : (strip : List ℕ) (t : ℕ) → firstBit (level strip) t < 2
-unfolding firstBit
-bit-less strip t = mod-lt _ (zero-lt-suc 1)
 
 -- CARRYING OUT one stage, whose last digits come to the state s and the digit d
 module _ (G : Generators) (strip content : List ℕ) (u : ℕ → ℕ) (t s : ℕ) (d : Bool)
@@ -292,7 +283,7 @@ path-followed G W K D strip content {lows} {history} T B a e = record {
     told : (q : ℕ) → q < L → bitXor (getD history (64 * q + windowOf (G .memory) u (8 * q)) 0) (getD lows q 0) ≡ windowOf 8 first (8 * (q + 1))
     told q h =
         ap₂ bitXor (kept q h) (B .shown q h)
-        ∙ xor-windows 8 (pathMiss G W strip content L) (firstBit (level strip)) (miss-less G W K strip content L D) (bit-less strip) (8 * (q + 1))
+        ∙ xor-windows 8 (pathMiss G W strip content L) (firstBit (level strip)) (miss-less G W K strip content L D) (first-bound (level strip)) (8 * (q + 1))
         ∙ ap (λ (f : ℕ → ℕ). windowOf 8 f (8 * (q + 1))) (fun-ext λ t. path-first G W K strip content L D t)
 
 -- THE DIGITS. A window depends on the bits before its stage alone

@@ -3,7 +3,7 @@
 --   price-nothing, price-step           what a cell costs to show a bit, in 256ths
 --   price-cut, table-filled             the price of a word, and the table of all
 --   pairList, pairs-le                  the program's table of pairs, none of them above 15
---   row-le, row-shl                     a row is at most 31, and fits its byte
+--   row-most, row-shl                     a row is at most 31, and fits its byte
 --   picks-less, picks-fit, picks-more   a row is added to those that are picked
 --   bits-bit, bits-less                 the 48 bits of a block are bits of the strip
 --   six-bit, pair-levels                six of them are a stage's, and give the levels of its two cells
@@ -24,11 +24,11 @@ use lib.Pow.{pow-add, pow-pos, pow-mono, shl-exact, shr-shr, field, mod-mod-pow,
 use borrow.Author.Count.{below-more}
 use borrow.Author.Tests.{eq-eqb, ne-eqb, ltb-true, ltb-false, le-ltb}
 use Rattle.cells.specs.Places.{listOf, number}
-use Rattle.cells.specs.Bytes.{bitOf, bytesOf}
+use Rattle.cells.specs.Bytes.{bitOf}
 use Rattle.cells.specs.Levels.{level}
 use Rattle.cells.specs.Climbs.{weightOf}
 use Rattle.cells.proofs.Places.{listOf-at, number-same, number-less}
-use Rattle.cells.proofs.Bytes.{bit-bound, number-bit, bytes-bits}
+use Rattle.cells.proofs.Bytes.{bit-bound, number-bit, byte-bits}
 use Rattle.cells.proofs.Levels.{level-bound}
 use Rattle.codes.specs.Generators.{Generators}
 use Rattle.codes.specs.Sequences.{_+₂_, odd}
@@ -42,10 +42,10 @@ use Rattle.search.specs.Plan.{solutionCost}
 use Rattle.search.specs.OneBit.{bitPrice, oneBitPrices}
 use Rattle.search.proofs.Windows.{mod-odd}
 use Rattle.stages.specs.Stage.{closed, top}
-use Rattle.stages.specs.Blocks.{rowAt}
+use Rattle.stages.specs.Blocks.{pickAt}
 use Rattle.stages.specs.Costs.{Tells, open-at, shut}
 use Rattle.stages.specs.Trails.{Quoted}
-use Rattle.trellis.specs.Rows.{stepList, priceFor, rowPrice, Table, Priced, onesOf, pairOf, rowOf, bitsAt}
+use Rattle.trellis.specs.Rows.{stepList, priceFor, rowPrice, Table, Priced, onesOf, pairOf, stageRow, bitsAt}
 use Rattle.trellis.specs.Ways.{labelFor, stageFor, quoteFor}
 use Rattle.trellis.proofs.Costs.{tells-add, tells-cut}
 
@@ -138,20 +138,20 @@ pairs-le x = rw (pairs-are x) (omega (arith, ones-le (x % 64), ones-le (x % 64 /
 
 module _ (bits labels i : ℕ) where
   -- the row of stage i, as the program adds it up
-  row-is : getD pairList (bits / 2 ^ (6 * i) % 64) 0 + labels / 2 ^ (7 - i) % 2 * 16 ≡ rowOf bits labels i
-  unfolding rowOf
+  row-is : getD pairList (bits / 2 ^ (6 * i) % 64) 0 + labels / 2 ^ (7 - i) % 2 * 16 ≡ stageRow bits labels i
+  unfolding stageRow
   row-is = rw (pairs-are (bits / 2 ^ (6 * i)))
 
   -- it is at most 31
-  pub row-le : rowOf bits labels i ≤ 31
-  row-le =
+  pub row-most : stageRow bits labels i ≤ 31
+  row-most =
       let b : labels / 2 ^ (7 - i) % 2 ≤ 1 = omega arith in
       omega (arith, row-is, pairs-le (bits / 2 ^ (6 * i)))
 
   -- and shifted to its byte it fits
   pub row-shl : i < 8 → (getD pairList (bits / 2 ^ (6 * i) % 64) 0 + labels / 2 ^ (7 - i) % 2 * 16) * 2 ^ (8 * i) % 2 ^ 64
-      ≡ rowOf bits labels i * 2 ^ (8 * i)
-  row-shl l = rw row-is (shl-exact 8 (8 * i) 64 (omega (arith, row-le)) (omega arith))
+      ≡ stageRow bits labels i * 2 ^ (8 * i)
+  row-shl l = rw row-is (shl-exact 8 (8 * i) 64 (omega (arith, row-most)) (omega arith))
 
 -- the rows of i stages are picked, and one row more is added
 module _ (p r i : ℕ) (less : p < 2 ^ (8 * i)) (h : r ≤ 31) where
@@ -169,8 +169,8 @@ module _ (p r i : ℕ) (less : p < 2 ^ (8 * i)) (h : r ≤ 31) where
       omega (arith, picks-less, pow-mono e)
 
   -- the rows before it are as they were
-  row-before : (j : ℕ) → j < i → rowAt (p + r * 2 ^ (8 * i)) j ≡ rowAt p j
-  unfolding rowAt
+  row-before : (j : ℕ) → j < i → pickAt (p + r * 2 ^ (8 * i)) j ≡ pickAt p j
+  unfolding pickAt
   row-before j l =
       let n = 8 * (i - j - 1) in
       let e : 8 * i ≡ n + 8 + 8 * j = omega arith in
@@ -178,32 +178,19 @@ module _ (p r i : ℕ) (less : p < 2 ^ (8 * i)) (h : r ≤ 31) where
       rw (f, add-mul-div-right p (r * 2 ^ n * 256) (pow-pos (8 * j))) (omega arith)
 
   -- and its own is there
-  row-there : rowAt (p + r * 2 ^ (8 * i)) i ≡ r
-  unfolding rowAt
+  row-there : pickAt (p + r * 2 ^ (8 * i)) i ≡ r
+  unfolding pickAt
   row-there =
       let e : p + r * 2 ^ (8 * i) ≡ r * 2 ^ (8 * i) + p = omega arith in
       rw (e, high r (8 * i) less) (omega arith)
 
   -- so they are the picks of i + 1 rows
-  pub picks-more : (row : ℕ → ℕ) → r ≡ row i → ((j : ℕ) → j < i → rowAt p j ≡ row j)
-      → (j : ℕ) → j < i + 1 → rowAt (p + r * 2 ^ (8 * i)) j ≡ row j
+  pub picks-more : (row : ℕ → ℕ) → r ≡ row i → ((j : ℕ) → j < i → pickAt p j ≡ row j)
+      → (j : ℕ) → j < i + 1 → pickAt (p + r * 2 ^ (8 * i)) j ≡ row j
   picks-more row e k =
-      below-more (λ (j : ℕ). rowAt (p + r * 2 ^ (8 * i)) j ≡ row j) i (λ j l. row-before j l ∙ k j l) (row-there ∙ e)
+      below-more (λ (j : ℕ). pickAt (p + r * 2 ^ (8 * i)) j ≡ row j) i (λ j l. row-before j l ∙ k j l) (row-there ∙ e)
 
--- THE BITS. A byte is the number of its bits
-byte-number : (strip : List ℕ) (k : ℕ) → getD strip k 0 < 256 → number 8 (λ i. bitOf strip (8 * k + i)) ≡ getD strip k 0
-unfolding bitOf bytesOf listOf
-byte-number strip k h =
-    let x = getD strip k 0 in
-    number-same 8 _ (λ i. bitOf (x ∷ []) (8 * 0 + i)) (λ i l.
-    let a : (8 * k + i) / 8 ≡ k = omega arith in
-    let b : (8 * k + i) % 8 ≡ i = omega arith in
-    let c : (8 * 0 + i) / 8 ≡ 0 = omega arith in
-    let d : (8 * 0 + i) % 8 ≡ i = omega arith in
-    rw (a, b, c, d))
-    ∙ ap (λ (l : List ℕ). getD l 0 0) (bytes-bits 1 (x ∷ []) refl (λ k l. let e : k ≡ 0 = omega arith in rw e h))
-
--- 48 bits are six bytes
+-- THE BITS. 48 bits are six bytes
 six-bytes : (f : ℕ → ℕ) → number 48 f
     ≡ number 8 (λ i. f (8 * 0 + i)) + number 8 (λ i. f (8 * 1 + i)) * 256 + number 8 (λ i. f (8 * 2 + i)) * 65536
     + number 8 (λ i. f (8 * 3 + i)) * 16777216 + number 8 (λ i. f (8 * 4 + i)) * 4294967296 + number 8 (λ i. f (8 * 5 + i)) * 1099511627776
@@ -215,7 +202,7 @@ module _ (strip : List ℕ) (bytes : (i : ℕ) → getD strip i 0 < 256) (q : �
   block-byte : (k : ℕ) → number 8 (λ i. bitOf strip (48 * q + (8 * k + i))) ≡ getD strip (6 * q + k) 0
   block-byte k =
       number-same 8 _ _ (λ i l. ap (bitOf strip) (let e : 48 * q + (8 * k + i) ≡ 8 * (6 * q + k) + i = omega arith in e))
-      ∙ byte-number strip (6 * q + k) (bytes (6 * q + k))
+      ∙ byte-bits strip (6 * q + k) (bytes (6 * q + k))
 
   -- the bits of a block as one number
   bits-number : bitsAt strip q ≡ number 48 (λ j. bitOf strip (48 * q + j))
@@ -348,11 +335,11 @@ module _ (W rows : List ℕ) (P : Priced W rows) (a b r : ℕ) (x : Bool) (a-le 
 
 -- THE MAIN LAW. The row that a block picks for its stage i tells the prices of that stage, and the bit that wins a tie
 pub row-quoted : (W rows : List ℕ) → Priced W rows → (strip : List ℕ) → ((k : ℕ) → getD strip k 0 < 256) → (G : Generators)
-    (content : List ℕ) (q i labels picks : ℕ) → i < 8 → rowAt picks i ≡ rowOf (bitsAt strip q) labels i
+    (content : List ℕ) (q i labels picks : ℕ) → i < 8 → pickAt picks i ≡ stageRow (bitsAt strip q) labels i
     → labels / 2 ^ (7 - i) % 2 ≡ one-if (labelFor G content (8 * q + i))
-    → Quoted 510 rows (rowAt picks i) (quoteFor W (stageFor G strip content (8 * q + i)))
-unfolding rowOf
+    → Quoted 510 rows (pickAt picks i) (quoteFor W (stageFor G strip content (8 * q + i)))
+unfolding stageRow
 row-quoted W rows P strip bytes G content q i labels picks h e f =
     let c = 2 * (8 * q + i) in
-    levels-quoted W rows P (level strip c) (level strip (c + 1)) (rowAt picks i) (labelFor G content (8 * q + i))
+    levels-quoted W rows P (level strip c) (level strip (c + 1)) (pickAt picks i) (labelFor G content (8 * q + i))
     (level-bound strip c) (level-bound strip (c + 1)) (e ∙ ap₂ (λ (m n : ℕ). m + n * 16) (pair-levels strip bytes q i h) f)

@@ -3,17 +3,17 @@
 --   words-le, state-inside, next-zero, next-one   the words and the next states of a code
 --   label-told                                 the label of a stage
 --   stages-pairs, stages-are                   the stages of a strip are those of the search
---   Reached                                    what the loop over the blocks holds
---   reached-last, block-told, reached-more     at its start, and through a turn
---   reached-first                              at its end: the number of state 0 tells the strip's outcome
+--   BlocksTold                                    what the loop over the blocks holds
+--   blocks-last, block-told, blocks-more     at its start, and through a turn
+--   blocks-first                              at its end: the number of state 0 tells the strip's outcome
 --   block-quoted                               the rows of a block tell the prices of its stages
 --   TracedFrom, traced-more                    the history of the blocks from q on
 --   block-lows                                 the bits that the first cells of a block show
 --   store-back                                 a loop that stores from the last place back
 use mathlib.Core.Path.{_≡_, refl, sym, _∙_, ap, fun-ext, subst}
-use mathlib.Core.Bool.{Bool, true, false}
+use mathlib.Core.Bool.{true, false}
 use mathlib.Core.Logic.{⊎-elim}
-use mathlib.Core.List.{List, [], _∷_}
+use mathlib.Core.List.{List, _∷_}
 use mathlib.Core.Option.{Option, none, some}
 use Prim.Native.Nat.{ℕ, zero, suc, _<_, _≤_, _+_, _*_, _-_, _/_, _%_, _^_}
 use native.Mathlib.Omega.{arith}
@@ -26,13 +26,12 @@ use borrow.Author.Tests.{lt-ltb, le-ltb}
 use Rattle.cells.specs.Places.{listOf, Each, no-more, and-each}
 use Rattle.cells.specs.Bytes.{bitOf}
 use Rattle.cells.specs.Levels.{level}
-use Rattle.cells.proofs.Places.{listOf-same}
+use Rattle.cells.proofs.Places.{zeros-at, listOf-same}
 use Rattle.codes.specs.Generators.{Generators}
 use Rattle.codes.specs.Codes.{generatorsOf}
 use Rattle.codes.specs.declared.Code.{Code}
 use Rattle.codes.specs.Layouts.{oneBit, stageCount}
 use Rattle.codes.specs.Sequences.{odd}
-use Rattle.codes.specs.Registers.{quotient}
 use Rattle.codes.specs.Numbers.{one-if}
 use Rattle.codes.specs.Taps.{wordOf, parityOf, windowOf, firstBit}
 use Rattle.codes.specs.Encoders.{encoderOf, Proper}
@@ -52,13 +51,13 @@ use Rattle.search.proofs.Plain.{plain-cost}
 use Rattle.search.proofs.OneBit.{Pair, pair, Both, oneBit-quotes}
 use Rattle.search.proofs.Layouts.{oneBit-sound, oneBit-write}
 use Rattle.stages.specs.Stage.{closed, top, wordsOf}
-use Rattle.stages.specs.Blocks.{rowAt, Ran, Settled, Kept}
-use Rattle.stages.specs.Costs.{Tells, open-at, shut, Told, open-with}
+use Rattle.stages.specs.Blocks.{pickAt, Ran, Settled, Kept}
+use Rattle.stages.specs.Costs.{Tells, open-at, shut, Trailed, open-with}
 use Rattle.stages.specs.Trails.{stagesFrom, Quoted}
 use Rattle.stages.proofs.Runs.{settled-le}
 use Rattle.stages.proofs.Costs.{told-settled, told-low, told-cost}
 use Rattle.stages.proofs.Trails.{run-told}
-use Rattle.trellis.specs.Rows.{Priced, pairOf, rowOf, bitsAt}
+use Rattle.trellis.specs.Rows.{Priced, pairOf, stageRow, bitsAt}
 use Rattle.trellis.specs.Ways.{encoderFor, labelFor, cellFor, stageFor, quoteFor, nextFor, stagesFor, costsFor, trailFor, blocksFor}
 use Rattle.trellis.specs.Outcomes.{toldOutcome, solutionOutcome}
 use Rattle.trellis.specs.Plans.{writeOf}
@@ -187,20 +186,14 @@ cost-start G W K D L strip content =
 
 -- A LOOP over the blocks from the last to the first holds, before block q, the eight labels before it and numbers that tell what the states
 -- cost from there on, for all weights whose table it has
-pub record Reached (G : Generators) (rows strip content : List ℕ) (q before : ℕ) (numbers : List ℕ) : Type 0 where
+pub record BlocksTold (G : Generators) (rows strip content : List ℕ) (q before : ℕ) (numbers : List ℕ) : Type 0 where
   pub within : q ≤ length content
   pub labels-are : before ≡ windowOf 8 (labelAt G content) (8 * q)
   pub long : length numbers ≡ 64
   pub cut : (i : ℕ) → getD numbers i 0 ≤ top
   pub told : (W : List ℕ) → Priced W rows → (s : ℕ) → s < 2 ^ G .memory
-      → Told 256 closed (510 * (8 * (length content - q))) 0 (getD numbers s 0)
+      → Trailed 256 closed (510 * (8 * (length content - q))) 0 (getD numbers s 0)
       (costsFor G W (blocksFor G strip content (length content) q) s) 0
-
--- zeros
-zeros-at : (n k : ℕ) → _≡_ {A = ℕ} (getD (replicate n 0) k 0) 0
-zeros-at zero k = refl
-zeros-at (suc n) zero = refl
-zeros-at (suc n) (suc k) = zeros-at n k
 
 module _ (G : Generators) (rows strip content : List ℕ) where
   -- the number of blocks
@@ -208,9 +201,9 @@ module _ (G : Generators) (rows strip content : List ℕ) where
   n = length content
 
   -- after the last block nothing costs anything
-  pub reached-last : {before : ℕ} → before ≡ windowOf 8 (labelAt G content) (8 * n) → Reached G rows strip content n before (replicate 64 0)
+  pub blocks-last : {before : ℕ} → before ≡ windowOf 8 (labelAt G content) (8 * n) → BlocksTold G rows strip content n before (replicate 64 0)
   unfolding stagesFrom costs
-  reached-last e =
+  blocks-last e =
       let z : 8 * (n - n) ≡ 0 = omega arith in record {
         within = omega arith;
         labels-are = e;
@@ -221,13 +214,13 @@ module _ (G : Generators) (rows strip content : List ℕ) where
 
   -- A TURN goes from before block q + 1 to before block q, by the numbers before the block and after it is settled
   module _ (K : Proper G) (q picks : ℕ) {before : ℕ} {numbers ran : List ℕ} (most : n ≤ 64) (inside : q < n)
-      (h : Reached G rows strip content (q + 1) before numbers)
+      (h : BlocksTold G rows strip content (q + 1) before numbers)
       (quoted : (W : List ℕ) → Priced W rows → (i : ℕ) → i < 8
-      → Quoted 510 rows (rowAt picks i) (quoteFor W (stageFor G strip content (8 * q + i))))
+      → Quoted 510 rows (pickAt picks i) (quoteFor W (stageFor G strip content (8 * q + i))))
       (r : Ran (2 ^ G .memory) (wordsOf G) rows picks numbers ran) where
     -- the numbers before the block tell costs and trails
     pub block-told : (W : List ℕ) → Priced W rows → (s : ℕ) → s < 2 ^ G .memory
-        → Told 256 closed (510 * (8 * (n - q))) 8 (getD ran s 0) (costsFor G W (blocksFor G strip content n q) s)
+        → Trailed 256 closed (510 * (8 * (n - q))) 8 (getD ran s 0) (costsFor G W (blocksFor G strip content n q) s)
         (trailFor G W 8 (blocksFor G strip content n q) s)
     block-told W P s l =
         let later : ℕ = 8 * (n - (q + 1)) in
@@ -236,7 +229,7 @@ module _ (G : Generators) (rows strip content : List ℕ) where
         let f : 8 * (q + 1) ≡ 8 * q + 8 = omega arith in
         let b : 8 * 510 + 510 * later ≡ 510 * (8 * (n - q)) = omega arith in
         let room : 8 * 510 + 510 * later < closed = omega arith in
-        subst (λ (v : ℕ). Told 256 closed (510 * (8 * (n - q))) 8 v (costsFor G W (blocksFor G strip content n q) s)
+        subst (λ (v : ℕ). Trailed 256 closed (510 * (8 * (n - q))) 8 v (costsFor G W (blocksFor G strip content n q) s)
         (trailFor G W 8 (blocksFor G strip content n q) s)) (sym (r .states s l))
         (rw (z, e, b) at
         (run-told (2 ^ G .memory) (wordsOf G) (words-le G) (quoteFor W) (nextFor G) (state-inside G (K .some-memory))
@@ -244,15 +237,15 @@ module _ (G : Generators) (rows strip content : List ℕ) where
         (λ i. getD numbers i 0) (quoted W P) (rw f at (h .told W P)) room 8 (omega arith) s l))
 
     -- and once they are settled the turn is done
-    pub reached-more : {earlier : ℕ} {settled : List ℕ} → earlier ≡ windowOf 8 (labelAt G content) (8 * q) → Settled (2 ^ G .memory) ran settled
-        → Reached G rows strip content q earlier settled
-    reached-more {settled = settled} e t = record {
+    pub blocks-more : {earlier : ℕ} {settled : List ℕ} → earlier ≡ windowOf 8 (labelAt G content) (8 * q) → Settled (2 ^ G .memory) ran settled
+        → BlocksTold G rows strip content q earlier settled
+    blocks-more {settled = settled} e t = record {
       within = omega arith;
       labels-are = e;
       long = t .long;
       cut = settled-le t (λ i l. omega (arith, r .others i l, h .cut i));
       told = λ W P s l.
-          subst (λ (v : ℕ). Told 256 closed (510 * (8 * (n - q))) 0 v (costsFor G W (blocksFor G strip content n q) s) 0)
+          subst (λ (v : ℕ). Trailed 256 closed (510 * (8 * (n - q))) 0 v (costsFor G W (blocksFor G strip content n q) s) 0)
           (sym (t .states s l)) (told-settled (omega arith) (omega arith) (block-told W P s l));
     }
 
@@ -263,23 +256,23 @@ outcome-told m v none l (shut h) = rw (le-ltb v closed h)
 outcome-told m v (some a) l (open-at h) = rw (lt-ltb v closed (omega arith))
 
 -- before the first block the number of state 0 tells the strip's outcome
-pub reached-first : {G : Generators} {rows strip content : List ℕ} {before : ℕ} {numbers : List ℕ} → length content ≤ 64
-    → Reached G rows strip content 0 before numbers → (W : List ℕ) → Suits G W → Priced W rows
+pub blocks-first : {G : Generators} {rows strip content : List ℕ} {before : ℕ} {numbers : List ℕ} → length content ≤ 64
+    → BlocksTold G rows strip content 0 before numbers → (W : List ℕ) → Suits G W → Priced W rows
     → toldOutcome (getD numbers 0 0 / 256) ≡ solutionOutcome (writeOf G W strip content)
-reached-first {G} {rows} {strip} {content} {before} {numbers} most h W K P =
+blocks-first {G} {rows} {strip} {content} {before} {numbers} most h W K P =
     let z : length content - 0 ≡ length content = omega arith in
     outcome-told (510 * (8 * length content)) (getD numbers 0 0 / 256) (writeOf G W strip content) (omega arith)
     (rw (z, cost-start G W K (P .dear) (length content) strip content) at (told-cost (h .told W P 0 (pow-pos (G .memory)))))
 
 -- THE ROWS of block q, by its labels and its bits, tell the prices of its stages
 pub block-quoted : (G : Generators) {rows strip content numbers : List ℕ} (q picks : ℕ) {before bits : ℕ} → ((k : ℕ) → getD strip k 0 < 256)
-    → Reached G rows strip content (q + 1) before numbers → bits ≡ bitsAt strip q
-    → ((i : ℕ) → i < 8 → rowAt picks i ≡ rowOf bits before i) → (W : List ℕ) → Priced W rows → (i : ℕ) → i < 8
-    → Quoted 510 rows (rowAt picks i) (quoteFor W (stageFor G strip content (8 * q + i)))
+    → BlocksTold G rows strip content (q + 1) before numbers → bits ≡ bitsAt strip q
+    → ((i : ℕ) → i < 8 → pickAt picks i ≡ stageRow bits before i) → (W : List ℕ) → Priced W rows → (i : ℕ) → i < 8
+    → Quoted 510 rows (pickAt picks i) (quoteFor W (stageFor G strip content (8 * q + i)))
 block-quoted G {rows} {strip} {content} {numbers} q picks {before} {bits} octets h e p W P i l =
     let z : 8 * q + (7 - (7 - i)) ≡ 8 * q + i = omega arith in
     let m : 7 - i < 8 = omega arith in
-    row-quoted W rows P strip octets G content q i before picks l (p i l ∙ ap (λ (b : ℕ). rowOf b before i) e)
+    row-quoted W rows P strip octets G content q i before picks l (p i l ∙ ap (λ (b : ℕ). stageRow b before i) e)
     (ap (λ (w : ℕ). w / 2 ^ (7 - i) % 2) (h .labels-are) ∙ window-byte (labelAt G content) (label-bound G content) q (7 - i) m
     ∙ ap (labelAt G content) z ∙ label-told G content (8 * q + i))
 
@@ -293,7 +286,7 @@ pub record TracedFrom (G : Generators) (rows strip content history : List ℕ) (
 -- one block more, whose numbers tell its trails
 pub traced-more : (G : Generators) {rows strip content history history′ ran : List ℕ} {m : ℕ} (q : ℕ) → 2 ^ G .memory ≤ 64
     → TracedFrom G rows strip content history (q + 1) → Kept (2 ^ G .memory) q ran history history′
-    → ((W : List ℕ) → Priced W rows → (s : ℕ) → s < 2 ^ G .memory → Told 256 closed m 8 (getD ran s 0)
+    → ((W : List ℕ) → Priced W rows → (s : ℕ) → s < 2 ^ G .memory → Trailed 256 closed m 8 (getD ran s 0)
     (costsFor G W (blocksFor G strip content (length content) q) s) (trailFor G W 8 (blocksFor G strip content (length content) q) s))
     → TracedFrom G rows strip content history′ q
 traced-more G {rows} {strip} {content} {history} {history′} {ran} q fits t k told = record {
@@ -306,9 +299,9 @@ traced-more G {rows} {strip} {content} {history} {history′} {ran} q fits t k t
 
 -- THE LOWS. The row of a stage is odd where its first cell shows a one
 pub block-lows : (strip : List ℕ) (q picks before : ℕ) {bits r : ℕ} → ((k : ℕ) → getD strip k 0 < 256) → bits ≡ bitsAt strip q
-    → ((i : ℕ) → i < 8 → rowAt picks i ≡ rowOf bits before i) → r ≡ windowOf 8 (λ i. picks / 2 ^ (8 * i) % 2) 8
+    → ((i : ℕ) → i < 8 → pickAt picks i ≡ stageRow bits before i) → r ≡ windowOf 8 (λ i. picks / 2 ^ (8 * i) % 2) 8
     → r ≡ windowOf 8 (firstBit (level strip)) (8 * (q + 1))
-unfolding rowAt rowOf firstBit
+unfolding pickAt stageRow firstBit
 block-lows strip q picks before octets e p f =
     f ∙ window-of-word picks 8 (firstBit (level strip)) (λ t. mod-lt _ (zero-lt-suc 1)) q
     (λ i l.

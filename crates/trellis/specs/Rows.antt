@@ -5,7 +5,7 @@
 --   Table W rows             the table of the weights W, in 256ths
 --   Priced W rows            the same, of three weights of a byte each, none of them free
 --   pairOf                   the levels of two cells by their six bits
---   rowOf bits labels i      the row of stage i of a block
+--   stageRow bits labels i      the row of stage i of a block
 --   bitsAt strip q           the 48 bits of block q
 use mathlib.Core.Path.{_≡_}
 use mathlib.Core.Bool.{cond}
@@ -49,8 +49,8 @@ unfoldable pub pairOf : ℕ → ℕ
 pairOf x = onesOf x + 4 * onesOf (x / 8)
 
 -- the row of stage i of a block: six of its 48 bits, and its label, the first stage's worth most
-unfoldable pub rowOf : (bits labels i : ℕ) → ℕ
-rowOf bits labels i = pairOf (bits / 2 ^ (6 * i) % 64) + labels / 2 ^ (7 - i) % 2 * 16
+unfoldable pub stageRow : (bits labels i : ℕ) → ℕ
+stageRow bits labels i = pairOf (bits / 2 ^ (6 * i) % 64) + labels / 2 ^ (7 - i) % 2 * 16
 
 -- the 48 bits of block q: six bytes of the strip
 unfoldable pub bitsAt : List ℕ → ℕ → ℕ

@@ -8,7 +8,7 @@ ghost use Prim.Native.Nat.{ℕ, _+_, _*_, _/_, _%_, _^_, _<_, _≤_};
 ghost use lib.ListN.{length, getD};
 ghost use Rattle.cells.specs.Raising.{startOf, raisedTo};
 ghost use Rattle.codes.specs.Codes.{generatorsOf};
-ghost use Rattle.trellis.specs.Carrying.{shownCell, shownPair, shownBits, withBits, digitIn, carriedTo, CarryAsked, Shows};
+ghost use Rattle.trellis.specs.Carrying.{shownCell, shownBits, withBits, digitIn, carriedTo, CarryAsked, Shows};
 
 // The three bits of a cell that is to show the bit v, its raises starting at the bit `start`.
 fn shown_cell(start: u32, bits: u32, v: u32) -> u32

@@ -10,7 +10,7 @@ use Rattle.cells.specs.Places.{listOf, number}
 use Rattle.codes.specs.Generators.{digit, long}
 use Rattle.codes.specs.Taps.{tapsOf, parityOf, wordOf}
 use Rattle.stages.specs.Stage.{wordsOf}
-use Rattle.stages.specs.Blocks.{rowAt, runOf}
+use Rattle.stages.specs.Blocks.{pickAt, blockOf}
 use Rattle.stages.proofs.Runs.{by-place, listed-le, word-le, run-most, run-more}
 use Rattle.stages.proofs.blocks.run_long.Statement.{statement}
 use Rattle.stages.proofs.blocks.run_long.Tie as tie
@@ -20,13 +20,13 @@ Inv-loop costs₀ rows picks words i₀ costs i =
     (i ≤ 8)
     × (words ≡ listOf 64 (wordsOf long))
     × (length costs ≡ 64)
-    × ((s : ℕ) → s < 64 → getD costs s 0 ≡ runOf 64 (wordsOf long) rows picks (λ k. getD costs₀ k 0) (8 - i) s)
+    × ((s : ℕ) → s < 64 → getD costs s 0 ≡ blockOf 64 (wordsOf long) rows picks (λ k. getD costs₀ k 0) (8 - i) s)
 
 abbrev μ-loop : tie.MeasureT-loop
 μ-loop costs₀ rows picks words i₀ costs i = i
 
 loop-holds : tie.Need-loop-holds Inv-loop μ-loop
-unfolding runOf listOf wordOf parityOf tapsOf number digit ones onesIn
+unfolding blockOf listOf wordOf parityOf tapsOf number digit ones onesIn
 loop-holds c = (search needs, refl, c .pre .long, λ s h. refl)
 
 sub-i : tie.Need-sub-i Inv-loop μ-loop
@@ -63,7 +63,7 @@ loop-less : tie.Need-loop-less Inv-loop μ-loop
 loop-less c = search needs
 
 loop-again : tie.Need-loop-again Inv-loop μ-loop
-unfolding rowAt
+unfolding pickAt
 loop-again c =
     let a = c .before .before .before .before .before .before .args in
     let l = c .before .before .before .before .before .loop in

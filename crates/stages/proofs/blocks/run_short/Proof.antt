@@ -6,14 +6,14 @@ use lib.ListN.{getD, length-set}
 use borrow.Author.Needs.{needs}
 use Rattle.codes.specs.Generators.{short}
 use Rattle.stages.specs.Stage.{wordsOf}
-use Rattle.stages.specs.Blocks.{rowAt, runOf}
+use Rattle.stages.specs.Blocks.{pickAt, blockOf}
 use Rattle.stages.proofs.Runs.{Four, four-more, four-stored, four-others}
 use Rattle.stages.proofs.blocks.run_short.Statement.{statement}
 use Rattle.stages.proofs.blocks.run_short.Tie as tie
 
 abbrev Inv-loop : tie.InvT-loop
 Inv-loop costs rows picks a₀ b₀ c₀ d₀ i₀ a b c d i =
-    (i ≤ 8) × Four (runOf 4 (wordsOf short) rows picks (λ k. getD costs k 0) (8 - i)) a b c d
+    (i ≤ 8) × Four (blockOf 4 (wordsOf short) rows picks (λ k. getD costs k 0) (8 - i)) a b c d
 
 abbrev μ-loop : tie.MeasureT-loop
 μ-loop costs rows picks a₀ b₀ c₀ d₀ i₀ a b c d i = i
@@ -31,7 +31,7 @@ element-copy-out-d : tie.Need-element-copy-out-d Inv-loop μ-loop
 element-copy-out-d c = search needs
 
 loop-holds : tie.Need-loop-holds Inv-loop μ-loop
-unfolding runOf
+unfolding blockOf
 loop-holds c =
     let p = c .before .before .before .before .pre .costs-le in (
       search needs,
@@ -126,7 +126,7 @@ loop-less : tie.Need-loop-less Inv-loop μ-loop
 loop-less c = search needs
 
 loop-again : tie.Need-loop-again Inv-loop μ-loop
-unfolding rowAt
+unfolding pickAt
 loop-again c =
     let l = c .before .before .before .before .before .before .loop in
     let s = c .before .before .before .before .before .before .before .before .before .before .before in

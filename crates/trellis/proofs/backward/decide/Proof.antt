@@ -1,5 +1,5 @@
--- The invariant: before block q the numbers tell what the states cost from there on (Reached), and the blocks from q on are kept.
-use mathlib.Core.Path.{_≡_, refl, sym, _∙_, ap}
+-- The invariant: before block q the numbers tell what the states cost from there on (BlocksTold), and the blocks from q on are kept.
+use mathlib.Core.Path.{_≡_, _∙_}
 use Prim.Native.Nat.{ℕ, _<_, _≤_, _+_, _*_, _-_, _/_, _%_, _^_}
 use native.Mathlib.Omega.{arith}
 use lib.ListN.{length, getD, length-set}
@@ -11,14 +11,13 @@ use Rattle.codes.proofs.Codes.{proper}
 use Rattle.codes.proofs.Layouts.{oneBit-bytes}
 use Rattle.codes.proofs.Taps.{window-less}
 use Rattle.stages.proofs.Runs.{ran-le}
-use Rattle.trellis.specs.Outcomes.{toldOutcome}
-use Rattle.trellis.proofs.Ways.{suits, Reached, reached-last, block-told, reached-more, reached-first, block-quoted, TracedFrom, traced-more, block-lows, store-back}
+use Rattle.trellis.proofs.Ways.{suits, BlocksTold, blocks-last, block-told, blocks-more, blocks-first, block-quoted, TracedFrom, traced-more, block-lows, store-back}
 use Rattle.trellis.proofs.backward.decide.Statement.{statement}
 use Rattle.trellis.proofs.backward.decide.Tie as tie
 
 abbrev Inv-loop : tie.InvT-loop
 Inv-loop code rows strip «data» history₀ lows₀ states labels₀ costs₀ q₀ history lows labels costs q =
-    (Reached (generatorsOf code) rows strip «data» q labels costs)
+    (BlocksTold (generatorsOf code) rows strip «data» q labels costs)
     × (TracedFrom (generatorsOf code) rows strip «data» history q)
     × (length lows ≡ 64)
     × ((k : ℕ) → q ≤ k → k < length «data» → getD lows k 0 ≡ windowOf 8 (firstBit (level strip)) (8 * (k + 1)))
@@ -36,7 +35,7 @@ loop-holds : tie.Need-loop-holds Inv-loop μ-loop
 loop-holds c =
     let s = c .before .before .before .before in
     let a = s .args in (
-      reached-last (generatorsOf (a .code)) (a .rows .now) (a .strip .now) (a .«data» .now) (c .last-labels .ensures .0),
+      blocks-last (generatorsOf (a .code)) (a .rows .now) (a .strip .now) (a .«data» .now) (c .last-labels .ensures .0),
       record { long = s .pre .1 .0; kept = λ W P k h l. absurd (let z : ⊥ = omega arith in z) },
       s .pre .1 .1,
       λ k h l. absurd (let z : ⊥ = omega arith in z),
@@ -110,14 +109,14 @@ loop-again c =
     let e : q + 1 ≡ l .q = omega arith in
     let near : q < length (a .«data» .now) = omega (arith, l .inv .0 .within) in
     let fits = t .before .before .before .states .ensures in
-    let h : Reached G (a .rows .now) (a .strip .now) (a .«data» .now) (q + 1) (l .labels) (l .costs) = rw e (l .inv .0) in
+    let h : BlocksTold G (a .rows .now) (a .strip .now) (a .«data» .now) (q + 1) (l .labels) (l .costs) = rw e (l .inv .0) in
     let octets : (i : ℕ) → getD (a .strip .now) i 0 < 256 = λ i. omega (arith, k .shared-slice-known .given i) in
     let bits = c .before .before .before .before .before .before .before .before .before .before .bits-of .ensures in
     let picks = c .before .before .before .before .before .before .before .before .before .picks-of .ensures in
     let quoted = block-quoted G q _ octets h bits picks in
     let ran = c .before .before .before .before .before .before .run .ensures in
     let low = block-lows (a .strip .now) q _ (l .labels) octets bits picks (c .before .before .before .before .before .before .before .before .window .ensures) in (
-      reached-more G (a .rows .now) (a .strip .now) (a .«data» .now) (proper (a .code)) q _ (s .pre .0 .most) near h quoted ran
+      blocks-more G (a .rows .now) (a .strip .now) (a .«data» .now) (proper (a .code)) q _ (s .pre .0 .most) near h quoted ran
           (c .labels-before .ensures .0) (rw (fits .0) at (c .before .settle .ensures)),
       traced-more G q (omega arith) (rw e (l .inv .1)) (rw (fits .0) at (c .before .before .before .keep .ensures))
           (block-told G (a .rows .now) (a .strip .now) (a .«data» .now) (proper (a .code)) q _ (s .pre .0 .most) near h quoted ran),
@@ -137,7 +136,7 @@ returns c =
     let l = c .before .before .loop in
     let s = c .before .before .before .before .before .before .before in
     let z : l .q ≡ 0 = omega arith in (
-      λ W P. c .outcome .ensures ∙ reached-first (s .pre .0 .most) (rw z at (l .inv .0)) W (suits (s .args .code) W (P .three) (P .bytes)) P,
+      λ W P. c .outcome .ensures ∙ blocks-first (s .pre .0 .most) (rw z at (l .inv .0)) W (suits (s .args .code) W (P .three) (P .bytes)) P,
       (λ W P. record { kept = λ k h. l .inv .1 .kept W P k (omega arith) h }, record { shown = λ k h. l .inv .3 k (omega arith) h }),
     )
 

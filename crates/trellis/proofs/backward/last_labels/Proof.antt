@@ -1,6 +1,6 @@
 -- The invariant: the labels are the eight before block q.
-use mathlib.Core.Path.{_≡_, refl, ap, _∙_}
-use Prim.Native.Nat.{ℕ, _<_, _≤_, _+_, _*_, _-_}
+use mathlib.Core.Path.{_≡_, ap, _∙_}
+use Prim.Native.Nat.{ℕ, _<_, _≤_, _*_, _-_}
 use native.Mathlib.Omega.{arith}
 use lib.ListN.{length}
 use borrow.Author.Needs.{needs}
@@ -8,7 +8,6 @@ use Rattle.codes.specs.Codes.{generatorsOf}
 use Rattle.codes.specs.Taps.{windowOf}
 use Rattle.codes.specs.Blocks.{labelAt}
 use Rattle.codes.proofs.Codes.{proper, memory-bounds}
-use Rattle.codes.proofs.Taps.{window-less}
 use Rattle.trellis.proofs.Labels.{labels-forth}
 use Rattle.trellis.proofs.backward.last_labels.Statement.{statement}
 use Rattle.trellis.proofs.backward.last_labels.Tie as tie

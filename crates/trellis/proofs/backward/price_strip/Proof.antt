@@ -1,6 +1,6 @@
--- The invariant: before block q the numbers tell what the states cost from there on (Reached).
-use mathlib.Core.Path.{_≡_, refl, sym, _∙_, ap}
-use Prim.Native.Nat.{ℕ, _<_, _≤_, _+_, _*_, _-_, _/_}
+-- The invariant: before block q the numbers tell what the states cost from there on (BlocksTold).
+use mathlib.Core.Path.{_≡_, _∙_}
+use Prim.Native.Nat.{ℕ, _<_, _+_, _-_}
 use native.Mathlib.Omega.{arith}
 use lib.ListN.{length, getD}
 use borrow.Author.Needs.{needs}
@@ -8,13 +8,12 @@ use Rattle.codes.specs.Codes.{generatorsOf}
 use Rattle.codes.proofs.Codes.{proper}
 use Rattle.codes.proofs.Layouts.{oneBit-bytes}
 use Rattle.stages.proofs.Runs.{ran-le}
-use Rattle.trellis.specs.Outcomes.{toldOutcome}
-use Rattle.trellis.proofs.Ways.{suits, Reached, reached-last, reached-more, reached-first, block-quoted}
+use Rattle.trellis.proofs.Ways.{suits, BlocksTold, blocks-last, blocks-more, blocks-first, block-quoted}
 use Rattle.trellis.proofs.backward.price_strip.Statement.{statement}
 use Rattle.trellis.proofs.backward.price_strip.Tie as tie
 
 abbrev Inv-loop : tie.InvT-loop
-Inv-loop code rows strip «data» states labels₀ costs₀ q₀ labels costs q = Reached (generatorsOf code) rows strip «data» q labels costs
+Inv-loop code rows strip «data» states labels₀ costs₀ q₀ labels costs q = BlocksTold (generatorsOf code) rows strip «data» q labels costs
 
 abbrev μ-loop : tie.MeasureT-loop
 μ-loop code rows strip «data» states labels₀ costs₀ q₀ labels costs q = q
@@ -28,7 +27,7 @@ last-labels-requires c κs = search needs
 loop-holds : tie.Need-loop-holds Inv-loop μ-loop
 loop-holds c =
     let a = c .before .before .before .before .args in
-    reached-last (generatorsOf (a .code)) (a .rows .now) (a .strip .now) (a .«data» .now) (c .last-labels .ensures .0)
+    blocks-last (generatorsOf (a .code)) (a .rows .now) (a .strip .now) (a .«data» .now) (c .last-labels .ensures .0)
 
 sub-q : tie.Need-sub-q Inv-loop μ-loop
 sub-q c = search needs
@@ -72,9 +71,9 @@ loop-again c =
     let a = s .args in
     let q : ℕ = l .q - 1 in
     let e : q + 1 ≡ l .q = omega arith in
-    let h : Reached (generatorsOf (a .code)) (a .rows .now) (a .strip .now) (a .«data» .now) (q + 1) (l .labels) (l .costs) = rw e (l .inv) in
+    let h : BlocksTold (generatorsOf (a .code)) (a .rows .now) (a .strip .now) (a .«data» .now) (q + 1) (l .labels) (l .costs) = rw e (l .inv) in
     let octets : (i : ℕ) → getD (a .strip .now) i 0 < 256 = λ i. omega (arith, k .shared-slice-known .given i) in
-    reached-more (generatorsOf (a .code)) (a .rows .now) (a .strip .now) (a .«data» .now) (proper (a .code)) q _ (s .pre .most) (omega (arith, l .inv .within)) h
+    blocks-more (generatorsOf (a .code)) (a .rows .now) (a .strip .now) (a .«data» .now) (proper (a .code)) q _ (s .pre .most) (omega (arith, l .inv .within)) h
     (block-quoted (generatorsOf (a .code)) q _ octets h (c .before .before .before .before .before .before .bits-of .ensures) (c .before .before .before .before .before .picks-of .ensures))
     (c .before .before .before .run .ensures)
     (c .labels-before .ensures .0)
@@ -91,7 +90,7 @@ returns c = λ W P.
     let l = c .before .before .loop in
     let s = c .before .before .before .before .before .before .before in
     let z : l .q ≡ 0 = omega arith in
-    c .outcome .ensures ∙ reached-first (s .pre .most) (rw z at (l .inv)) W (suits (s .args .code) W (P .three) (P .bytes)) P
+    c .outcome .ensures ∙ blocks-first (s .pre .most) (rw z at (l .inv)) W (suits (s .args .code) W (P .three) (P .bytes)) P
 
 pub price-strip-spec : {M : Type 1} → statement M
 price-strip-spec =

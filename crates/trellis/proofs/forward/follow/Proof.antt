@@ -1,9 +1,9 @@
 -- The invariant: for digits u that are followed, the bytes before q are their windows, and so is what is carried on.
-use mathlib.Core.Path.{_≡_, refl, sym, _∙_, ap, ap₂}
-use Prim.Native.Nat.{ℕ, _<_, _≤_, _+_, _*_, _-_, _%_, _^_}
+use mathlib.Core.Path.{_≡_, refl, _∙_, ap}
+use Prim.Native.Nat.{ℕ, _<_, _≤_, _+_, _*_, _-_, _%_}
 use native.Mathlib.Omega.{arith}
 use native.Mathlib.Nat.{mod-lt}
-use lib.Bits.{bitXor, xor-lt}
+use lib.Bits.{xor-lt}
 use lib.ListN.{length, getD, length-set}
 use lib.Pow.{pow-pos}
 use borrow.Author.Needs.{needs}

@@ -3,15 +3,15 @@ use mathlib.Core.Path.{_≡_, refl}
 use Prim.Native.Nat.{ℕ, _-_, _*_, _/_, _^_, _≤_, _<_}
 use native.Mathlib.Omega.{arith}
 use borrow.Author.Needs.{needs}
-use Rattle.stages.specs.Blocks.{rowAt}
-use Rattle.trellis.specs.Rows.{rowOf}
-use Rattle.trellis.proofs.Quotes.{pairs-le, row-le, row-shl, picks-less, picks-fit, picks-more}
+use Rattle.stages.specs.Blocks.{pickAt}
+use Rattle.trellis.specs.Rows.{stageRow}
+use Rattle.trellis.proofs.Quotes.{pairs-le, row-most, row-shl, picks-less, picks-fit, picks-more}
 use Rattle.trellis.proofs.rows.picks_of.Statement.{statement}
 use Rattle.trellis.proofs.rows.picks_of.Tie as tie
 
 abbrev Inv-loop : tie.InvT-loop
 Inv-loop bits labels pairs picks₀ i₀ picks i =
-    (i ≤ 8) × (picks < 2 ^ (8 * i)) × ((j : ℕ) → j < i → rowAt picks j ≡ rowOf bits labels j)
+    (i ≤ 8) × (picks < 2 ^ (8 * i)) × ((j : ℕ) → j < i → pickAt picks j ≡ stageRow bits labels j)
 
 abbrev μ-loop : tie.MeasureT-loop
 μ-loop bits labels pairs picks₀ i₀ picks i = 8 - i
@@ -65,7 +65,7 @@ add-picks-2 c =
     let t : l .i < 8 = c .loop-test .taken in
     record {
       fits = rw (row-shl (a .bits) (a .labels) (l .i) t)
-          (picks-fit (l .picks) _ (l .i) (l .inv .1) (row-le (a .bits) (a .labels) (l .i)) t);
+          (picks-fit (l .picks) _ (l .i) (l .inv .1) (row-most (a .bits) (a .labels) (l .i)) t);
     }
 
 add-i : tie.Need-add-i Inv-loop μ-loop
@@ -79,10 +79,10 @@ loop-again c =
     let a = c .before .before .args in
     let l = c .before .loop in
     let m = row-shl (a .bits) (a .labels) (l .i) (c .loop-test .taken) in
-    let n = row-le (a .bits) (a .labels) (l .i) in (
+    let n = row-most (a .bits) (a .labels) (l .i) in (
       search needs,
       rw m (picks-less (l .picks) _ (l .i) (l .inv .1) n),
-      rw m (picks-more (l .picks) _ (l .i) (l .inv .1) n (rowOf (a .bits) (a .labels)) refl (l .inv .2)),
+      rw m (picks-more (l .picks) _ (l .i) (l .inv .1) n (stageRow (a .bits) (a .labels)) refl (l .inv .2)),
     )
 
 returns : tie.Need-returns Inv-loop μ-loop
