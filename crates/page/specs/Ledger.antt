@@ -32,7 +32,8 @@ pub data Event : Type 0 where
   erased : List ℕ → Event
   looked : Event
 
--- a raise keeps the length and lowers no cell; an erase leaves a page whose levels add up to `base`, those of the cells that it cannot empty
+-- a raise keeps the length and lowers no cell; an erase leaves a page whose levels add up to `base`, those of the cells that it cannot
+-- empty
 pub data Fair (base : ℕ) (before : List ℕ) : Event → Type 0 where
   fair-raise : {after : List ℕ} → length after ≡ length before → ((c : ℕ) → c < cellsOn before → level before c ≤ level after c)
       → Fair base before (raised after)

@@ -1,4 +1,5 @@
--- The laws of the stages: one stage (`Stages`), eight of them (`Runs`), what their numbers tell (`Costs`), and that the marked search is the
+-- The laws of the stages: one stage (`Stages`), eight of them (`Runs`), what their numbers tell (`Costs`), and that the marked search is
+-- the
 -- plain one (`Trails`).
 pub mod Stages
 pub mod Runs

@@ -80,7 +80,8 @@ pub run-le : (n : ℕ) (words : ℕ → ℕ) (rows : List ℕ) (picks : ℕ) (af
 unfolding blockOf
 run-le n words rows picks after p q zero s h = omega (arith, q s)
 run-le n words rows picks after p q (suc k) s h =
-    let a = stage-le n (top + k * (top + 128)) (top + 128) words (markedOf rows (pickAt picks (7 - k)) k) (blockOf n words rows picks after k)
+    let a = stage-le n (top + k * (top + 128)) (top + 128) words (markedOf rows (pickAt picks (7 - k)) k)
+    (blockOf n words rows picks after k)
     (λ i. run-le n words rows picks after p q k i (omega arith)) (marked-le rows (pickAt picks (7 - k)) k (omega arith) p) s in
     omega arith
 

@@ -125,7 +125,8 @@ module _ {G : Type 0} (n : ℕ) (words : ℕ → ℕ) (words-le : (s : ℕ) → 
       trail-by false = rw (next-zero g s, flag-miss (quote g .stay) w)
 
       -- the number of the state tells the lesser branch, and its trail
-      pub stage-told : Trailed unit shut-at (b + m) (suc k) (stageOf n words prices after s) (costBy (g ∷ gs) s) (trailBy (suc k) (g ∷ gs) s)
+      pub stage-told : Trailed unit shut-at (b + m) (suc k) (stageOf n words prices after s) (costBy (g ∷ gs) s) (trailBy (suc k)
+          (g ∷ gs) s)
       unfolding stageOf costs way branchPrice branchWord trailOf digitOf digit-at branchTie
       stage-told =
           let o = add (quote g .of w) (costBy gs x) in
@@ -133,7 +134,8 @@ module _ {G : Type 0} (n : ℕ) (words : ℕ → ℕ) (words-le : (s : ℕ) → 
           let near : x < n = omega (arith, inside s) in
           let other : 3 - w ≤ 3 = omega arith in
           rw (next-zero g s, next-one g s)
-          (subst (λ (t : ℕ). Trailed unit shut-at (b + m) (suc k) (min (after x + prices w) (after (x + 1) + prices (3 - w))) (lesser o p) t)
+          (subst (λ (t : ℕ). Trailed unit shut-at (b + m) (suc k) (min (after x + prices w) (after (x + 1) + prices (3 - w)))
+          (lesser o p) t)
           (sym (trail-by (turn o p (tieBy words quote next g s))))
           (told-least unit shut-at (tieBy words quote next g s) room fits
           (λ e. one-lower (trailBy k gs (x + 1)) (trailBy k gs x) (trail-less k gs (x + 1)) e)

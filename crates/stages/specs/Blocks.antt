@@ -1,4 +1,5 @@
--- A BLOCK is eight stages. Costs are held in 256ths, and a word whose first code bit is not the row's costs a little more, at a bit of the low
+-- A BLOCK is eight stages. Costs are held in 256ths, and a word whose first code bit is not the row's costs a little more, at a bit of the
+-- low
 -- byte that is the stage's own: so ties fall as they must, and the low byte of a state's number says how it came to the end of the block.
 --   pickAt picks i        the row of stage i of the block: a byte of picks
 --   flagOf low j         1 where the first code bit of the word j is not `low`

@@ -1,4 +1,5 @@
-// Eight stages at a time. The choice of each stage stands in the low byte of the costs, so that a stage is a sum and a minimum, and a price and
+// Eight stages at a time. The choice of each stage stands in the low byte of the costs, so that a stage is a sum and a minimum, and a price
+// and
 // a write share it.
 use crate::CLOSED;
 use crate::stage::least;
@@ -88,7 +89,8 @@ fn at_stage(bit: u32, i: u32) -> u32
     bit << (7 - i)
 }
 
-// The prices of a row for stage i of eight, in 256ths. A word whose first code bit is not the row's costs a little more, at the stage's own bit
+// The prices of a row for stage i of eight, in 256ths. A word whose first code bit is not the row's costs a little more, at the stage's own
+// bit
 // of the low byte: so a tie goes to the other word, and the bit says afterwards which was taken.
 fn marked(rows: &[u32; 128], row: usize, i: u32) -> [u32; 4]
     requires { ⌜ (row < 32) × (i < 8) × ((k : ℕ) → getD (now rows) k 0 ≤ top) ⌝ }
@@ -107,7 +109,8 @@ fn marked(rows: &[u32; 128], row: usize, i: u32) -> [u32; 4]
     ]
 }
 
-// Eight stages of the long code, the last first. The table is a constant here, where the stage is compiled into it: lent from further out it
+// Eight stages of the long code, the last first. The table is a constant here, where the stage is compiled into it: lent from further out
+// it
 // costs four times as much.
 fn run_long(costs: &mut [u32; 64], rows: &[u32; 128], picks: u64)
     requires { ⌜ RunAsked (now costs) (now rows) ⌝ }

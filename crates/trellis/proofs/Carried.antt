@@ -458,4 +458,5 @@ module _ (G : Generators) (reach : G .memory ≤ 6) (content digits : List ℕ) 
       let x : 8 * q + (7 - (7 - i)) ≡ 8 * q + i = omega arith in
       xor-bit second labels (7 - i)
       ∙ ap₂ (λ (a b : ℕ). (a + b) % 2) (bits-made (g2 G) second made i h)
-      (ap (λ (z : ℕ). z / 2 ^ (7 - i) % 2) l ∙ window-byte (labelAt G content) (label-bound G content) q (7 - i) (omega arith) ∙ ap (labelAt G content) x)
+      (ap (λ (z : ℕ). z / 2 ^ (7 - i) % 2) l ∙ window-byte (labelAt G content) (label-bound G content) q (7 - i) (omega arith)
+      ∙ ap (labelAt G content) x)

@@ -131,7 +131,8 @@ record Onward (G : Generators) (W strip content : List ℕ) (L t : ℕ) (a : Sol
   rest : Solution
   further : onward G W strip content L (suc t) ≡ some rest
   carried : a .levels
-      ≡ carriedTo G strip content (pathDigit G W strip content L) (2 * t) ∷ carriedTo G strip content (pathDigit G W strip content L) (2 * t + 1)
+      ≡ carriedTo G strip content (pathDigit G W strip content L) (2 * t) ∷ carriedTo G strip content (pathDigit G W strip content L)
+      (2 * t + 1)
       ∷ rest .levels
 
 -- the plan from stage t on has a solution
@@ -226,7 +227,13 @@ module _ (G : Generators) (W : List ℕ) (K : Suits G W) (strip content : List �
     path-first t =
         let s : ℕ = pathState G W strip content L t in
         let d : Bool = planned G W strip content L t s in
-        rw (path-newest G W strip content L t, mod-odd (level strip (2 * t)), word-by (G .memory) G (K .both) s d, word-odd G (2 * s + one-if d))
+        rw (
+          path-newest G W strip content L t,
+          mod-odd (level strip (2 * t)),
+          word-by (G .memory) G (K .both) s d,
+          word-odd G
+              (2 * s + one-if d),
+        )
         (missed (odd (level strip (2 * t))) (firstOf G (2 * s + one-if d)) ∙ sym (parity-number _ (2 * s + one-if d)))
 
     -- a miss is 0 or 1
@@ -236,7 +243,8 @@ module _ (G : Generators) (W : List ℕ) (K : Suits G W) (strip content : List �
 
     -- the trail of the first k stages is the window of their misses
     trail-window : (k t : ℕ) → t + k ≤ 8 * L
-        → trailFor G W k (stagesFor G strip content t (8 * L - t)) (pathState G W strip content L t) ≡ windowOf k (pathMiss G W strip content L) (t + k)
+        → trailFor G W k (stagesFor G strip content t (8 * L - t)) (pathState G W strip content L t) ≡ windowOf k
+        (pathMiss G W strip content L) (t + k)
     unfolding trailOf stagesFrom pathState pathMiss
     trail-window zero t h = omega (arith, window-less 0 (pathMiss G W strip content L) (t + 0))
     trail-window (suc k) t h =
@@ -245,7 +253,8 @@ module _ (G : Generators) (W : List ℕ) (K : Suits G W) (strip content : List �
         let e : t + suc k ≡ suc t + k = omega arith in
         let one : windowOf 1 m (suc t) ≡ m t = window-suc m miss-less 0 t ∙ (let n = window-less 0 m t in omega (arith, n)) in
         rw (z, e)
-        (ap (λ (v : ℕ). m t * 2 ^ k + v) (trail-window k (suc t) (omega arith)) ∙ ap (λ (v : ℕ). v * 2 ^ k + windowOf k m (suc t + k)) (sym one)
+        (ap (λ (v : ℕ). m t * 2 ^ k + v) (trail-window k (suc t) (omega arith))
+        ∙ ap (λ (v : ℕ). v * 2 ^ k + windowOf k m (suc t + k)) (sym one)
         ∙ sym (window-parts m miss-less 1 k (suc t)) ∙ ap (λ (n : ℕ). windowOf n m (suc t + k)) (let n : 1 + k ≡ suc k = omega arith in n))
 
 -- THE PATH IS FOLLOWED: the trail that the history keeps and the bits of the first cells give the first code bits of each block
@@ -254,7 +263,8 @@ path-followed : (G : Generators) (W : List ℕ) → Suits G W → Dear (stepsOf 
     → Followed G lows history (length content) (pathDigit G W strip content (length content))
 path-followed G W K D strip content {lows} {history} T B a e = record {
   bits = digit-less G W strip content L;
-  gives = λ q h. rw (told q h) (windows-give (G .memory) (G .g1) u first (digit-less G W strip content L) first-less q (K .reach) (λ t l. refl));
+  gives = λ q h. rw (told q h) (windows-give (G .memory) (G .g1) u first (digit-less G W strip content L) first-less q (K .reach)
+      (λ t l. refl));
 }
   where
     L : ℕ
@@ -269,7 +279,8 @@ path-followed G W K D strip content {lows} {history} T B a e = record {
     first-less : (t : ℕ) → first t < 2
     first-less t = parity-less (tapsOf (G .memory) (G .g1)) (windowOf (suc (G .memory)) u (suc t))
 
-    kept : (q : ℕ) → q < L → getD history (64 * q + windowOf (G .memory) u (8 * q)) 0 ≡ windowOf 8 (pathMiss G W strip content L) (8 * (q + 1))
+    kept : (q : ℕ) → q < L
+        → getD history (64 * q + windowOf (G .memory) u (8 * q)) 0 ≡ windowOf 8 (pathMiss G W strip content L) (8 * (q + 1))
     kept q h =
         let s : ℕ = pathState G W strip content L (8 * q) in
         let z : 8 * (L - q) ≡ 8 * L - 8 * q = omega arith in
@@ -280,10 +291,12 @@ path-followed G W K D strip content {lows} {history} T B a e = record {
         rw z at (T .kept q h s l (rw z (path-open G W K strip content L D a e (8 * q) (omega arith)))) in
         rw (← w, y) (k ∙ trail-window G W K strip content L D 8 (8 * q) (omega arith))
 
-    told : (q : ℕ) → q < L → bitXor (getD history (64 * q + windowOf (G .memory) u (8 * q)) 0) (getD lows q 0) ≡ windowOf 8 first (8 * (q + 1))
+    told : (q : ℕ) → q < L
+        → bitXor (getD history (64 * q + windowOf (G .memory) u (8 * q)) 0) (getD lows q 0) ≡ windowOf 8 first (8 * (q + 1))
     told q h =
         ap₂ bitXor (kept q h) (B .shown q h)
-        ∙ xor-windows 8 (pathMiss G W strip content L) (firstBit (level strip)) (miss-less G W K strip content L D) (first-bound (level strip)) (8 * (q + 1))
+        ∙ xor-windows 8 (pathMiss G W strip content L) (firstBit (level strip)) (miss-less G W K strip content L D) (first-bound
+        (level strip)) (8 * (q + 1))
         ∙ ap (λ (f : ℕ → ℕ). windowOf 8 f (8 * (q + 1))) (fun-ext λ t. path-first G W K strip content L D t)
 
 -- THE DIGITS. A window depends on the bits before its stage alone
@@ -301,7 +314,8 @@ carriedTo-same G strip content u v n e c h =
     rw (window-agree (suc (G .memory)) u v n e (suc (c / 2)) k)
 
 -- a digit of bytes that are the windows of a sequence
-digit-window : (u : ℕ → ℕ) → ((t : ℕ) → u t < 2) → (n : ℕ) (digits : List ℕ) → ((q : ℕ) → q < n → getD digits q 0 ≡ windowOf 8 u (8 * (q + 1)))
+digit-window : (u : ℕ → ℕ) → ((t : ℕ) → u t < 2) → (n : ℕ) (digits : List ℕ) → ((q : ℕ) → q < n
+    → getD digits q 0 ≡ windowOf 8 u (8 * (q + 1)))
     → (t : ℕ) → t < 8 * n → digitIn digits t ≡ u t
 unfolding digitIn
 digit-window u b n digits e t h =
@@ -314,14 +328,16 @@ digit-window u b n digits e t h =
 -- THE PLAN: the bytes of the digits that are followed
 pub followed-plans : {G : Generators} {W strip content lows history digits : List ℕ} → Suits G W → Dear (stepsOf W)
     → Traced G W strip content history → Lows strip (length content) lows
-    → ((u : ℕ → ℕ) → Followed G lows history (length content) u → (q : ℕ) → q < length content → getD digits q 0 ≡ windowOf 8 u (8 * (q + 1)))
+    → ((u : ℕ → ℕ) → Followed G lows history (length content) u → (q : ℕ) → q < length content
+    → getD digits q 0 ≡ windowOf 8 u (8 * (q + 1)))
     → Plans G W strip content digits
 followed-plans {G} {W} {strip} {content} {lows} {history} {digits} K D T B f = record {
   leads = λ a e c h.
       let l : c < 16 * length content = rw (oneBit-cells (length content)) at h in
       let v = pathDigit G W strip content (length content) in
       carriedTo-same G strip content (digitIn digits) v (8 * length content)
-      (digit-window v (digit-less G W strip content (length content)) (length content) digits (f v (path-followed G W K D strip content T B a e))) c (omega arith)
+      (digit-window v (digit-less G W strip content (length content)) (length content) digits (f v
+      (path-followed G W K D strip content T B a e))) c (omega arith)
       ∙ carried-is G W K strip content (length content) D a e c l;
 }
 

@@ -201,7 +201,8 @@ module _ (G : Generators) (rows strip content : List ℕ) where
   n = length content
 
   -- after the last block nothing costs anything
-  pub blocks-last : {before : ℕ} → before ≡ windowOf 8 (labelAt G content) (8 * n) → BlocksTold G rows strip content n before (replicate 64 0)
+  pub blocks-last : {before : ℕ} → before ≡ windowOf 8 (labelAt G content) (8 * n)
+      → BlocksTold G rows strip content n before (replicate 64 0)
   unfolding stagesFrom costs
   blocks-last e =
       let z : 8 * (n - n) ≡ 0 = omega arith in record {
@@ -237,7 +238,8 @@ module _ (G : Generators) (rows strip content : List ℕ) where
         (λ i. getD numbers i 0) (quoted W P) (rw f at (h .told W P)) room 8 (omega arith) s l))
 
     -- and once they are settled the turn is done
-    pub blocks-more : {earlier : ℕ} {settled : List ℕ} → earlier ≡ windowOf 8 (labelAt G content) (8 * q) → Settled (2 ^ G .memory) ran settled
+    pub blocks-more : {earlier : ℕ} {settled : List ℕ} → earlier ≡ windowOf 8 (labelAt G content) (8 * q)
+        → Settled (2 ^ G .memory) ran settled
         → BlocksTold G rows strip content q earlier settled
     blocks-more {settled = settled} e t = record {
       within = omega arith;

@@ -26,7 +26,8 @@ abbrev μ-loop : tie.MeasureT-loop
 μ-loop code bytes strips page «data» digits₀ rows total₀ k₀ digits total k = strips - k
 
 -- the table is that of the weights
-priced : (c : tie.After-rows-of Inv-loop μ-loop) → let s = c .before .before .before .before in Priced (s .args .weights) (c .rows-of .result)
+priced : (c : tie.After-rows-of Inv-loop μ-loop)
+    → let s = c .before .before .before .before in Priced (s .args .weights) (c .rows-of .result)
 priced c =
     let s = c .before .before .before .before in
     let W = s .args .weights in

@@ -108,7 +108,8 @@ answer-requires-2 : tie.Need-answer-requires-2 Inv-loop μ-loop
 answer-requires-2 c κs = search needs
 
 returns-2 : tie.Need-returns-2 Inv-loop μ-loop
-returns-2 c = reached-all (c .before .before .loop .inv _ (priced (c .before .before .before .before))) (c .before .loop-test .left) (c .answer2 .ensures)
+returns-2 c = reached-all (c .before .before .loop .inv _ (priced (c .before .before .before .before))) (c .before .loop-test .left)
+    (c .answer2 .ensures)
 
 pub price-strips-spec : {M : Type 1} → statement M
 price-strips-spec =

@@ -57,7 +57,14 @@ window-requires : tie.Need-window-requires Inv-loop μ-loop
 window-requires c κs = search needs
 
 cast-lows : tie.Need-cast-lows Inv-loop μ-loop
-cast-lows c = record { fits = omega (arith, c .window .ensures, window-less 8 (λ (i : ℕ). c .before .picks-of .result / 2 ^ (8 * i) % 2) 8) }
+cast-lows c = record {
+  fits = omega (
+    arith,
+    c .window .ensures,
+    window-less 8 (λ (i : ℕ). c .before .picks-of .result / 2 ^
+        (8 * i) % 2) 8,
+  );
+}
 
 element-write-lows : tie.Need-element-write-lows Inv-loop μ-loop
 element-write-lows c =
@@ -83,8 +90,12 @@ settle-requires : tie.Need-settle-requires Inv-loop μ-loop
 settle-requires c κs =
     let t = c .before .before .before .before .before .before .before .before .before in
     let h = t .before .loop .inv .0 in
-    let r = c .before .before .before .before .run .ensures in
-    (t .before .before .before .states .ensures .1, r .long, ran-le r (h .cut) (t .before .before .before .before .before .before .pre .0 .cut))
+    let r = c .before .before .before .before .run .ensures in (
+      t .before .before .before .states .ensures .1,
+      r .long,
+      ran-le r (h .cut)
+          (t .before .before .before .before .before .before .pre .0 .cut),
+    )
 
 labels-before-requires : tie.Need-labels-before-requires Inv-loop μ-loop
 labels-before-requires c κs =
@@ -115,7 +126,8 @@ loop-again c =
     let picks = c .before .before .before .before .before .before .before .before .before .picks-of .ensures in
     let quoted = block-quoted G q _ octets h bits picks in
     let ran = c .before .before .before .before .before .before .run .ensures in
-    let low = block-lows (a .strip .now) q _ (l .labels) octets bits picks (c .before .before .before .before .before .before .before .before .window .ensures) in (
+    let low = block-lows (a .strip .now) q _ (l .labels) octets bits picks
+    (c .before .before .before .before .before .before .before .before .window .ensures) in (
       blocks-more G (a .rows .now) (a .strip .now) (a .«data» .now) (proper (a .code)) q _ (s .pre .0 .most) near h quoted ran
           (c .labels-before .ensures .0) (rw (fits .0) at (c .before .settle .ensures)),
       traced-more G q (omega arith) (rw e (l .inv .1)) (rw (fits .0) at (c .before .before .before .keep .ensures))

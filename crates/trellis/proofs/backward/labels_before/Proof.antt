@@ -47,9 +47,13 @@ returns-2 c =
     let a = s .args in
     let p : 0 < a .q = omega arith in
     let e : a .q - 1 + 1 ≡ a .q = omega arith in
-    let d = ap₂ (λ (x y : ℕ). x * 256 + y) (c .before .before .data-window .ensures .0 ∙ ap (λ (k : ℕ). windowOf 8 (bitOf (a .«data» .now)) (8 * k)) e)
-    (c .before .data-window2 .ensures .0) in
-    (labels-back (proper (a .code)) (memory-bounds (a .code .name) .1) (a .«data» .now) (a .q) p (s .pre .2) d (c .divide-back .ensures .1), c .divide-back .ensures .0)
+    let d = ap₂ (λ (x y : ℕ). x * 256 + y) (c .before .before .data-window .ensures .0
+    ∙ ap (λ (k : ℕ). windowOf 8 (bitOf (a .«data» .now)) (8 * k)) e)
+    (c .before .data-window2 .ensures .0) in (
+      labels-back (proper (a .code)) (memory-bounds (a .code .name) .1) (a .«data» .now) (a .q) p (s .pre .2) d
+          (c .divide-back .ensures .1),
+      c .divide-back .ensures .0,
+    )
 
 pub labels-before-spec : {M : Type 1} → statement M
 labels-before-spec =

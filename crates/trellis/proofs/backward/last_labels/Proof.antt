@@ -41,7 +41,8 @@ loop-again c =
     let l = c .before .before .before .loop in (
       search needs,
       c .divide .ensures .0,
-      labels-forth (proper (a .code)) (memory-bounds (a .code .name) .1) (a .«data» .now) (l .q) (l .inv .2) (c .before .data-window .ensures .0)
+      labels-forth (proper (a .code)) (memory-bounds (a .code .name) .1) (a .«data» .now) (l .q) (l .inv .2)
+          (c .before .data-window .ensures .0)
           (c .divide .ensures .1),
     )
 

@@ -49,8 +49,12 @@ run-requires c κs =
 settle-requires : tie.Need-settle-requires Inv-loop μ-loop
 settle-requires c κs =
     let h = c .before .before .before .before .before .before .loop .inv in
-    let s = c .before .before .before .before .before .before .before .before .before .before .before in
-    (c .before .before .before .before .before .before .before .before .states .ensures .1, c .before .run .ensures .long, ran-le (c .before .run .ensures) (h .cut) (s .pre .cut))
+    let s = c .before .before .before .before .before .before .before .before .before .before .before in (
+      c .before .before .before .before .before .before .before .before .states .ensures .1,
+      c .before .run .ensures .long,
+      ran-le
+          (c .before .run .ensures) (h .cut) (s .pre .cut),
+    )
 
 labels-before-requires : tie.Need-labels-before-requires Inv-loop μ-loop
 labels-before-requires c κs =
@@ -71,10 +75,13 @@ loop-again c =
     let a = s .args in
     let q : ℕ = l .q - 1 in
     let e : q + 1 ≡ l .q = omega arith in
-    let h : BlocksTold (generatorsOf (a .code)) (a .rows .now) (a .strip .now) (a .«data» .now) (q + 1) (l .labels) (l .costs) = rw e (l .inv) in
+    let h : BlocksTold (generatorsOf (a .code)) (a .rows .now) (a .strip .now) (a .«data» .now) (q + 1) (l .labels) (l .costs) = rw e
+    (l .inv) in
     let octets : (i : ℕ) → getD (a .strip .now) i 0 < 256 = λ i. omega (arith, k .shared-slice-known .given i) in
-    blocks-more (generatorsOf (a .code)) (a .rows .now) (a .strip .now) (a .«data» .now) (proper (a .code)) q _ (s .pre .most) (omega (arith, l .inv .within)) h
-    (block-quoted (generatorsOf (a .code)) q _ octets h (c .before .before .before .before .before .before .bits-of .ensures) (c .before .before .before .before .before .picks-of .ensures))
+    blocks-more (generatorsOf (a .code)) (a .rows .now) (a .strip .now) (a .«data» .now) (proper (a .code)) q _ (s .pre .most) (omega
+    (arith, l .inv .within)) h
+    (block-quoted (generatorsOf (a .code)) q _ octets h (c .before .before .before .before .before .before .bits-of .ensures)
+    (c .before .before .before .before .before .picks-of .ensures))
     (c .before .before .before .run .ensures)
     (c .labels-before .ensures .0)
     (rw (t .before .before .before .states .ensures .0) at (c .before .settle .ensures))

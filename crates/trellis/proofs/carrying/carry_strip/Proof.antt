@@ -32,16 +32,25 @@ abbrev μ-loop : tie.MeasureT-loop
 μ-loop code pairs strip₀ «data» digits labels₀ before₀ q₀ strip labels before q = length «data» - q
 
 -- in a turn the strip is as long as it was
-same-size : (c : tie.In-loop Inv-loop μ-loop) → length (c .before .loop .strip) ≡ 6 * length (c .before .before .before .before .before .args .«data» .now)
+same-size : (c : tie.In-loop Inv-loop μ-loop)
+    → length (c .before .loop .strip) ≡ 6 * length (c .before .before .before .before .before .args .«data» .now)
 same-size c =
     let s = c .before .before .before .before .before in
     let a = s .args in
-    ap length (c .before .loop .inv .5) ∙ raisedTo-length startOf (a .strip .now) _ ∙ s .pre .0 .size ∙ oneBit-bytes (length (a .«data» .now))
+    ap length (c .before .loop .inv .5) ∙ raisedTo-length startOf (a .strip .now) _ ∙ s .pre .0 .size
+    ∙ oneBit-bytes (length (a .«data» .now))
 
 -- so the block lies in it
-block-inside : (c : tie.In-loop Inv-loop μ-loop) → (6 * c .before .loop .q + 6 ≤ length (c .before .loop .strip)) × (c .before .loop .q < 64)
-block-inside c =
-    (omega (arith, same-size c, c .loop-test .taken), omega (arith, c .loop-test .taken, c .before .before .before .before .before .pre .0 .most))
+block-inside : (c : tie.In-loop Inv-loop μ-loop)
+    → (6 * c .before .loop .q + 6 ≤ length (c .before .loop .strip)) × (c .before .loop .q < 64)
+block-inside c = (
+  omega (arith, same-size c, c .loop-test .taken),
+  omega (
+    arith,
+    c .loop-test .taken,
+    c .before .before .before .before .before .pre .0 .most,
+  ),
+)
 
 loop-holds : tie.Need-loop-holds Inv-loop μ-loop
 unfolding windowOf
@@ -106,13 +115,22 @@ loop-again c =
     let G = generatorsOf (a .code) in
     let reach = memory-bounds (a .code .name) .1 in
     let octets : (i : ℕ) → getD (a .strip .now) i 0 < 256 = λ i. omega (arith, k .slice-known .given i) in
-    let byte : getD (a .digits .now) (l .q) 0 < 256 = omega (arith, c .before .before .before .before .before .before .before .before .before .shared-slice-known3 .given (l .q)) in
-    let labels = labels-forth (proper (a .code)) reach (a .«data» .now) (l .q) (l .inv .2) (c .before .before .before .before .before .before .before .before .before .before .before .data-window .ensures .0) (c .before .before .before .before .before .before .before .before .before .before .divide .ensures .1) in
-    let wants = block-first G reach (a .«data» .now) (a .digits .now) (l .q) byte (l .inv .4) refl _ (c .before .before .before .before .before .before .before .before .first-bits .ensures .1) in
-    let wants-second = block-second G reach (a .«data» .now) (a .digits .now) (l .q) byte (l .inv .4) refl _ (c .before .before .before .before .before .before .before .second-bits .ensures .1) labels in
+    let byte : getD (a .digits .now) (l .q) 0 < 256 = omega (
+      arith,
+      c .before .before .before .before .before .before .before .before .before .shared-slice-known3 .given (l .q),
+    ) in
+    let labels = labels-forth (proper (a .code)) reach (a .«data» .now) (l .q) (l .inv .2)
+    (c .before .before .before .before .before .before .before .before .before .before .before .data-window .ensures .0)
+    (c .before .before .before .before .before .before .before .before .before .before .divide .ensures .1) in
+    let wants = block-first G reach (a .«data» .now) (a .digits .now) (l .q) byte (l .inv .4) refl _
+    (c .before .before .before .before .before .before .before .before .first-bits .ensures .1) in
+    let wants-second = block-second G reach (a .«data» .now) (a .digits .now) (l .q) byte (l .inv .4) refl _
+    (c .before .before .before .before .before .before .before .second-bits .ensures .1) labels in
     let size = s .pre .0 .size ∙ oneBit-bytes (length (a .«data» .now)) in
     let bits = c .before .before .before .before .shown-bits .ensures
-    ∙ ap (λ (b : ℕ). shownBits (a .pairs .now) b (c .before .before .before .before .before .before .before .before .first-bits .result) (bitXor (c .before .before .before .before .before .before .before .second-bits .result) (c .before .before .before .before .before .before .before .before .before .before .divide .result)) 8)
+    ∙ ap (λ (b : ℕ). shownBits (a .pairs .now) b (c .before .before .before .before .before .before .before .before .first-bits .result)
+    (bitXor (c .before .before .before .before .before .before .before .second-bits .result)
+    (c .before .before .before .before .before .before .before .before .before .before .divide .result)) 8)
     (c .before .before .before .before .before .bits-of .ensures) in (
       search needs,
       c .before .before .before .before .before .before .before .before .before .before .divide .ensures .0,
@@ -121,7 +139,8 @@ loop-again c =
       sym (digits-window (a .digits .now) (l .q) byte),
       c .before .before .put-bits .ensures ∙ ap (withBits (l .strip) (l .q)) bits
           ∙ carried-block G (a .strip .now) (a .«data» .now) (digitIn (a .digits .now)) (l .q) (a .pairs .now) _ _ (s .pre .1)
-          (six-bit (a .strip .now) octets (l .q)) wants wants-second (length (a .«data» .now)) (l .strip) octets size (t .loop-test .taken) (l .inv .5),
+          (six-bit (a .strip .now) octets (l .q)) wants wants-second (length (a .«data» .now)) (l .strip) octets size
+          (t .loop-test .taken) (l .inv .5),
     )
 
 same-length : tie.Need-same-length Inv-loop μ-loop
@@ -137,7 +156,8 @@ returns c =
     let n : ℕ = length (a .«data» .now) in
     let e : l .q ≡ n = omega arith in
     let size = s .pre .0 .size ∙ oneBit-bytes n in
-    l .inv .5 ∙ ap (λ (q : ℕ). raisedTo startOf (a .strip .now) (carriedBelow (generatorsOf (a .code)) (a .strip .now) (a .«data» .now) (digitIn (a .digits .now)) (16 * q))) e
+    l .inv .5 ∙ ap (λ (q : ℕ). raisedTo startOf (a .strip .now) (carriedBelow (generatorsOf (a .code)) (a .strip .now) (a .«data» .now)
+    (digitIn (a .digits .now)) (16 * q))) e
     ∙ carried-all (generatorsOf (a .code)) (a .strip .now) (a .«data» .now) (digitIn (a .digits .now)) (16 * n) (omega arith)
 
 pub carry-strip-spec : {M : Type 1} → statement M

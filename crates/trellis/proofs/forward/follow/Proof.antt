@@ -30,7 +30,10 @@ abbrev μ-loop : tie.MeasureT-loop
 
 -- there are states, at most 64 of them
 some-states : (c : tie.After-states Inv-loop μ-loop) → (0 < c .states .result) × (c .states .result ≤ 64)
-some-states c = (omega (arith, c .states .ensures .0, pow-pos (generatorsOf (c .before .before .args .code) .memory)), c .states .ensures .1)
+some-states c = (
+  omega (arith, c .states .ensures .0, pow-pos (generatorsOf (c .before .before .args .code) .memory)),
+  c .states .ensures .1,
+)
 
 -- so the state of a turn is below 64
 state-less : (c : tie.In-loop Inv-loop μ-loop) → c .before .loop .before % c .before .before .states .result < 64
@@ -106,7 +109,8 @@ loop-again c =
       simp length-set (l .inv .1),
       c .divide .ensures .0,
       step,
-      λ u f. store-more (l .digits) (l .q) (c .divide .result) (λ k. windowOf 8 u (8 * (k + 1))) (t .loop-test .taken) (step u f) (l .inv .4 u f),
+      λ u f. store-more (l .digits) (l .q) (c .divide .result) (λ k. windowOf 8 u (8 * (k + 1))) (t .loop-test .taken) (step u f)
+          (l .inv .4 u f),
     )
 
 same-length : tie.Need-same-length Inv-loop μ-loop
@@ -115,7 +119,12 @@ same-length c = search needs
 returns : tie.Need-returns Inv-loop μ-loop
 returns c =
     let l = c .before .loop in
-    let e : l .q ≡ length (c .before .before .before .before .args .digits .now) = omega (arith, l .inv .0, l .inv .1, c .loop-test .left) in
+    let e : l .q ≡ length (c .before .before .before .before .args .digits .now) = omega (
+      arith,
+      l .inv .0,
+      l .inv .1,
+      c .loop-test .left,
+    ) in
     (l .inv .1, λ u f k h. l .inv .4 u f k (omega arith))
 
 pub follow-spec : {M : Type 1} → statement M
