@@ -4,8 +4,10 @@
 --   parity-digits                        of digit i times bit i
 --   low-bit                              the last bits of a number keep its bit i
 --   window-bit                           bit i of a window is what the sequence was i stages ago
+--   window-less                          a window of n bits is below 2 ^ n
 --   parity-window                        a parity with a window is the sum mod 2 of digit i times what the sequence was i stages ago
---   tapped-data                          the data bit by taps and windows is the paper's
+--   first-bound, second-bound            the bits of a stage's two cells are 0 or 1
+--   tapped-data, tapped-bound            the data bit by taps and windows is the paper's, and is 0 or 1
 --   first-next, second-next, data-next   a turn of reading a byte
 --   read-bytes                           bytes of such data bits are what the strip reads as
 use mathlib.Core.Path.{_≡_, sym, _∙_, ap, ap₂}
@@ -103,7 +105,7 @@ parity-window n x b m g t h =
     ∙ ap (λ (y : ℕ). y % 2) (sumOf-same (suc m) _ _ (λ i l. ap (λ (y : ℕ). digit m g i * y) (window-bit n x b t i (omega arith))))
 
 -- the bit of a first cell is 0 or 1
-first-bound : (v : ℕ → ℕ) (t : ℕ) → firstBit v t < 2
+pub first-bound : (v : ℕ → ℕ) (t : ℕ) → firstBit v t < 2
 unfolding firstBit
 first-bound v t = mod-lt _ (zero-lt-suc 1)
 
