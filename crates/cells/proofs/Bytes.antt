@@ -1,14 +1,16 @@
 -- Bits of bytes, the bytes of bits, and a bit that is 0, set.
 --   bit-bound        a bit is 0 or 1
 --   number-bit       the bits of the number of some bits are these
+--   cases8           a statement of each number below 8 holds of a number below 8
 --   length-bytesOf   bytesOf n f has n numbers, which are bytes (octets-bytesOf)
 --   bytesOf-bit      the bits of the bytes of some bits are these
 --   bytesOf-same     bytes are known by their bits
---   bytes-bits       bytes are the bytes of their bits
+--   byte-bits        a byte is the number of its bits, and bytes are the bytes of theirs (bytes-bits)
 --   word-bit         the bits of two bytes that follow each other, as one number
 --   part-bit         the bits of a part of the bytes
 --   bit-same         a bit that is set is 1
 --   bit-other        every other bit is as it was
+--   byte-fits        a byte in which a bit that is 0 is set is still a byte
 --   length-withBit   as many bytes as before, which are still bytes (octets-withBit)
 use mathlib.Core.Path.{_≡_, sym, _∙_, ap, ap₂, subst}
 use mathlib.Core.List.{List}

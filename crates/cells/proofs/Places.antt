@@ -4,7 +4,7 @@
 --   listOf-getD     a list is the list of its places
 --   sumOf-more      a sum by its last place; of zeros (-zero); by parts (-parts); of two sums (-add)
 --   sumOf-le        a sum of n numbers that are at most k each
---   number-more     a number by its last bit; by two runs of bits (-join); as the code adds them up (-next)
+--   number-more     a number by its last bit, and as the code adds them up (-next)
 --   number-less     n bits make a number below 2 ^ n, which fits n bits and more (-fits)
 --   one-shl         what 1 << i is
 --   half-power      halving drops bit 0
@@ -120,7 +120,7 @@ double-power : (x n : ℕ) → x * 2 ^ suc n ≡ 2 * (x * 2 ^ n)
 double-power x n = ap (λ (y : ℕ). x * y) (pow-suc 2 n) ∙ sym (mul-assoc x (2 ^ n) 2) ∙ mul-comm (x * 2 ^ n) 2
 
 -- a number grows by its last bit
-pub number-more : (n : ℕ) (f : ℕ → ℕ) → number (suc n) f ≡ number n f + f n * 2 ^ n
+number-more : (n : ℕ) (f : ℕ → ℕ) → number (suc n) f ≡ number n f + f n * 2 ^ n
 unfolding number
 number-more zero f = omega arith
 number-more (suc n) f = omega (arith, double-power (f (suc n)) n, number-more n (λ i. f (suc i)))
@@ -150,15 +150,6 @@ number-next i w d b f h l p q =
 -- at most w bits fit w bits
 pub number-fits : (i w : ℕ) (f : ℕ → ℕ) → ((k : ℕ) → f k < 2) → i ≤ w → number i f < 2 ^ w
 number-fits i w f h l = omega (arith, number-less i f h, pow-mono l)
-
--- two runs of bits, one after the other
-pub number-join : (m n : ℕ) (f : ℕ → ℕ) → number m f + number n (λ i. f (m + i)) * 2 ^ m ≡ number (m + n) f
-unfolding number
-number-join zero n f = let e : 0 + n ≡ n = omega arith in rw e (omega (arith, number-same n (λ i. f (0 + i)) f (λ i h. ap f (omega arith))))
-number-join (suc m) n f =
-    let e : suc m + n ≡ suc (m + n) = omega arith in
-    let s : number n (λ i. f (suc m + i)) ≡ number n (λ i. f (suc (m + i))) = number-same n _ _ (λ i h. ap f (omega arith)) in
-    rw (e, s) (omega (arith, double-power (number n (λ i. f (suc (m + i)))) m, number-join m n (λ i. f (suc i))))
 
 -- halving drops bit 0
 pub half-power : (x j : ℕ) → x / 2 ^ suc j ≡ x / 2 / 2 ^ j

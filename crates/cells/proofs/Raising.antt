@@ -1,13 +1,12 @@
 -- Raising to given levels is exact, wherever the raises of a cell start, and to raise one cell is to set its first zero from there on.
+--   triple-bit        bit i of a cell's three bits
 --   zeroFrom-first    the first zero of three bits from bit s on: s itself, or the next (-second), or the one after (-third)
---   raisedTo-length   a page raised is as long as before, and of bytes (-octets)
+--   raisedTo-length   a page raised is as long as before
 --   raisedTo-bit      bit i of cell c, and no other list of bytes has these bits (-only)
 --   raisedTo-level    the levels after it are the given ones
---   raisedTo-keeps    a cell that isn't raised keeps its bits
 --   raisedTo-same     it depends on the levels to reach, and on the starts (-start), of the page's own cells alone
 --   raisedTo-none     to raise each cell to its own level changes nothing
 --   canRise-yes       which cells can rise, and which cannot (-outside, -full)
---   raisedTo-more     raised to levels, and one cell that they leave (-still) then raised by one, which a full cell ignores (-full)
 --   withBit-raises    to set the first zero of a cell, which is there (zeroFrom-unset), is to raise the cell
 use mathlib.Core.Path.{_≡_, refl, sym, _∙_, ap, ap₂}
 use mathlib.Core.Logic.{⊎-elim}
@@ -23,9 +22,8 @@ use Rattle.cells.specs.Bytes.{bitOf, Octets, Unset, withBit}
 use Rattle.cells.specs.Levels.{level}
 use Rattle.cells.specs.Raising.{zeroFrom, raise, raisedTimes, triple, raisedTo, oneHigher, raisedCell, canRise}
 use Rattle.cells.proofs.Places.{same?}
-use Rattle.cells.proofs.Bytes.{bit-bound, length-bytesOf, bytesOf-bit, bytesOf-same, bytes-bits, octets-bytesOf}
+use Rattle.cells.proofs.Bytes.{bit-bound, length-bytesOf, bytesOf-bit, bytesOf-same, bytes-bits}
 use Rattle.cells.proofs.Bytes.{length-withBit, bit-same, bit-other, octets-withBit}
-use Rattle.cells.proofs.Levels.{level-bound}
 
 -- THREE BITS. Each is 0 or 1
 data Three : List ℕ → Type 0 where
@@ -51,10 +49,6 @@ three-bit (three p q r) (suc zero) = q
 three-bit (three p q r) (suc (suc zero)) = r
 three-bit (three p q r) (suc (suc (suc i))) = omega arith
 
--- three bits by their places
-list3 : {x x′ y y′ z z′ : ℕ} → x ≡ x′ → y ≡ y′ → z ≡ z′ → (x ∷ y ∷ z ∷ []) ≡ (x′ ∷ y′ ∷ z′ ∷ [])
-list3 p q r = cc
-
 -- the number of ones
 ones : List ℕ → ℕ
 ones l = getD l 0 0 + getD l 1 0 + getD l 2 0
@@ -73,14 +67,6 @@ set-ones (three p q r) zero h e = omega arith
 set-ones (three p q r) (suc zero) h e = omega arith
 set-ones (three p q r) (suc (suc zero)) h e = omega arith
 set-ones (three p q r) (suc (suc (suc i))) h e = absurd (let z : ⊥ = omega arith in z)
-
--- three ones are left as they are
-set-full : {l : List ℕ} → Three l → ones l ≡ 3 → (i : ℕ) → set l i 1 ≡ l
-unfolding ones
-set-full (three p q r) e zero = list3 (omega arith) refl refl
-set-full (three p q r) e (suc zero) = list3 refl (omega arith) refl
-set-full (three p q r) e (suc (suc zero)) = list3 refl refl (omega arith)
-set-full (three p q r) e (suc (suc (suc i))) = refl
 
 -- THE FIRST ZERO from bit s on is that bit
 module _ (s : ℕ) (bits : List ℕ) where
@@ -137,11 +123,6 @@ module _ (s : ℕ) where
       let f = zeroFrom-zero s m (omega arith) in
       set-ones (raised-three n t) (zeroFrom s m) (f .0) (f .1) ∙ omega arith
 
-  -- three ones are raised no more
-  raise-full : {l : List ℕ} → Three l → ones l ≡ 3 → raise s l ≡ l
-  unfolding raise
-  raise-full {l} t e = set-full t e (zeroFrom s l)
-
 -- each bit of a page raised is 0 or 1
 raised-small : (start : ℕ → ℕ) (page : List ℕ) (to : ℕ → ℕ) (k : ℕ)
     → getD (raisedTimes (start (k / 3)) (to (k / 3) - level page (k / 3)) (triple page (k / 3))) (k % 3) 0 < 2
@@ -154,11 +135,6 @@ module _ (start : ℕ → ℕ) (page : List ℕ) (to : ℕ → ℕ) where
   pub raisedTo-length : length (raisedTo start page to) ≡ length page
   unfolding raisedTo
   raisedTo-length = length-bytesOf (length page) _
-
-  -- and of bytes
-  raisedTo-octets : Octets (raisedTo start page to)
-  unfolding raisedTo
-  raisedTo-octets = octets-bytesOf (length page) _ (raised-small start page to)
 
   -- bit i of cell c
   raisedTo-bit : (c i : ℕ) → i < 3 → 3 * c + i < 8 * length page
@@ -178,14 +154,6 @@ module _ (start : ℕ → ℕ) (page : List ℕ) (to : ℕ → ℕ) where
       let e = raised-ones (start c) (to c - level page c) (triple-three page c) (omega arith) in
       let b = ap (bitOf (raisedTo start page to)) (sym z) ∙ raisedTo-bit c 0 (omega arith) (omega arith) in
       omega (arith, b, raisedTo-bit c 1 (omega arith) (omega arith), raisedTo-bit c 2 (omega arith) h)
-
-  -- a cell that isn't raised keeps its bits
-  raisedTo-keeps : (c i : ℕ) → i < 3 → 3 * c + i < 8 * length page → to c ≤ level page c
-      → bitOf (raisedTo start page to) (3 * c + i) ≡ bitOf page (3 * c + i)
-  unfolding raisedTimes
-  raisedTo-keeps c i h k l =
-      let e : to c - level page c ≡ 0 = omega arith in
-      raisedTo-bit c i h k ∙ ap (λ (n : ℕ). getD (raisedTimes (start c) n (triple page c)) i 0) e ∙ triple-bit page c i h
 
   -- the page raised is the one list of bytes with these bits
   raisedTo-only : (after : List ℕ) → length after ≡ length page → Octets after
@@ -265,49 +233,6 @@ raisedCell-only start page c after l o own others =
     (λ q. rw q (rw (oneHigher-same page c) (own i h (omega arith))))
     (λ q. rw (oneHigher-other page c e q) (others e i q h k ∙ sym (triple-bit page e i h)))
     (same? e c))
-
--- ONE CELL MORE, which `to` leaves at its level
-module _ (start : ℕ → ℕ) (page : List ℕ) (to : ℕ → ℕ) (c : ℕ) (inside : 3 * c + 2 < 8 * length page) (still : to c ≡ level page c) where
-  -- its level so far is its own
-  pub raisedTo-still : level (raisedTo start page to) c ≡ level page c
-  raisedTo-still = raisedTo-level start page to c inside (omega arith) (omega (arith, level-bound page c)) ∙ still
-
-  -- and so are its three bits
-  triple-still : triple (raisedTo start page to) c ≡ triple page c
-  unfolding triple
-  triple-still =
-      let z : 3 * c ≡ 3 * c + 0 = omega arith in
-      let keeps = raisedTo-keeps start page to c in
-      list3 (rw z (keeps 0 (omega arith) (omega arith) (omega arith)))
-      (keeps 1 (omega arith) (omega arith) (omega arith)) (keeps 2 (omega arith) inside (omega arith))
-
-  -- levels to reach that differ at that cell alone
-  module _ (to′ : ℕ → ℕ) (others : (e : ℕ) → (e ≡ c → ⊥) → to′ e ≡ to e) where
-    -- to raise it by one is to raise the page to to′, which is one higher there
-    pub raisedTo-more : to′ c ≡ suc (level page c) → raisedCell start (raisedTo start page to) c ≡ raisedTo start page to′
-    unfolding raisedTimes
-    raisedTo-more m =
-        let q = raisedTo start page to in
-        let l : length q ≡ length page = raisedTo-length start page to in
-        let d : to′ c - level page c ≡ 1 = omega arith in
-        sym (raisedCell-only start q c (raisedTo start page to′) (raisedTo-length start page to′ ∙ sym l) (raisedTo-octets start page to′)
-        (λ i h k. raisedTo-bit start page to′ c i h (omega arith) ∙ rw (d, triple-still))
-        (λ e i n h k.
-        raisedTo-bit start page to′ e i h (omega arith) ∙ rw (others e n) (sym (raisedTo-bit start page to e i h (omega arith)))))
-
-    -- a full cell stays as it is, also where to′ is one higher there
-    pub raisedTo-full : level page c ≡ 3 → to′ c ≡ suc (level page c) → raisedTo start page to ≡ raisedTo start page to′
-    unfolding level triple ones raisedTimes
-    raisedTo-full f m =
-        raisedTo-only start page to′ (raisedTo start page to) (raisedTo-length start page to) (raisedTo-octets start page to) (λ e i h k.
-        raisedTo-bit start page to e i h k ∙
-        ⊎-elim
-        (λ g.
-        let d : to c - level page c ≡ 0 = omega arith in
-        let d′ : to′ c - level page c ≡ 1 = omega arith in
-        rw g (rw (d, d′) (ap (λ (b : List ℕ). getD b i 0) (sym (raise-full (start c) (triple-three page c) f)))))
-        (λ g. rw (others e g))
-        (same? e c))
 
 -- SETTING A BIT. The first zero of a cell below level 3, from any bit on
 module _ (s : ℕ) (page : List ℕ) (c : ℕ) (inside : 3 * c + 2 < 8 * length page) (low : level page c < 3) where

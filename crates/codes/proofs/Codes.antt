@@ -1,9 +1,10 @@
 -- Laws of the two codes, by their names.
---   memory-bounds    a code's memory is from 2 to 6
---   proper           data can be divided by G1, and a step of the division undone
---   second-leads     G2's first digit is 1
---   two-generators   G2 is the only generator after G1
---   short-when, long-unless   which of the two a code is, by its memory
+--   memory-bounds               a code's memory is from 2 to 6
+--   short-proper, long-proper   by G1 of each code data can be divided
+--   proper                      so for every code
+--   second-leads                G2's first digit is 1
+--   two-generators              G2 is the only generator after G1
+--   short-when, long-unless     which of the two a code is, by its memory
 use mathlib.Core.Path.{_≡_, refl}
 use mathlib.Core.List.{[], _∷_}
 use Prim.Native.Nat.{_≤_}
@@ -20,15 +21,15 @@ pub memory-bounds : (n : Name) → (2 ≤ named n .memory) × (named n .memory �
 memory-bounds Short = (omega arith, omega arith)
 memory-bounds Long = (omega arith, omega arith)
 
--- by G1 of code 3 data can be divided, and a step of that division undone
+-- by G1 of code 3 data can be divided
 pub short-proper : Proper short
 unfolding digit
-short-proper = record { some-memory = omega arith; leads = refl; ends = refl }
+short-proper = record { some-memory = omega arith; leads = refl }
 
 -- and by G1 of code 7
 pub long-proper : Proper long
 unfolding digit
-long-proper = record { some-memory = omega arith; leads = refl; ends = refl }
+long-proper = record { some-memory = omega arith; leads = refl }
 
 -- so by that of every code, which is its name
 pub proper : (c : Code) → Proper (generatorsOf c)

@@ -1,7 +1,9 @@
 -- Laws of eight stages divided by a generator, forth and back: whatever eight bits give the data are what the program computes.
+--   xor-bit                    a bit of a sum without carries is the sum of the bits mod 2
 --   times-le                   a number times a bit is at most the number
 --   tapped-less, lifted-less   taps make no more bits than the window has, and lifted no more than eight
 --   tapped-bit                 the taps make the parities of all stages at once
+--   parity-less                a parity is 0 or 1
 --   divided-less               the data divided is eight bits
 --   divided-only               eight bits that give the data, after eight others, are the data divided
 --   divided-back-only          eight bits that give the data, before eight others, are the data divided back

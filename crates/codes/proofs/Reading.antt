@@ -1,10 +1,10 @@
 -- Laws of the paper's sums: the sum of a stage is the sum of two convolutions.
---   ago-now, ago-at                what a sequence was: now, from stage 0 on
---   ago-before, ago-suc            before stage 0, a stage later
---   conv-sum                       a convolution is the sum of digit i times what the sequence was i stages ago
---   sumBit-bound                   the sum of a stage is 0 or 1
---   sumBit-conv                    it is g times the bits a plus G1 times the bits b
---   sumBit-same                    it depends on the bits up to its stage
+--   ago-now, ago-at       what a sequence was: now, from stage 0 on
+--   ago-before, ago-suc   before stage 0, a stage later
+--   conv-sum              a convolution is the sum of digit i times what the sequence was i stages ago
+--   sumBit-bound          the sum of a stage is 0 or 1
+--   sumBit-conv           it is g times the bits a plus G1 times the bits b
+--   sumBit-same           it depends on the bits up to its stage
 use mathlib.Core.Path.{_≡_, refl, sym, _∙_, ap, ap₂}
 use mathlib.Core.Bool.{Bool, cond}
 use Prim.Native.Nat.{ℕ, zero, suc, compare·suc-suc, _<_, _≤_, _+_, _*_, _-_, _%_}

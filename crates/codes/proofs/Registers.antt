@@ -1,23 +1,21 @@
--- Laws of registers of the last bits: a convolution is what a register sums, the quotient is what a fed back register gives, and the
--- register steps back.
---   hist m t u                         the bits before stage t, the newest first
---   conv-dot                           a convolution at a stage is the sum of the generator with the bits so far
---   dot-state, push-state              a register of m bits is all that generators of memory m need
---   conv-quotient, quotient-below      the generator times the quotient is the data, and nothing else is
---   conv-cancel                        a generator whose digit 0 is 1 loses nothing
---   register-length, register-newest   the register has m bits, and its newest is the quotient's
---   stepBack-register                  the register steps back, where the generator's last digit is 1
+-- Laws of registers of the last bits: a convolution is what a register sums, and the quotient is what a fed back register gives.
+--   hist m t u                      the bits before stage t, the newest first
+--   hist-agree, hist-zero           they depend on what stands below t; the register of m bits at stage 0
+--   conv-dot                        a convolution at a stage is the sum of the generator with the bits so far
+--   dot-state, push-state           a register of m bits is all that generators of memory m need
+--   conv-quotient, quotient-below   the generator times the quotient is the data, and nothing else is
+--   conv-cancel                     a generator whose digit 0 is 1 loses nothing
 use mathlib.Core.Path.{_≡_, refl, sym, _∙_, ap, ap₂, fun-ext}
 use mathlib.Core.Bool.{Bool, true, false, _&&_}
-use mathlib.Core.List.{List, [], _∷_, _++_}
-use Prim.Native.Nat.{ℕ, zero, suc, _<_, _≤_}
+use mathlib.Core.List.{List, [], _∷_}
+use Prim.Native.Nat.{ℕ, zero, suc, _≤_}
 use native.Mathlib.Omega.{arith}
 use native.Mathlib.Nat.{not-suc-le-zero}
-use lib.ListN.{length, getD, take, replicate, length-replicate}
-use lib.Seq.{take-take, take-all, length-take-le}
+use lib.ListN.{length, take, replicate, length-replicate}
+use lib.Seq.{take-take, take-all}
 use Rattle.codes.specs.Sequences.{_+₂_, Bits, zeros, _⊕_, scale, shift, conv, Agree}
-use Rattle.codes.specs.Registers.{dot, push, register, quotient, stepForth, stepBack}
-use Rattle.codes.proofs.Sequences.{+₂-assoc, +₂-comm, +₂-again, agree-down, conv-inj}
+use Rattle.codes.specs.Registers.{dot, push, register, quotient}
+use Rattle.codes.proofs.Sequences.{+₂-again, agree-down, conv-inj}
 
 -- the bits before stage t, the newest first, with m zeros before stage 0
 unfoldable pub hist : ℕ → ℕ → Bits → List Bool
@@ -97,62 +95,3 @@ module _ (m : ℕ) (gs : List Bool) where
 -- cancellation for all stages
 pub conv-cancel : (gs : List Bool) (x y : Bits) → conv (true ∷ gs) x ≡ conv (true ∷ gs) y → x ≡ y
 conv-cancel gs x y e = fun-ext λ t. conv-inj (suc t) gs x y (record { at = λ s h. ap (λ (z : Bits). z s) e }) .at t (omega arith)
-
--- THE STEP BACK: a register that was stepped is recovered from the data bit, where the generator's last digit is 1
-final : Bool → List Bool → Bool
-final x [] = x
-final x (y ∷ ys) = final y ys
-
-take-final : (x : Bool) (xs : List Bool) → take (length xs) (x ∷ xs) ++ final x xs ∷ [] ≡ x ∷ xs
-unfolding final
-take-final x [] = refl
-take-final x (y ∷ ys) = ap (λ (l : List Bool). x ∷ l) (take-final y ys)
-
-dot-final : (gs : List Bool) (x : Bool) (xs : List Bool) → length gs ≡ suc (length xs) → getD gs (length xs) false ≡ true
-    → dot gs (x ∷ xs) ≡ dot gs (take (length xs) (x ∷ xs)) +₂ final x xs
-unfolding dot final
-dot-final [] x xs e f = let z : _≡_ {A = ℕ} 0 (suc (length xs)) = e in absurd (omega arith)
-dot-final (g ∷ []) x [] e f = rw f (+₂-comm x false)
-dot-final (g ∷ h ∷ gs) x [] e f = let z : suc (suc (length gs)) ≡ 1 = e in absurd (omega arith)
-dot-final (g ∷ gs) x (y ∷ ys) e f =
-    let k : length gs ≡ suc (length ys) = omega arith in
-    ap (λ (b : Bool). (g && x) +₂ b) (dot-final gs y ys k f) ∙ sym (+₂-assoc (g && x) _ _)
-
-recover : (b d f : Bool) → b +₂ (d +₂ f) +₂ b +₂ d ≡ f
-recover b d f = rw (+₂-comm b (d +₂ f), +₂-again (d +₂ f) b, +₂-comm d f, +₂-again f d)
-
--- a step and a step back
-stepBack-stepForth : (gs : List Bool) (b : Bool) (s : List Bool) → length s ≡ length gs → getD (true ∷ gs) (length gs) false ≡ true
-    → stepBack gs b (stepForth (length gs) gs b s) ≡ s
-unfolding stepBack stepForth push
-stepBack-stepForth [] b [] e f = refl
-stepBack-stepForth [] b (x ∷ xs) e f = let z : suc (length xs) ≡ 0 = e in absurd (omega arith)
-stepBack-stepForth (g ∷ gs) b [] e f = let z : _≡_ {A = ℕ} 0 (suc (length gs)) = e in absurd (omega arith)
-stepBack-stepForth (g ∷ gs) b (x ∷ xs) e f =
-    let k : length gs ≡ length xs = omega arith in
-    let D : Bool = dot (g ∷ gs) (take (length xs) (x ∷ xs)) in
-    rw k
-    (ap (λ (q : Bool). take (length xs) (x ∷ xs) ++ (b +₂ q +₂ b +₂ D) ∷ []) (dot-final (g ∷ gs) x xs (ap suc k) (rw k at f))
-    ∙ ap (λ (q : Bool). take (length xs) (x ∷ xs) ++ q ∷ []) (recover b D (final x xs)) ∙ take-final x xs)
-
--- the register has m bits; its newest bit is the last bit of the quotient; and it steps back
-pub register-length : (m : ℕ) (gs : List Bool) (d : Bits) (t : ℕ) → length (register m gs d t) ≡ m
-unfolding register push
-register-length m gs d zero = length-replicate m false
-register-length m gs d (suc t) = length-take-le m _ (omega (arith, register-length m gs d t))
-
--- the register after stage t shows the quotient's bit t
-pub register-newest : (m : ℕ) (gs : List Bool) (d : Bits) (t : ℕ) → 0 < m → getD (register m gs d (suc t)) 0 false ≡ quotient m gs d t
-unfolding register push quotient
-register-newest zero gs d t h = absurd (not-suc-le-zero h)
-register-newest (suc m) gs d t h = refl
-
--- the register of stage t from that after it and the data bit
-pub stepBack-register : (m : ℕ) (gs : List Bool) → length gs ≡ m → getD (true ∷ gs) m false ≡ true → (d : Bits) (t : ℕ)
-    → stepBack gs (d t) (register m gs d (suc t)) ≡ register m gs d t
-unfolding register stepForth
-stepBack-register m gs e f d t =
-    let s : List Bool = register m gs d t in
-    let k : length s ≡ length gs = register-length m gs d t ∙ sym e in
-    ap (λ (n : ℕ). stepBack gs (d t) (push n (d t +₂ dot gs s) s)) (sym e)
-    ∙ stepBack-stepForth gs (d t) s k (ap (λ (n : ℕ). getD (true ∷ gs) n false) e ∙ f)

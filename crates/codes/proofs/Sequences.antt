@@ -1,13 +1,14 @@
 -- Laws of sequences of bits: the convolution is additive, commutes with the shift and with itself, depends on no later stage, and loses
 -- nothing where digit 0 is 1.
---   +₂-assoc, +₂-comm, ..     the sum of bits
---   odd-add, odd-mul          the oddness of a sum and of a product
---   odd-mod-two               oddness by the remainder mod 2
---   odd-only                  a number below 2 by its oddness
---   ⊕-assoc, ⊕-comm, ..       the sum of sequences
---   conv-⊕, conv-comm         the convolution of a sum, and of a convolution
---   agree-⊕, agree-conv, ..   what agrees below a stage still does after a sum, and after a convolution
---   conv-inj                  where digit 0 is 1, convolutions that agree are of sequences that agree
+--   +₂-assoc, +₂-comm, +₂-again           the sum of bits
+--   odd-add, odd-mul                      the oddness of a sum and of a product
+--   odd-mod-two                           oddness by the remainder mod 2
+--   odd-only                              a number below 2 by its oddness
+--   ⊕-assoc, ⊕-comm, ⊕-twice              the sum of sequences
+--   conv-⊕, conv-comm                     the convolution of a sum, and of a convolution
+--   agree-refl, agree-trans, agree-down   what agrees below a stage
+--   agree-⊕, agree-conv                   still does after a sum, and after a convolution
+--   conv-inj                              where digit 0 is 1, convolutions that agree are of sequences that agree
 use mathlib.Core.Path.{_≡_, refl, sym, _∙_, ap, ap₂, fun-ext}
 use mathlib.Core.Bool.{Bool, true, false, _&&_, not, Bool·not-not}
 use mathlib.Core.List.{List, [], _∷_}
@@ -17,7 +18,7 @@ use native.Mathlib.Nat.{not-suc-le-zero}
 use Rattle.codes.specs.Sequences.{_+₂_, Bits, zeros, _⊕_, scale, shift, conv, Agree, odd}
 
 -- BITS. The laws of their sum
-pub +₂-assoc : (a b c : Bool) → a +₂ b +₂ c ≡ a +₂ (b +₂ c)
++₂-assoc : (a b c : Bool) → a +₂ b +₂ c ≡ a +₂ (b +₂ c)
 +₂-assoc false false false = refl
 +₂-assoc false false true = refl
 +₂-assoc false true false = refl
@@ -27,7 +28,7 @@ pub +₂-assoc : (a b c : Bool) → a +₂ b +₂ c ≡ a +₂ (b +₂ c)
 +₂-assoc true true false = refl
 +₂-assoc true true true = refl
 
-pub +₂-comm : (a b : Bool) → a +₂ b ≡ b +₂ a
++₂-comm : (a b : Bool) → a +₂ b ≡ b +₂ a
 +₂-comm false false = refl
 +₂-comm false true = refl
 +₂-comm true false = refl

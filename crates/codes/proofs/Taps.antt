@@ -4,8 +4,10 @@
 --   parity-digits                        of digit i times bit i
 --   low-bit                              the last bits of a number keep its bit i
 --   window-bit                           bit i of a window is what the sequence was i stages ago
+--   window-less                          a window of n bits is below 2 ^ n
 --   parity-window                        a parity with a window is the sum mod 2 of digit i times what the sequence was i stages ago
---   tapped-data                          the data bit by taps and windows is the paper's
+--   first-bound, second-bound            the bits of a stage's two cells are 0 or 1
+--   tapped-data, tapped-bound            the data bit by taps and windows is the paper's, and is 0 or 1
 --   first-next, second-next, data-next   a turn of reading a byte
 --   read-bytes                           bytes of such data bits are what the strip reads as
 use mathlib.Core.Path.{_≡_, sym, _∙_, ap, ap₂}

@@ -1,10 +1,11 @@
 -- Laws of eight stages at a time: the windows of a sequence at the ends of its bytes, what a generator makes of them, and the labels.
 --   window-mod          the last bits of a window are a shorter window
+--   window-suc          the next bit comes into a window that has room for it
+--   window-parts        a window in two parts
 --   window-same         a window depends on its bits alone
 --   window-join         two windows of eight bits that follow each other are one of sixteen
 --   window-byte         bit p of the window of byte q is what the sequence was p stages before the byte's last
 --   window-of-word      the program's window, of bits that are those of stages
---   window-of-byte      the window of the bits of byte q is the window of all the bits after that byte
 --   window-parity       a parity with the window of two bytes is that with the window of its stage
 --   windows-give        where a generator makes one sequence of another, it makes a byte's window of the windows of two bytes
 --   windows-give-back   and the eight bits of two bytes' windows that lie m stages back
@@ -19,8 +20,7 @@ use native.Mathlib.Omega.{arith}
 use native.Mathlib.Nat.{mod-lt, mod-eq-of-lt, mod-add-mod, zero-lt-suc, pow-suc, mul-assoc}
 use lib.Arith.{mod-mul}
 use lib.Pow.{pow-pos, high, mod-mod-pow}
-use lib.Bits.{bitXor, xor-mod, xor-block}
-use lib.ListN.{getD}
+use lib.Bits.{bitXor, xor-mod, xor-block, xor-lt, xor-add-and}
 use Rattle.cells.specs.Bytes.{bitOf}
 use Rattle.cells.proofs.Bytes.{bit-bound}
 use Rattle.codes.specs.Generators.{Generators, digit}
@@ -128,17 +128,6 @@ window-of-word word step x b q e =
     let f : 8 * (q + 1) ≡ 8 * q + 8 = omega arith in
     rw f (window-same _ x (λ i. mod-lt _ (zero-lt-suc 1)) b 8 0 (8 * q) (λ i h. let z : 0 + i ≡ i = omega arith in rw z (e i h)))
 
--- the window of the bits of byte q is the window of all the bits after that byte
-pub window-of-byte : (bytes : List ℕ) (q : ℕ) → windowOf 8 (λ i. getD bytes q 0 / 2 ^ i % 2) 8 ≡ windowOf 8 (bitOf bytes) (8 * (q + 1))
-unfolding bitOf
-window-of-byte bytes q =
-    let e : 8 * (q + 1) ≡ 8 * q + 8 = omega arith in
-    rw e (window-same _ (bitOf bytes) (λ i. mod-lt _ (zero-lt-suc 1)) (bit-bound bytes) 8 0 (8 * q) (λ i h.
-    let x : (8 * q + i) / 8 ≡ q = omega arith in
-    let y : (8 * q + i) % 8 ≡ i = omega arith in
-    let z : 0 + i ≡ i = omega arith in
-    rw (x, y, z)))
-
 -- WHAT A GENERATOR MAKES of x is d
 module _ (m g : ℕ) (x d : ℕ → ℕ) (xs : (t : ℕ) → x t < 2) (ds : (t : ℕ) → d t < 2) (q : ℕ) (l : m ≤ 6)
     (makes : (t : ℕ) → t < 8 * (q + 1) → parityOf (tapsOf m g) (windowOf (suc m) x (suc t)) ≡ d t) where
@@ -185,17 +174,7 @@ label-window G P content t =
     ∙ ap₂ (λ (g : List Bool) (y : Bits). conv g y t) (sym (first-digits G (P .leads))) (fun-ext λ s. odd-one-if _)
     ∙ ap (λ (y : Bits). y t) (conv-quotient m (encoderOf G .first) fits d))
 
--- SUMS. Two bits without a carry
-xor-bits : (a b : ℕ) → a < 2 → b < 2 → bitXor a b ≡ (a + b) % 2
-xor-bits zero zero h l = refl
-xor-bits zero (suc zero) h l = refl
-xor-bits (suc zero) zero h l = refl
-xor-bits (suc zero) (suc zero) h l = refl
-xor-bits zero (suc (suc b)) h l = absurd (let z : ⊥ = omega arith in z)
-xor-bits (suc zero) (suc (suc b)) h l = absurd (let z : ⊥ = omega arith in z)
-xor-bits (suc (suc a)) b h l = absurd (let z : ⊥ = omega arith in z)
-
--- two windows added up without carries are the window of the sums
+-- SUMS. Two windows added up without carries are the window of the sums
 pub xor-windows : (n : ℕ) (x y : ℕ → ℕ) → ((t : ℕ) → x t < 2) → ((t : ℕ) → y t < 2) → (t : ℕ)
     → bitXor (windowOf n x t) (windowOf n y t) ≡ windowOf n (λ t. (x t + y t) % 2) t
 unfolding windowOf
@@ -204,7 +183,8 @@ xor-windows n x y b c (suc t) =
     let p : 2 * windowOf n x t + x t ≡ windowOf n x t * 2 ^ 1 + x t = omega arith in
     let q : 2 * windowOf n y t + y t ≡ windowOf n y t * 2 ^ 1 + y t = omega arith in
     let r : ℕ = bitXor (windowOf n x t) (windowOf n y t) in
+    let bits : bitXor (x t) (y t) ≡ (x t + y t) % 2 = omega (arith, xor-add-and (x t) (y t), xor-lt 1 (x t) (y t) (b t) (c t)) in
     let s : r * 2 ^ 1 + (x t + y t) % 2 ≡ 2 * r + (x t + y t) % 2 = omega arith in
     sym (xor-mod (2 * windowOf n x t + x t) (2 * windowOf n y t + y t) n) ∙ ap (λ (z : ℕ). z % 2 ^ n)
     (ap₂ bitXor p q ∙ xor-block 1 (windowOf n x t) (windowOf n y t) (x t) (y t) (b t) (c t)
-    ∙ ap (λ (z : ℕ). r * 2 ^ 1 + z) (xor-bits (x t) (y t) (b t) (c t)) ∙ s ∙ ap (λ (z : ℕ). 2 * z + (x t + y t) % 2) (xor-windows n x y b c t))
+    ∙ ap (λ (z : ℕ). r * 2 ^ 1 + z) bits ∙ s ∙ ap (λ (z : ℕ). 2 * z + (x t + y t) % 2) (xor-windows n x y b c t))

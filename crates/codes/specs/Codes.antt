@@ -1,5 +1,6 @@
 -- A code by its name.
---   generatorsOf c            the memory and the generators of a code
+--   named n                   the memory and the generators of a code's name
+--   generatorsOf c            and of a code
 --   nextOf m s d              the state that follows
 --   TableRow c r              the program's row r holds the code c
 --   WindowsBefore strip q w   the program's windows w hold the cell bits before byte q of the data

@@ -2,6 +2,7 @@
 --   column j W          bit j of each word of a list of words
 --   Reads E d n W       n words read as the data d
 --   codeWord E d u t    the word of stage t that the digits u write for the data d
+--   rest                the bits of that word after the first
 --   Written E d u n W   n words are those that the digits u write
 --   BitsEach k n W      each of n words has k bits
 use mathlib.Core.Path.{_≡_}

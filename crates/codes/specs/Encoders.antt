@@ -3,7 +3,7 @@
 --   InMemory E      no generator reaches back more than the memory
 --   digitBits m g   the m + 1 digits of a generator, as bits
 --   encoderOf G     the encoder of the paper's numbers
---   Proper G        G1's first and last digits are 1
+--   Proper G        the memory is not 0, and G1's first digit is 1
 use mathlib.Core.Path.{_≡_}
 use mathlib.Core.Bool.{Bool}
 use mathlib.Core.List.{List, map}
@@ -36,8 +36,7 @@ encoderOf G = record {
   others = map (λ g. digitBits (G .memory) g) (G .others);
 }
 
--- generators by which data can be divided, and a step of the division undone: G1's first digit is 1, and so is its last
+-- generators by which data can be divided: the memory is not 0, and G1's first digit is 1
 pub record Proper (G : Generators) : Type 0 where
   pub some-memory : 0 < G .memory
   pub leads : digit (G .memory) (G .g1) 0 ≡ 1
-  pub ends : digit (G .memory) (G .g1) (G .memory) ≡ 1

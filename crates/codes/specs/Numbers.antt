@@ -1,4 +1,4 @@
--- Bits and lists of bits as numbers: how the laws' registers and the program's stand for each other.
+-- Bits and lists of bits as numbers: how the laws' registers and the program's windows and states stand for each other.
 --   one-if b   a bit as a number
 --   value s    a list of bits as a number, the first bit worth 1
 use mathlib.Core.Bool.{Bool, true, false}

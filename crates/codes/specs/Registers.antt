@@ -1,11 +1,10 @@
--- A register of the last bits, the newest first; the quotient of the data by a generator whose digit 0 is 1; the step back.
---   dot g us              the sum of digit i times bit i of the register
---   push m b s            the register with the bit b pushed in
---   register m gs d t     the register of the quotient's last m bits before stage t
---   quotient m gs d       the data d divided by the generator 1 ∷ gs
---   stepForth, stepBack   one step of that register, and the step back
+-- A register of the last bits, the newest first, and the quotient of the data by a generator whose digit 0 is 1.
+--   dot g us            the sum of digit i times bit i of the register
+--   push m b s          the register with the bit b pushed in
+--   register m gs d t   the register of the quotient's last m bits before stage t
+--   quotient m gs d     the data d divided by the generator 1 ∷ gs
 use mathlib.Core.Bool.{Bool, false, _&&_}
-use mathlib.Core.List.{List, [], _∷_, _++_}
+use mathlib.Core.List.{List, [], _∷_}
 use Prim.Native.Nat.{ℕ, zero, suc}
 use lib.ListN.{take, replicate}
 use Rattle.codes.specs.Sequences.{_+₂_, Bits}
@@ -29,12 +28,3 @@ module _ (m : ℕ) (gs : List Bool) where
   -- its bit t: the data bit, and what the register feeds back
   unfoldable pub quotient : Bits → Bits
   quotient d t = d t +₂ dot gs (register d t)
-
--- a step of the register by the data bit b
-unfoldable pub stepForth : ℕ → List Bool → Bool → List Bool → List Bool
-stepForth m gs b s = push m (b +₂ dot gs s) s
-
--- the step back, which holds where gs has m digits, the last of them 1
-unfoldable pub stepBack : List Bool → Bool → List Bool → List Bool
-stepBack gs b [] = []
-stepBack gs b (x ∷ s) = s ++ (x +₂ b +₂ dot gs s) ∷ []

@@ -1,5 +1,8 @@
 -- Sequences of bits, a bit for each stage, and what a generator makes of one.
 --   a +₂ b, x ⊕ y   the sum of two bits, and of two sequences
+--   Bits, zeros     a bit for each stage; all zeros
+--   scale g x       all or nothing, by a bit
+--   shift x         a stage later, with 0 first
 --   conv gs x       the convolution of the generator's digits gs with x
 --   Agree n x y     x and y are the same below stage n
 --   odd n           whether a number is odd: a number's bit as a Bool

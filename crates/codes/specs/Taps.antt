@@ -2,12 +2,10 @@
 --   tapsOf m g            the generator's digits, digit i worth 2 ^ i
 --   parityOf taps w       the sum mod 2 of digit i times bit i of the window w
 --   wordOf G w            a branch's two output bits, by the window of its last input digits
---   labelOf taps r d      the label of a stage: the data divided by G1
---   forthOf, backOf       the register of the last labels, a stage on and a stage back
 --   windowOf n x t        the last n of the bits x 0 .. x (t − 1)
 --   firstBit, secondBit   the bits of a stage's two cells, by the levels
 --   tappedBit g1 g2 v t   data bit t by the taps g1 and g2 and such windows of the cells' bits
-use Prim.Native.Nat.{ℕ, zero, suc, _+_, _*_, _-_, _/_, _%_, _^_}
+use Prim.Native.Nat.{ℕ, zero, suc, _+_, _*_, _%_, _^_}
 use lib.Bits.{bitAnd}
 use lib.Count.{ones}
 use Rattle.cells.specs.Places.{number}
@@ -24,18 +22,6 @@ parityOf taps w = ones (bitAnd taps w) % 2
 -- the two output bits of a branch, G1's worth 1 and G2's worth 2
 unfoldable pub wordOf : Generators → ℕ → ℕ
 wordOf G w = parityOf (tapsOf (G .memory) (G .g1)) w + 2 * parityOf (tapsOf (G .memory) (g2 G)) w
-
--- the label x(t) is the data bit plus G1's digit i times x(t−i), over i from 1 on, mod 2: bit i − 1 of the register is x(t−i)
-unfoldable pub labelOf : ℕ → ℕ → ℕ → ℕ
-labelOf taps r d = (d + parityOf (taps / 2) r) % 2
-
--- the register a stage later: the label comes in, the oldest label goes
-unfoldable pub forthOf : ℕ → ℕ → ℕ → ℕ → ℕ
-forthOf m taps r d = (2 * r + labelOf taps r d) % 2 ^ m
-
--- the register a stage earlier: the newest label tells the oldest, whose tap is 1
-unfoldable pub backOf : ℕ → ℕ → ℕ → ℕ → ℕ
-backOf m taps r d = r / 2 + labelOf taps (r / 2) (r % 2 + d) * 2 ^ (m - 1)
 
 -- the last n bits of a sequence before stage t, the newest worth 1
 unfoldable pub windowOf : ℕ → (ℕ → ℕ) → ℕ → ℕ

@@ -1,5 +1,5 @@
 // Eight stages at a time: the last eight bits of a sequence are one number, the newest worth 1. What the generators make of it, and the
-// data divided by the first generator, forth and back.
+// labels, which are the data divided by the first generator, forth and back.
 use crate::Code;
 use crate::Name;
 ghost use mathlib.Core.Path.{_≡_};

@@ -1,13 +1,11 @@
 // The two coset codes, made by name: their table, and the states of their encoders. Beside them `parities`, what the generators make of the
-// last bits; `labels`, the data divided by the first generator; `blocks`, both for eight stages at a time; and `strips`, reading a strip.
+// last bits; `blocks`, the same for eight stages at a time, and the labels, which are the data divided by the first generator; and `strips`,
+// reading a strip.
 mod blocks;
-mod labels;
 mod parities;
 mod strips;
 
 pub use blocks::window;
-pub use labels::label;
-pub use parities::parity;
 ghost use mathlib.Core.Path.{_≡_};
 ghost use Prim.Native.Nat.{_≤_};
 ghost use Rattle.codes.specs.Generators.{short, long};

@@ -1,10 +1,10 @@
-// The generators' digits as taps, the parity of the taps that meet a window of bits, and the word of a branch, which is two parities.
+// The generators' digits as taps, and the parity of the taps that meet a window of bits.
 use crate::Code;
 ghost use mathlib.Core.Path.{_≡_};
-ghost use Prim.Native.Nat.{_+_, _*_, _%_, _^_, _<_, _≤_};
+ghost use Prim.Native.Nat.{_<_, _≤_};
 ghost use Rattle.codes.specs.Generators.{g2};
 ghost use Rattle.codes.specs.Codes.{generatorsOf};
-ghost use Rattle.codes.specs.Taps.{tapsOf, parityOf, wordOf};
+ghost use Rattle.codes.specs.Taps.{tapsOf, parityOf};
 
 // The digits of a generator as taps: digit i, counted from the left, is worth 2 ^ i.
 fn taps(memory: u32, generator: u32) -> u32
@@ -41,14 +41,5 @@ impl Code {
     {
         let row = self.generators();
         taps(row.memory, row.g2)
-    }
-
-    // The two output bits of the branch that leaves the state s with the digit d mod 2: G1's worth 1, and G2's worth 2.
-    pub fn word(self, s: u32, d: u32) -> u32
-        requires { ⌜ s < 2 ^ 31 ⌝ }
-        ensures { λ r. ⌜ (r ≡ wordOf (generatorsOf self) (2 * s + d % 2)) × (r < 4) ⌝ }
-    {
-        let w = 2 * s + d % 2;
-        parity(self.g1_taps(), w) + 2 * parity(self.g2_taps(), w)
     }
 }
