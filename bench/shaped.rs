@@ -45,18 +45,18 @@ const fn price(level: usize, wanted: usize) -> i16 {
     if level % 2 == wanted { 0 } else { STEP[level] }
 }
 
-/// A row has the prices of the states 2 k at the digit 0, and then those of their complements. Its number is the first level, 4 times the second and
-/// 16 times the label. `mark` is added where the first cell is raised.
-const fn rows<const STATES: usize>(taps: Taps, memory: usize, mark: i16) -> [[i16; STATES]; 32] {
-    let mut rows = [[0; STATES]; 32];
+/// A row has the prices of the states 2 k at the digit 0 and, if it is as wide, those of the complements of their words. Its number is the first
+/// level, 4 times the second and 16 times the label. `mark` is added where the first cell is raised.
+const fn rows<const WIDTH: usize>(taps: Taps, memory: usize, mark: i16) -> [[i16; WIDTH]; 32] {
+    let half = 1 << (memory - 1);
+    let mut rows = [[0; WIDTH]; 32];
     let mut r = 0;
     while r < 32 {
         let mut k = 0;
-        while k < STATES {
-            let turned = k / (STATES / 2);
-            let w = window(memory, 2 * (k % (STATES / 2)));
-            let a = parity(taps.first & w) ^ turned;
-            let b = parity(taps.second & w) ^ turned;
+        while k < WIDTH {
+            let w = window(memory, 2 * (k % half));
+            let a = parity(taps.first & w) ^ (k / half);
+            let b = parity(taps.second & w) ^ (k / half);
             let marked = if a == r % 2 { 0 } else { mark };
             rows[r][k] = price(r % 4, a).saturating_add(price(r / 4 % 4, b ^ (r / 16))).saturating_add(marked);
             k += 1;
@@ -97,26 +97,38 @@ const fn times(taps: usize, x: usize) -> usize {
     let mut sum = 0;
     let mut i = 0;
     while i < 7 {
-        if (taps >> i) % 2 == 1 {
-            sum ^= x << i;
-        }
+        sum ^= (taps >> i) % 2 * (x << i);
         i += 1;
     }
     sum
 }
 
-/// Eight labels of a byte of data, after the eight labels before: g g^2 g^4 is the inverse of g modulo D^8.
-const fn divide(taps: usize, before: usize, data: usize) -> usize {
-    let x = data ^ (times(taps, before) >> 8);
-    let y = times(taps, x);
-    let z = times(taps, times(taps, y));
-    let mut w = z;
+/// Eight bits divided by taps: the seventh power of g is the inverse of g modulo D^8.
+const fn divided(taps: usize, x: usize) -> u8 {
+    let mut y = x;
     let mut i = 0;
-    while i < 4 {
-        w = times(taps, w);
+    while i < 7 {
+        y = times(taps, y);
         i += 1;
     }
-    w & 255
+    (y & 255) as u8
+}
+
+/// Tables of a byte. Eight labels are the quotient of eight data bits, changed by what the eight labels before leave over.
+struct Division {
+    quotient: [u8; 256],
+    left: [u8; 256],
+}
+
+const fn division(taps: usize) -> Division {
+    let mut d = Division { quotient: [0; 256], left: [0; 256] };
+    let mut x = 0;
+    while x < 256 {
+        d.quotient[x] = divided(taps, x);
+        d.left[x] = divided(taps, times(taps, x) >> 8);
+        x += 1;
+    }
+    d
 }
 
 fn six(strip: &[u8], q: usize) -> u64 {
@@ -125,89 +137,117 @@ fn six(strip: &[u8], q: usize) -> u64 {
     u64::from_le_bytes(w)
 }
 
-/// One stage back.
-#[inline(always)]
-fn stage<const STATES: usize>(after: &[i16; STATES], row: &[i16; STATES], clear: i16, before: &mut [i16; STATES]) {
-    let half = STATES / 2;
-    let mut even = [0; 32];
-    let mut odd = [0; 32];
-    for k in 0..half {
-        let x = after[k] & clear;
-        let y = after[k + half] & clear;
-        even[k] = x.saturating_add(row[k]).min(y.saturating_add(row[k + half]));
-        odd[k] = x.saturating_add(row[k + half]).min(y.saturating_add(row[k]));
-    }
-    for k in 0..half {
-        before[2 * k] = even[k];
-        before[2 * k + 1] = odd[k];
-    }
-}
+/// Starts on a line of the cache, so that no register is loaded from two.
+#[derive(Clone, Copy)]
+#[repr(align(64))]
+struct Aligned<T>(T);
 
 macro_rules! program {
-    ($name:ident, $taps:expr, $memory:expr, $states:expr) => {
+    ($name:ident, $taps:expr, $memory:expr, $lanes:expr, $width:expr, $other:expr) => {
         mod $name {
             use super::*;
 
-            const STATES: usize = $states;
+            const STATES: usize = 1 << $memory;
+            const HALF: usize = STATES / 2;
+            const LANES: usize = $lanes;
             const TAPS: Taps = $taps;
-            static ROWS: [[i16; STATES]; 32] = rows(TAPS, $memory, 0);
-            static EARLIER: [[i16; STATES]; 32] = rows(TAPS, $memory, 2);
-            static LATER: [[i16; STATES]; 32] = rows(TAPS, $memory, 1);
 
-            /// What is known of a strip before the search: the labels of eight stages, and the row of each stage.
-            struct Known {
-                labels: [u8; MOST],
-                rows: [u8; 8 * MOST],
+            type Costs = [i16; STATES];
+            type Row = [i16; $width];
+            type Rows = Aligned<[Row; 32]>;
+
+            static ROWS: Rows = Aligned(rows(TAPS, $memory, 0));
+            static EARLIER: Rows = Aligned(rows(TAPS, $memory, 2));
+            static LATER: Rows = Aligned(rows(TAPS, $memory, 1));
+            static DIVISION: Division = division(TAPS.first);
+
+            /// The first code bit of a state at the digit 0, worth 2, and that of the state after the digit 0.
+            static BITS: [u8; STATES] = {
+                let mut table = [0; STATES];
+                let mut s = 0;
+                while s < STATES {
+                    table[s] = (2 * parity(TAPS.first & window($memory, s)) + parity(TAPS.first & window($memory, s / 2))) as u8;
+                    s += 1;
+                }
+                table
+            };
+
+            fn divide(data: &[u8], labels: &mut [u8]) {
+                let mut label = 0u8;
+                for (to, &from) in labels.iter_mut().zip(data) {
+                    label = DIVISION.quotient[from as usize] ^ DIVISION.left[label as usize];
+                    *to = label;
+                }
             }
 
-            fn know(strip: &[u8], data: &[u8], known: &mut Known) {
-                let mut label = 0;
-                for q in 0..data.len() {
-                    label = divide(TAPS.first, label, data[q] as usize);
-                    known.labels[q] = label as u8;
-                    let cells = six(strip, q);
-                    for i in 0..8 {
-                        known.rows[8 * q + i] = LEVELS[(cells >> (6 * i)) as usize % 64] + ((label >> i) % 2 * 16) as u8;
+            #[inline(always)]
+            fn row(cells: u64, label: u8, i: usize) -> usize {
+                (LEVELS[(cells >> (6 * i)) as usize % 64] + (label >> i) % 2 * 16) as usize % 32
+            }
+
+            /// One stage back. Registers of the row go in pairs: each has the complements of the other.
+            #[inline(always)]
+            fn stage<const KEPT: i16>(after: &Costs, row: &Row, before: &mut Costs) {
+                for b in 0..HALF / LANES {
+                    let mut even = [0; LANES];
+                    let mut odd = [0; LANES];
+                    for i in 0..LANES {
+                        let k = LANES * b + i;
+                        let p = row[k];
+                        let q = row[$other(k)];
+                        let x = after[k] & KEPT;
+                        let y = after[k + HALF] & KEPT;
+                        even[i] = x.saturating_add(p).min(y.saturating_add(q));
+                        odd[i] = x.saturating_add(q).min(y.saturating_add(p));
+                    }
+                    for i in 0..LANES {
+                        before[2 * (LANES * b + i)] = even[i];
+                        before[2 * (LANES * b + i) + 1] = odd[i];
                     }
                 }
             }
 
-            fn price_strip(known: &Known, bytes: usize) -> i16 {
-                let mut costs = [0; STATES];
-                for t in (0..8 * bytes).rev() {
-                    let after = costs;
-                    stage(&after, &ROWS[known.rows[t] as usize % 32], !0, &mut costs);
+            fn price_strip(strip: &[u8], labels: &[u8]) -> i16 {
+                let mut costs = Aligned([0; STATES]);
+                let mut between = Aligned([0; STATES]);
+                for q in (0..labels.len()).rev() {
+                    let (cells, label) = (six(strip, q), labels[q]);
+                    for j in (0..4).rev() {
+                        stage::<-1>(&costs.0, &ROWS.0[row(cells, label, 2 * j + 1)], &mut between.0);
+                        stage::<-1>(&between.0, &ROWS.0[row(cells, label, 2 * j)], &mut costs.0);
+                    }
                 }
-                costs[0]
+                costs.0[0]
             }
 
-            fn search_strip(known: &Known, bytes: usize, history: &mut [[i16; STATES]; 4 * MOST + 1]) -> i16 {
-                let n = 4 * bytes;
-                history[n] = [0; STATES];
-                for j in (0..n).rev() {
-                    let mut between = [0; STATES];
-                    stage(&history[j + 1], &LATER[known.rows[2 * j + 1] as usize % 32], !3, &mut between);
-                    stage(&between, &EARLIER[known.rows[2 * j] as usize % 32], !0, &mut history[j]);
+            fn search_strip(strip: &[u8], labels: &[u8], history: &mut [[Costs; 4]; MOST]) -> i16 {
+                let mut costs = Aligned([0; STATES]);
+                let mut between = Aligned([0; STATES]);
+                for q in (0..labels.len()).rev() {
+                    let (cells, label) = (six(strip, q), labels[q]);
+                    for j in (0..4).rev() {
+                        stage::<-4>(&costs.0, &LATER.0[row(cells, label, 2 * j + 1)], &mut between.0);
+                        stage::<-1>(&between.0, &EARLIER.0[row(cells, label, 2 * j)], &mut costs.0);
+                        history[q][j] = costs.0;
+                    }
                 }
-                history[0][0]
+                costs.0[0] & -4
             }
 
-            fn first_bit(state: usize) -> usize {
-                parity(TAPS.first & window($memory, state))
-            }
-
-            fn follow(known: &Known, bytes: usize, history: &[[i16; STATES]; 4 * MOST + 1], digits: &mut [u8]) {
+            /// The digits of the cheapest way. A trail says which first cells are raised.
+            fn follow(strip: &[u8], history: &[[Costs; 4]; MOST], digits: &mut [u8]) {
                 let mut s = 0;
-                for q in 0..bytes {
+                for q in 0..digits.len() {
+                    let cells = six(strip, q);
+                    let shown = cells ^ (cells >> 1) ^ (cells >> 2);
                     let mut byte = 0;
                     for j in 0..4 {
-                        let t = 8 * q + 2 * j;
-                        let trail = history[4 * q + j][s] as usize;
-                        let d = (trail >> 1) ^ known.rows[t] as usize ^ first_bit(s);
-                        s = s / 2 + (d % 2) * (STATES / 2);
-                        let e = trail ^ known.rows[t + 1] as usize ^ first_bit(s);
-                        s = s / 2 + (e % 2) * (STATES / 2);
-                        byte += (d % 2 + 2 * (e % 2)) << (2 * j);
+                        let now = shown >> (12 * j);
+                        let bits = (now % 2 * 2 + (now >> 6) % 2) as usize ^ BITS[s] as usize;
+                        let x = (history[q][j][s] as usize ^ bits) % 4;
+                        let (d, e) = (x / 2, (x ^ (x / 2)) % 2);
+                        s = s / 4 + (d + 2 * e) * (STATES / 4);
+                        byte += (d + 2 * e) << (2 * j);
                     }
                     digits[q] = byte as u8;
                 }
@@ -229,11 +269,12 @@ macro_rules! program {
             }
 
             pub fn price_page(bytes: usize, page: &[u8], data: &[u8]) -> u64 {
-                let mut known = Known { labels: [0; MOST], rows: [0; 8 * MOST] };
+                let mut labels = [0; MOST];
+                let labels = &mut labels[..bytes];
                 let mut total = 0;
                 for (k, (strip, part)) in page.chunks_exact(6 * bytes).zip(data.chunks_exact(bytes)).enumerate() {
-                    know(strip, part, &mut known);
-                    let cost = price_strip(&known, bytes);
+                    divide(part, labels);
+                    let cost = price_strip(strip, labels);
                     if cost == CLOSED {
                         return spent(k);
                     }
@@ -243,20 +284,19 @@ macro_rules! program {
             }
 
             pub fn write_page(bytes: usize, page: &mut [u8], data: &[u8]) -> u64 {
-                let mut known = Known { labels: [0; MOST], rows: [0; 8 * MOST] };
-                let mut history = [[0; STATES]; 4 * MOST + 1];
-                let mut digits = [0; MOST * MOST];
+                let mut history = Aligned([[[0; STATES]; 4]; MOST]);
                 let mut labels = [0; MOST * MOST];
+                let mut digits = [0; MOST * MOST];
                 let mut total = 0;
                 for (k, (strip, part)) in page.chunks_exact(6 * bytes).zip(data.chunks_exact(bytes)).enumerate() {
-                    know(strip, part, &mut known);
-                    let cost = search_strip(&known, bytes, &mut history) & !3;
-                    if cost == CLOSED & !3 {
+                    let labels = &mut labels[bytes * k..bytes * (k + 1)];
+                    divide(part, labels);
+                    let cost = search_strip(strip, labels, &mut history.0);
+                    if cost == CLOSED & -4 {
                         return spent(k);
                     }
                     total += cost as u64;
-                    follow(&known, bytes, &history, &mut digits[bytes * k..bytes * (k + 1)]);
-                    labels[bytes * k..bytes * (k + 1)].copy_from_slice(&known.labels[..bytes]);
+                    follow(strip, &history.0, &mut digits[bytes * k..bytes * (k + 1)]);
                 }
                 for (k, strip) in page.chunks_exact_mut(6 * bytes).enumerate() {
                     carry(strip, &labels[bytes * k..bytes * (k + 1)], &digits[bytes * k..bytes * (k + 1)]);
@@ -267,8 +307,8 @@ macro_rules! program {
     };
 }
 
-program!(short, SHORT, 2, 4);
-program!(long, LONG, 6, 64);
+program!(short, SHORT, 2, 2, 4, |k| k + 2);
+program!(long, LONG, 6, 8, 32, |k| k ^ 8);
 
 /// The answer of a page that is spent at a strip.
 fn spent(strip: usize) -> u64 {
