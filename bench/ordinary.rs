@@ -58,9 +58,8 @@ impl<const STATES: usize> Code<STATES> {
         std::array::from_fn(|s| (parity(self.first & (2 * s)), parity(self.second & (2 * s))))
     }
 
-    /// From the last stage to the first: what the data costs from state 0, and whether each state of each stage takes the digit 1.
-    /// `decide` is told the stage and its decisions, one bit a state.
-    fn search(&self, strip: &[u8], data: &[u8], mut decide: impl FnMut(usize, u64)) -> Option<u32> {
+    /// From the last stage to the first: what the data costs from state 0. `decide` is told, for each stage, which states take the digit 1.
+    fn search(&self, strip: &[u8], data: &[u8], mut decide: impl FnMut(usize, [bool; STATES])) -> Option<u32> {
         let labels = self.labels(data);
         let words = self.words();
         let mut after = [0; STATES];
@@ -69,17 +68,16 @@ impl<const STATES: usize> Code<STATES> {
             let first = [price(x, 0), price(x, 1)];
             let second = [price(y, labels[t]), price(y, 1 - labels[t])];
             let mut before = [0; STATES];
-            let mut decisions = 0;
+            let mut takes_one = [false; STATES];
             for s in 0..STATES {
                 let (a, b) = words[s];
                 let zero = after[2 * s % STATES] + first[a] + second[b];
                 let one = after[(2 * s + 1) % STATES] + first[1 - a] + second[1 - b];
                 // A tie goes to the digit that leaves the first cell as it is.
-                let takes_one = one < zero || (one == zero && a != x % 2);
-                before[s] = (if takes_one { one } else { zero }).min(CLOSED);
-                decisions |= (takes_one as u64) << s;
+                takes_one[s] = if a == x % 2 { one < zero } else { one <= zero };
+                before[s] = zero.min(one).min(CLOSED);
             }
-            decide(t, decisions);
+            decide(t, takes_one);
             after = before;
         }
         Some(after[0]).filter(|&cost| cost < CLOSED)
@@ -90,12 +88,12 @@ impl<const STATES: usize> Code<STATES> {
     }
 
     fn write_strip(&self, strip: &mut [u8], data: &[u8]) -> Option<u32> {
-        let mut decisions = vec![0; 8 * data.len()];
-        let cost = self.search(strip, data, |t, d| decisions[t] = d)?;
+        let mut takes_one = vec![[false; STATES]; 8 * data.len()];
+        let cost = self.search(strip, data, |t, decisions| takes_one[t] = decisions)?;
         let labels = self.labels(data);
         let mut state = 0;
         for t in 0..labels.len() {
-            let window = 2 * state + (decisions[t] >> state) as usize % 2;
+            let window = 2 * state + takes_one[t][state] as usize;
             if level(strip, 2 * t) % 2 != parity(self.first & window) {
                 raise(strip, 2 * t);
             }
