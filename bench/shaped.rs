@@ -167,11 +167,10 @@ fn shown(cells: u64) -> u64 {
     cells ^ (cells >> 1) ^ (cells >> 2)
 }
 
-/// The rows of the stages 2 j and 2 j + 1 of eight.
+/// The row of stage i of eight.
 #[inline(always)]
-fn two_rows(cells: u64, label: u8, j: usize) -> (usize, usize) {
-    let row = |i: usize| (LEVELS[(cells >> (6 * i)) as usize % 64] + (label >> i) % 2 * 16) as usize % 32;
-    (row(2 * j), row(2 * j + 1))
+fn row(cells: u64, label: u8, i: usize) -> usize {
+    (LEVELS[(cells >> (6 * i)) as usize % 64] + (label >> i) % 2 * 16) as usize % 32
 }
 
 /// The labels of a strip's data.
@@ -211,31 +210,31 @@ fn carry(taps: Taps, strip: &mut [u8], labels: &[u8], digits: &[u8]) {
     }
 }
 
-/// Prices a page; `back` takes the costs two stages back, by the rows of the two.
+/// Prices a page; `back` takes the costs two stages back, by the rows of the earlier stage and the later.
 #[inline(always)]
 fn price_page<const STATES: usize>(
     code: &Code<STATES>,
     bytes: usize,
     page: &[u8],
     data: &[u8],
-    back: impl Fn(&mut Aligned<[i16; STATES]>, (usize, usize)),
+    back: impl Fn(&mut [i16; STATES], usize, usize),
 ) -> u64 {
     let mut labels = [0; MOST];
     let labels = &mut labels[..bytes];
     let mut total = 0;
     for (k, (strip, part)) in page.chunks_exact(6 * bytes).zip(data.chunks_exact(bytes)).enumerate() {
         divide(code, part, labels);
-        let mut costs = Aligned([0; STATES]);
+        let mut costs = [0; STATES];
         for q in (0..bytes).rev() {
-            let cells = six(strip, q);
-            for j in (0..4).rev() {
-                back(&mut costs, two_rows(cells, labels[q], j));
+            let (cells, label) = (six(strip, q), labels[q]);
+            for i in [6, 4, 2, 0] {
+                back(&mut costs, row(cells, label, i), row(cells, label, i + 1));
             }
         }
-        if costs.0[0] == CLOSED {
+        if costs[0] == CLOSED {
             return spent(k);
         }
-        total += costs.0[0] as u64;
+        total += costs[0] as u64;
     }
     total
 }
@@ -247,7 +246,7 @@ fn write_page<const STATES: usize>(
     bytes: usize,
     page: &mut [u8],
     data: &[u8],
-    back: impl Fn(&mut Aligned<[i16; STATES]>, (usize, usize)),
+    back: impl Fn(&mut [i16; STATES], usize, usize),
 ) -> u64 {
     let strips = page.len() / (6 * bytes);
     let mut one: History<STATES> = Aligned([[[0; STATES]; 4]; MOST]);
@@ -262,17 +261,18 @@ fn write_page<const STATES: usize>(
         let strip = &page[6 * bytes * now..6 * bytes * (now + 1)];
         let behind = &page[6 * bytes * past..6 * bytes * (past + 1)];
         divide(code, &data[bytes * now..bytes * (now + 1)], &mut labels[now][..bytes]);
-        let mut costs = Aligned([0; STATES]);
+        let mut costs = [0; STATES];
         let mut state = 0;
         for f in 0..bytes {
             let q = bytes - 1 - f;
-            let cells = six(strip, q);
+            let (cells, label) = (six(strip, q), labels[now][q]);
             let bits = shown(six(behind, f));
             let mut byte = 0;
             for j in 0..4 {
                 if k < strips {
-                    back(&mut costs, two_rows(cells, labels[now][q], 3 - j));
-                    history.0[q][3 - j] = costs.0;
+                    let i = 6 - 2 * j;
+                    back(&mut costs, row(cells, label, i), row(cells, label, i + 1));
+                    history.0[q][3 - j] = costs;
                 }
                 let two = two_digits(code, bits >> (12 * j), &old.0[f][j], state);
                 state = state / 4 + two * (STATES / 4);
@@ -280,11 +280,11 @@ fn write_page<const STATES: usize>(
             }
             digits[past][f] = byte as u8;
         }
-        if costs.0[0] | 3 == CLOSED {
+        if costs[0] | 3 == CLOSED {
             return spent(k);
         }
         if k < strips {
-            total += (costs.0[0] & !3) as u64;
+            total += (costs[0] & !3) as u64;
         }
         std::mem::swap(&mut history, &mut old);
     }
@@ -333,18 +333,18 @@ mod long {
     }
 
     pub fn price(bytes: usize, page: &[u8], data: &[u8]) -> u64 {
-        price_page(&CODE, bytes, page, data, |costs, (earlier, later)| {
-            let mut between = Aligned([0; 64]);
-            stage::<-1>(&costs.0, &ROWS.0[later], &mut between.0);
-            stage::<-1>(&between.0, &ROWS.0[earlier], &mut costs.0);
+        price_page(&CODE, bytes, page, data, |costs, earlier, later| {
+            let mut between = [0; 64];
+            stage::<-1>(costs, &ROWS.0[later], &mut between);
+            stage::<-1>(&between, &ROWS.0[earlier], costs);
         })
     }
 
     pub fn write(bytes: usize, page: &mut [u8], data: &[u8]) -> u64 {
-        write_page(&CODE, bytes, page, data, |costs, (earlier, later)| {
-            let mut between = Aligned([0; 64]);
-            stage::<-4>(&costs.0, &LATER.0[later], &mut between.0);
-            stage::<-1>(&between.0, &EARLIER.0[earlier], &mut costs.0);
+        write_page(&CODE, bytes, page, data, |costs, earlier, later| {
+            let mut between = [0; 64];
+            stage::<-4>(costs, &LATER.0[later], &mut between);
+            stage::<-1>(&between, &EARLIER.0[earlier], costs);
         })
     }
 }
@@ -372,25 +372,27 @@ mod short {
 
     /// One stage back: the four states are half a register.
     #[inline(always)]
-    fn stage<const KEPT: i16>(costs: [i16; 4], row: &[i16; 8]) -> [i16; 4] {
-        let x = [costs[0], costs[0], costs[1], costs[1]];
-        let y = [costs[2], costs[2], costs[3], costs[3]];
-        let mut before = [0; 4];
+    fn stage<const KEPT: i16>(after: &[i16; 4], row: &[i16; 8], before: &mut [i16; 4]) {
+        let x = [after[0], after[0], after[1], after[1]];
+        let y = [after[2], after[2], after[3], after[3]];
         for i in 0..4 {
             before[i] = (x[i] & KEPT).saturating_add(row[i]).min((y[i] & KEPT).saturating_add(row[i + 4]));
         }
-        before
     }
 
     pub fn price(bytes: usize, page: &[u8], data: &[u8]) -> u64 {
-        price_page(&CODE, bytes, page, data, |costs, (earlier, later)| {
-            costs.0 = stage::<-1>(stage::<-1>(costs.0, &ROWS.0[later]), &ROWS.0[earlier]);
+        price_page(&CODE, bytes, page, data, |costs, earlier, later| {
+            let mut between = [0; 4];
+            stage::<-1>(costs, &ROWS.0[later], &mut between);
+            stage::<-1>(&between, &ROWS.0[earlier], costs);
         })
     }
 
     pub fn write(bytes: usize, page: &mut [u8], data: &[u8]) -> u64 {
-        write_page(&CODE, bytes, page, data, |costs, (earlier, later)| {
-            costs.0 = stage::<-1>(stage::<-4>(costs.0, &LATER.0[later]), &EARLIER.0[earlier]);
+        write_page(&CODE, bytes, page, data, |costs, earlier, later| {
+            let mut between = [0; 4];
+            stage::<-4>(costs, &LATER.0[later], &mut between);
+            stage::<-1>(&between, &EARLIER.0[earlier], costs);
         })
     }
 }
