@@ -1,10 +1,11 @@
 /*
  * The library beside two Rust programs and two decoders.
  *
- *   bench PLOT [ROUNDS]
+ *   bench FILE [ROUNDS]        the table of one run, and a plot into FILE: how time grows with L and S
+ *   bench --tried [ROUNDS]     the shapes that were tried for the vector unit
  *
- * Checks that the three programs give the same answers and leave the same pages, prints the times of one run as a table, and writes the file PLOT:
- * how time grows with L and S. The exit status is 1 where a page or an answer differs. No time is judged.
+ * Before each call the page is set anew, outside the time; a round makes every call once, by one program after the other; the least time of all rounds
+ * counts. Every answer and every page is compared with the library's: the exit status is 1 where one differs. No time is judged.
  */
 #define _POSIX_C_SOURCE 200809L
 #include <stdio.h>
@@ -16,51 +17,18 @@
 #include "plot.h"
 #include "segrunov.h"
 
-enum { MOST = 64, PAGE = 6 * MOST * MOST, DATA = MOST * MOST, PROGRAMS = 3, KINDS = 3, CALLS = 2 };
+enum { MOST = 64, PAGE = 6 * MOST * MOST, DATA = MOST * MOST, CODES = 2, KINDS = 3, CALLS = 2, PROGRAMS = 16 };
 
-typedef uint64_t price_call(uint32_t, uint32_t, uint32_t, const uint8_t *, size_t, const uint8_t *, size_t);
-typedef uint64_t write_call(uint32_t, uint32_t, uint32_t, uint8_t *, size_t, const uint8_t *, size_t);
-
-static const struct {
-    const char *name;
-    price_call *price;
-    write_call *write;
-} programs[PROGRAMS] = {
-    {"segrunov", segrunov_price, segrunov_write},
-    {"shaped", shaped_price, shaped_write},
-    {"ordinary", ordinary_price, ordinary_write},
-};
-
-static const uint32_t codes[] = {SEGRUNOV_LONG, SEGRUNOV_SHORT};
+static const uint32_t codes[CODES] = {SEGRUNOV_LONG, SEGRUNOV_SHORT};
 static const char *const kinds[KINDS] = {"erased", "half-full", "random"};
 static const char *const calls[CALLS] = {"price", "write"};
 
-/* A call: its page, its data, and a page of each program's own. */
-struct job {
+/* What a call is asked. */
+static struct {
     uint32_t code, bytes, strips;
     uint8_t page[PAGE];
     uint8_t data[DATA];
-};
-
-static struct job job;
-static uint8_t pages[PROGRAMS][PAGE];
-
-/* ---------------------------------------------------------------- random numbers */
-
-static uint64_t state = 20261115;
-
-static uint32_t random32(void)
-{
-    state = state * UINT64_C(6364136223846793005) + UINT64_C(1442695040888963407);
-    return (uint32_t)(state >> 32);
-}
-
-static uint32_t below(uint32_t n)
-{
-    return (uint32_t)(((uint64_t)random32() * n) >> 32);
-}
-
-/* ---------------------------------------------------------------- pages and data */
+} job;
 
 static size_t page_length(void)
 {
@@ -72,22 +40,71 @@ static size_t data_length(void)
     return SEGRUNOV_DATA_BYTES(job.bytes, job.strips);
 }
 
-/* A cell of the job's page is at a level, its ones first, as the library leaves it. */
-static void set_cell(size_t cell, uint32_t level)
+/* ---------------------------------------------------------------- programs */
+
+typedef uint64_t price_call(uint32_t, uint32_t, uint32_t, const uint8_t *, size_t, const uint8_t *, size_t);
+typedef uint64_t write_call(uint32_t, uint32_t, uint32_t, uint8_t *, size_t, const uint8_t *, size_t);
+
+/* A program, and a page of its own. One without calls is a shape that was tried. The library is the first. */
+struct program {
+    const char *name;
+    price_call *price;
+    write_call *write;
+    size_t shape;
+    uint8_t page[PAGE];
+};
+
+static struct program programs[PROGRAMS] = {
+    {.name = "segrunov", .price = segrunov_price, .write = segrunov_write},
+    {.name = "shaped", .price = shaped_price, .write = shaped_write},
+    {.name = "ordinary", .price = ordinary_price, .write = ordinary_write},
+};
+static int program_count = 3;
+
+/* The library and the shapes that were tried. */
+static void take_shapes(void)
 {
-    for (size_t i = 0; i < 3; i++) {
-        const size_t k = 3 * cell + i;
-        const uint8_t bit = (uint8_t)(1U << (k % 8));
-        job.page[k / 8] = (uint8_t)(i < level ? job.page[k / 8] | bit : job.page[k / 8] & ~bit);
+    program_count = 1;
+    for (size_t shape = 0; tried_name(shape) != NULL && program_count < PROGRAMS; shape++) {
+        programs[program_count] = (struct program){.name = tried_name(shape), .shape = shape};
+        program_count++;
     }
 }
 
-/* The three kinds of page that are timed. None has a cell at level 3, so no write is spent. */
-static void make_page(int kind)
+static uint64_t called(struct program *p, int call)
 {
-    for (size_t cell = 0; cell < page_length() * 8 / 3; cell++) {
-        set_cell(cell, kind == 0 ? 0 : kind == 1 ? 1 + (uint32_t)(cell % 2) : below(2));
+    if (p->price == NULL) {
+        return call == 0 ? tried_price(p->shape, job.bytes, p->page, page_length(), job.data, data_length())
+                         : tried_write(p->shape, job.bytes, p->page, page_length(), job.data, data_length());
     }
+    return call == 0 ? p->price(job.code, job.bytes, job.strips, p->page, page_length(), job.data, data_length())
+                     : p->write(job.code, job.bytes, job.strips, p->page, page_length(), job.data, data_length());
+}
+
+static double seconds(void)
+{
+    struct timespec now;
+    (void)clock_gettime(CLOCK_MONOTONIC, &now);
+    return (double)now.tv_sec + 1e-9 * (double)now.tv_nsec;
+}
+
+/* The time of a call on the job's page and data. */
+static double timed(struct program *p, int call, uint64_t *answer)
+{
+    memcpy(p->page, job.page, page_length());
+    const double began = seconds();
+    *answer = called(p, call);
+    return seconds() - began;
+}
+
+/* ---------------------------------------------------------------- pages and data */
+
+static uint64_t seed = 20261115;
+
+static uint32_t below(uint32_t n)
+{
+    seed = seed * UINT64_C(6364136223846793005) + UINT64_C(1442695040888963407);
+    return (uint32_t)(((seed >> 32) * n) >> 32);
 }
 
 static void new_data(void)
@@ -97,75 +114,89 @@ static void new_data(void)
     }
 }
 
-/* ---------------------------------------------------------------- checks */
+/* Puts a cell at a level, its ones first, as the library leaves it. */
+static void set_cell(size_t cell, uint32_t level)
+{
+    for (size_t k = 3 * cell; k < 3 * cell + 3; k++) {
+        const unsigned bit = 1U << (k % 8);
+        job.page[k / 8] = (uint8_t)(k < 3 * cell + level ? job.page[k / 8] | bit : job.page[k / 8] & ~bit);
+    }
+}
 
-static unsigned long checked, spent;
+static size_t cells(void)
+{
+    return page_length() * 8 / 3;
+}
+
+/* The kinds of page that are timed: erased; even cells at level 1 and odd ones at 2; each cell at level 0 or 1. No write on them is spent. */
+static void make_page(int kind)
+{
+    for (size_t cell = 0; cell < cells(); cell++) {
+        set_cell(cell, kind == 0 ? 0 : kind == 1 ? 1 + (uint32_t)(cell % 2) : below(2));
+    }
+}
+
+/* Pages that are not timed: levels up to a bound, any bits, mostly full. */
+enum { ANY_KINDS = 6 };
+
+static void make_any_page(uint32_t kind)
+{
+    for (size_t cell = 0; cell < cells(); cell++) {
+        set_cell(cell, kind < 4 ? below(kind + 1) : 3 - (uint32_t)(below(64) == 0));
+    }
+    for (size_t i = 0; kind == 4 && i < page_length(); i++) {
+        job.page[i] = (uint8_t)(below(256) & below(256));
+    }
+}
+
+/* ---------------------------------------------------------------- comparison */
+
+static unsigned long compared_calls, spent_calls;
 
 static void print_bytes(const char *name, const uint8_t *bytes, size_t n)
 {
-    printf("%s ", name);
+    printf("%s:\n", name);
     for (size_t i = 0; i < n; i++) {
         printf("%02x", bytes[i]);
     }
     printf("\n");
 }
 
-static void differs(int p, const char *call, uint64_t answer, uint64_t its)
+static void fail(const struct program *p, int call, uint64_t wanted, uint64_t answer)
 {
-    printf("bench: %s of %s differs: code %u, L %u, S %u\n", call, programs[p].name, (unsigned)job.code, (unsigned)job.bytes, (unsigned)job.strips);
-    printf("answers: segrunov %u %u, %s %u %u\n", (unsigned)SEGRUNOV_NUMBER(answer), (unsigned)SEGRUNOV_VALUE(answer), programs[p].name,
-           (unsigned)SEGRUNOV_NUMBER(its), (unsigned)SEGRUNOV_VALUE(its));
-    print_bytes("page    ", job.page, page_length());
-    print_bytes("data    ", job.data, data_length());
-    print_bytes("segrunov", pages[0], page_length());
-    print_bytes("the other", pages[p], page_length());
+    printf("bench: %s of '%s' differs from the library's: code %u, L = %u, S = %u\n", calls[call], p->name, (unsigned)job.code, (unsigned)job.bytes,
+           (unsigned)job.strips);
+    printf("answer %u with %u, the library's is %u with %u\n", (unsigned)SEGRUNOV_NUMBER(answer), (unsigned)SEGRUNOV_VALUE(answer),
+           (unsigned)SEGRUNOV_NUMBER(wanted), (unsigned)SEGRUNOV_VALUE(wanted));
+    print_bytes("data", job.data, data_length());
+    print_bytes("page before", job.page, page_length());
+    print_bytes("page after", p->page, page_length());
+    print_bytes("page after, the library's", programs[0].page, page_length());
     exit(1);
 }
 
-/* Resets the page of a program, makes the call, and gives its time in seconds. */
-static double timed(int p, int call, uint64_t *answer)
-{
-    struct timespec began, ended;
-    memcpy(pages[p], job.page, page_length());
-    (void)clock_gettime(CLOCK_MONOTONIC, &began);
-    *answer = call == 0 ? programs[p].price(job.code, job.bytes, job.strips, pages[p], page_length(), job.data, data_length())
-                        : programs[p].write(job.code, job.bytes, job.strips, pages[p], page_length(), job.data, data_length());
-    (void)clock_gettime(CLOCK_MONOTONIC, &ended);
-    return (double)(ended.tv_sec - began.tv_sec) + 1e-9 * (double)(ended.tv_nsec - began.tv_nsec);
-}
-
-/* One call by every program, one after the other: the answers and the pages are the same. A price and a spent write leave the page. */
+/* One call by every program: same answers, same pages, and the page as it was after a price and where it is spent. Another program begins each time. */
 static uint64_t compared(int call, double times[PROGRAMS])
 {
-    uint64_t answers[PROGRAMS];
-    for (int p = 0; p < PROGRAMS; p++) {
-        times[p] = timed(p, call, &answers[p]);
+    static int turn;
+    uint64_t answers[PROGRAMS] = {0};
+    turn++;
+    for (int i = 0; i < program_count; i++) {
+        const int p = (i + turn) % program_count;
+        times[p] = timed(&programs[p], call, &answers[p]);
     }
     const int keeps = call == 0 || SEGRUNOV_NUMBER(answers[0]) != SEGRUNOV_DONE;
-    for (int p = 0; p < PROGRAMS; p++) {
-        if (answers[p] != answers[0] || memcmp(pages[p], keeps ? job.page : pages[0], page_length()) != 0) {
-            differs(p, calls[call], answers[0], answers[p]);
+    for (int p = 0; p < program_count; p++) {
+        if (answers[p] != answers[0] || memcmp(programs[p].page, keeps ? job.page : programs[0].page, page_length()) != 0) {
+            fail(&programs[p], call, answers[0], answers[p]);
         }
     }
-    checked++;
-    spent += SEGRUNOV_NUMBER(answers[0]) == SEGRUNOV_SPENT;
+    compared_calls++;
+    spent_calls += SEGRUNOV_NUMBER(answers[0]) == SEGRUNOV_SPENT;
     return answers[0];
 }
 
-/* A page as random as `kind` says: levels below a bound, any bytes, or full but for a few cells. */
-static void make_any_page(uint32_t kind)
-{
-    for (size_t cell = 0; cell < page_length() * 8 / 3; cell++) {
-        set_cell(cell, kind < 4 ? below(kind + 1) : below(64) == 0 ? 2 : 3);
-    }
-    if (kind == 4) {
-        for (size_t i = 0; i < page_length(); i++) {
-            job.page[i] = (uint8_t)(below(256) & below(256));
-        }
-    }
-}
-
-/* Price and write of one page until it is spent, or some times over. */
+/* Price and write of a page, four times one after the other. */
 static void check_page(uint32_t code, uint32_t bytes, uint32_t strips, uint32_t kind)
 {
     double times[PROGRAMS];
@@ -176,104 +207,132 @@ static void check_page(uint32_t code, uint32_t bytes, uint32_t strips, uint32_t 
     for (int i = 0; i < 4; i++) {
         new_data();
         const uint64_t price = compared(0, times);
-        if (compared(1, times) != price) {
-            differs(0, "price", price, price);
+        const uint64_t answer = compared(1, times);
+        if (answer != price) {
+            fail(&programs[0], 1, price, answer);
         }
-        memcpy(job.page, pages[0], page_length());
+        memcpy(job.page, programs[0].page, page_length());
     }
 }
 
-/* Every L and every S, each with the other one random and small enough to be quick, on pages from erased to nearly full. */
-static void check(void)
+/* Every L and every S, the other one random and small enough to be quick, on pages of every kind in turn. */
+static void check(int code_count)
 {
-    for (size_t c = 0; c < sizeof codes / sizeof *codes; c++) {
+    for (int c = 0; c < code_count; c++) {
         for (uint32_t n = 1; n <= MOST; n++) {
-            check_page(codes[c], n, 1 + below(n < 8 ? MOST : 256 / n), n % 6);
-            check_page(codes[c], 1 + below(n < 8 ? MOST : 256 / n), n, (n / 2) % 6);
+            const uint32_t most = n < 8 ? MOST : 256 / n;
+            check_page(codes[c], n, 1 + below(most), n % ANY_KINDS);
+            check_page(codes[c], 1 + below(most), n, n / ANY_KINDS % ANY_KINDS);
         }
     }
-    printf("The three programs agree on %lu small calls, %lu of them spent.\n\n", checked, spent);
+    printf("All programs agree on %lu calls of all L and S, %lu of them spent.\n\n", compared_calls, spent_calls);
 }
 
 /* ---------------------------------------------------------------- times */
-
-static double nanoseconds(double seconds)
-{
-    return seconds * 1e9 / ((double)MOST * STAGES);
-}
 
 static double least(double x, double y)
 {
     return x < y ? x : y;
 }
 
-/* The least times of the largest page, a round of everything after the other. */
-static void measure(int rounds)
+/* Of the largest page, or of a decoder's blocks. */
+static double nanoseconds_a_stage(double time)
 {
-    static double best[2][KINDS][CALLS][PROGRAMS];
-    double libosmocore = 1e9, libfec = 1e9;
+    return time * 1e9 / (BLOCKS * STAGES);
+}
+
+static double best[CODES][KINDS][CALLS][PROGRAMS];
+
+/* One round of the largest page. */
+static void round_of_calls(int first_code, int code_count, int first_kind, int kind_count, int is_first)
+{
     job.bytes = MOST;
     job.strips = MOST;
-    for (int round = 0; round < rounds; round++) {
-        for (int c = 0; c < 2; c++) {
-            for (int k = 0; k < KINDS; k++) {
-                job.code = codes[c];
-                make_page(k);
-                new_data();
-                for (int call = 0; call < CALLS; call++) {
-                    double times[PROGRAMS];
-                    (void)compared(call, times);
-                    for (int p = 0; p < PROGRAMS; p++) {
-                        double *b = &best[c][k][call][p];
-                        *b = round == 0 ? times[p] : least(*b, times[p]);
-                    }
+    for (int c = first_code; c < first_code + code_count; c++) {
+        for (int k = first_kind; k < first_kind + kind_count; k++) {
+            job.code = codes[c];
+            make_page(k);
+            new_data();
+            for (int call = 0; call < CALLS; call++) {
+                double times[PROGRAMS];
+                double *b = best[c][k][call];
+                (void)compared(call, times);
+                for (int p = 0; p < program_count; p++) {
+                    b[p] = is_first ? times[p] : least(b[p], times[p]);
                 }
             }
         }
-        struct timespec a, b, e;
-        decoders_prepare(random32());
-        (void)clock_gettime(CLOCK_MONOTONIC, &a);
-        libosmocore_decode();
-        (void)clock_gettime(CLOCK_MONOTONIC, &b);
-        libfec_decode();
-        (void)clock_gettime(CLOCK_MONOTONIC, &e);
-        libosmocore = least(libosmocore, (double)(b.tv_sec - a.tv_sec) + 1e-9 * (double)(b.tv_nsec - a.tv_nsec));
-        libfec = least(libfec, (double)(e.tv_sec - b.tv_sec) + 1e-9 * (double)(e.tv_nsec - b.tv_nsec));
-        if (!libosmocore_right() || !libfec_right()) {
-            printf("bench: a decoder does not give the data back\n");
-            exit(1);
-        }
+    }
+}
+
+static double decoded(void (*decode)(void), int (*right)(void), const char *name)
+{
+    const double began = seconds();
+    decode();
+    const double took = seconds() - began;
+    if (!right()) {
+        printf("bench: %s does not give the data back\n", name);
+        exit(1);
+    }
+    return took;
+}
+
+static void print_decoder(const char *name, double time)
+{
+    printf("| %s | %.1f |", name, nanoseconds_a_stage(time));
+    for (int k = 0; k < KINDS; k++) {
+        printf(" %.2f |", best[0][k][1][0] / time);
+    }
+    printf("\n");
+}
+
+static void measure(int rounds)
+{
+    double osmocore = 1e9, fec = 1e9;
+    for (int i = 0; i < rounds; i++) {
+        round_of_calls(0, CODES, 0, KINDS, i == 0);
+        decoders_prepare(below(UINT32_MAX));
+        osmocore = least(osmocore, decoded(libosmocore_decode, libosmocore_right, "libosmocore"));
+        fec = least(fec, decoded(libfec_decode, libfec_right, "libfec"));
     }
     printf("| code | page | call | segrunov | shaped | ordinary | segrunov / shaped | segrunov / ordinary |\n|---|---|---|---|---|---|---|---|\n");
-    for (int c = 0; c < 2; c++) {
+    for (int c = 0; c < CODES; c++) {
         for (int k = 0; k < KINDS; k++) {
             for (int call = 0; call < CALLS; call++) {
                 const double *b = best[c][k][call];
-                printf("| %u | %s | %s | %.1f | %.1f | %.1f | %.2f | %.2f |\n", (unsigned)codes[c], kinds[k], calls[call], nanoseconds(b[0]), nanoseconds(b[1]),
-                       nanoseconds(b[2]), b[0] / b[1], b[0] / b[2]);
+                printf("| %u | %s | %s | %.1f | %.1f | %.1f | %.2f | %.2f |\n", (unsigned)codes[c], kinds[k], calls[call], nanoseconds_a_stage(b[0]),
+                       nanoseconds_a_stage(b[1]), nanoseconds_a_stage(b[2]), b[0] / b[1], b[0] / b[2]);
             }
         }
     }
-    printf("\n| decoder | its time | segrunov write, code 7, erased / half-full / random, over it |\n|---|---|---|\n");
-    printf("| libosmocore | %.1f | %.2f / %.2f / %.2f |\n", nanoseconds(libosmocore), best[0][0][1][0] / libosmocore, best[0][1][1][0] / libosmocore,
-           best[0][2][1][0] / libosmocore);
-    printf("| libfec | %.1f | %.2f / %.2f / %.2f |\n\n", nanoseconds(libfec), best[0][0][1][0] / libfec, best[0][1][1][0] / libfec, best[0][2][1][0] / libfec);
+    printf("\n| decoder | its time | segrunov's write, code 7, over it: erased | half-full | random |\n|---|---|---|---|---|\n");
+    print_decoder("libosmocore", osmocore);
+    print_decoder("libfec", fec);
 }
 
-/* The least time of the library's call on a half-full page, in microseconds. */
-static double grown(uint32_t code, uint32_t bytes, uint32_t strips, int call, int rounds)
+static void measure_shapes(int rounds)
 {
-    double best = 1e9;
+    for (int i = 0; i < rounds; i++) {
+        round_of_calls(0, 1, 1, 1, i == 0);
+    }
+    printf("| shape, code 7, half-full page | price | write |\n|---|---|---|\n");
+    for (int p = 1; p < program_count; p++) {
+        printf("| %s | %.1f | %.1f |\n", programs[p].name, nanoseconds_a_stage(best[0][1][0][p]), nanoseconds_a_stage(best[0][1][1][p]));
+    }
+}
+
+/* ---------------------------------------------------------------- growth with L and S */
+
+/* The time of one call of the library on a half-full page, in microseconds. */
+static double microseconds(uint32_t code, uint32_t bytes, uint32_t strips, int call)
+{
     uint64_t answer;
     job.code = code;
     job.bytes = bytes;
     job.strips = strips;
     make_page(1);
-    for (int i = 0; i < rounds; i++) {
-        new_data();
-        best = least(best, timed(0, call, &answer));
-    }
-    return best * 1e6;
+    new_data();
+    return 1e6 * timed(&programs[0], call, &answer);
 }
 
 static void growth(const char *file, int rounds)
@@ -282,41 +341,52 @@ static void growth(const char *file, int rounds)
         {"code 7, write", "#c02020", 0}, {"code 7, price", "#c02020", 1}, {"code 3, write", "#2050b0", 0}, {"code 3, price", "#2050b0", 1}};
     static struct plot_panel panels[2] = {{.title = "One strip (S = 1)", .across = "L, bytes of data of a strip"},
                                           {.title = "Strips of 64 bytes (L = 64)", .across = "S, strips of the page"}};
-    for (uint32_t n = 1; n <= PLOT_POINTS; n++) {
-        for (int l = 0; l < PLOT_LINES; l++) {
-            panels[0].values[l][n - 1] = grown(codes[l / 2], n, 1, 1 - l % 2, rounds);
-            panels[1].values[l][n - 1] = grown(codes[l / 2], MOST, n, 1 - l % 2, rounds);
+    for (int i = 0; i < rounds; i++) {
+        for (uint32_t n = 1; n <= PLOT_POINTS; n++) {
+            for (int l = 0; l < PLOT_LINES; l++) {
+                for (int p = 0; p < 2; p++) {
+                    double *value = &panels[p].values[l][n - 1];
+                    const double took = microseconds(codes[l / 2], p == 0 ? n : MOST, p == 0 ? 1 : n, 1 - l % 2);
+                    *value = i == 0 ? took : least(*value, took);
+                }
+            }
         }
     }
-    printf("| microseconds of segrunov, half-full pages |");
+    printf("\n| microseconds of a call of segrunov |");
     for (int l = 0; l < PLOT_LINES; l++) {
         printf(" %s |", lines[l].name);
     }
     printf("\n|---|---|---|---|---|\n");
     for (int p = 0; p < 2; p++) {
-        for (uint32_t n = 1; n <= PLOT_POINTS; n *= 2) {
+        for (uint32_t n = 1; n <= PLOT_POINTS; n *= 4) {
             printf(p == 0 ? "| S = 1, L = %u |" : "| L = 64, S = %u |", (unsigned)n);
             for (int l = 0; l < PLOT_LINES; l++) {
-                printf(" %.1f |", panels[p].values[l][n - 1]);
+                printf(" %.2f |", panels[p].values[l][n - 1]);
             }
             printf("\n");
         }
     }
-    if (plot(file, "microseconds a call", lines, panels) != 0) {
-        fprintf(stderr, "bench: cannot write %s\n", file);
+    if (plot(file, "microseconds of a call", lines, panels) != 0) {
+        printf("bench: cannot write %s\n", file);
         exit(1);
     }
 }
 
 int main(int argc, char **argv)
 {
-    const int rounds = argc > 2 ? atoi(argv[2]) : 40;
-    if (argc < 2 || rounds < 1) {
-        fprintf(stderr, "usage: bench PLOT [ROUNDS]\n");
+    const int rounds = argc > 2 ? atoi(argv[2]) : 100;
+    if (argc < 2 || argc > 3 || rounds < 1) {
+        fprintf(stderr, "usage: bench FILE [ROUNDS], or bench --tried [ROUNDS]\n");
         return 2;
     }
-    check();
+    if (strcmp(argv[1], "--tried") == 0) {
+        take_shapes();
+        check(1);
+        measure_shapes(rounds);
+        return 0;
+    }
+    check(CODES);
     measure(rounds);
-    growth(argv[1], rounds);
+    growth(argv[1], rounds / 5 + 1);
     return 0;
 }

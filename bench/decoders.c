@@ -1,6 +1,7 @@
 /*
  * Two decoders of the same trellis, 64 states and the generators 171 and 133: libosmocore's and libfec's. They decode error-free soft bits of random
- * data that a plain encoder made here. The encoder starts in state 0, and the last six digits are 0: libfec goes back from a state that it is told.
+ * data that a plain encoder made here. The encoder starts in state 0, and the last TAIL digits are 0: libfec goes back from the state after them, and
+does not give them.
  */
 #include <fec.h>
 #include <osmocom/core/conv.h>
@@ -10,7 +11,7 @@
 #include "peers.h"
 
 /* The generators as taps on a state with the newest digit worth 1, the present stage's digit worth 1 too. */
-enum { FIRST = 0x4f, SECOND = 0x6d, STATES = 64 };
+enum { FIRST = 0x4f, SECOND = 0x6d, STATES = 64, TAIL = 6 };
 
 static uint8_t outputs[STATES][2];
 static uint8_t nexts[STATES][2];
@@ -50,7 +51,7 @@ void decoders_prepare(uint64_t seed)
         unsigned state = 0;
         for (int t = 0; t < STAGES; t++) {
             seed = seed * UINT64_C(6364136223846793005) + UINT64_C(1442695040888963407);
-            const unsigned d = t < STAGES - 6 ? (unsigned)(seed >> 63) : 0;
+            const unsigned d = t < STAGES - TAIL ? (unsigned)(seed >> 63) : 0;
             const unsigned word = outputs[state][d];
             sent[k][t] = (ubit_t)d;
             soft[k][2 * t] = (word & 2) != 0 ? -127 : 127;
@@ -90,7 +91,7 @@ void libfec_decode(void)
     for (int k = 0; k < BLOCKS; k++) {
         (void)init_viterbi27(fec, 0);
         (void)update_viterbi27_blk(fec, symbols[k], STAGES);
-        (void)chainback_viterbi27(fec, packed[k], STAGES, 0);
+        (void)chainback_viterbi27(fec, packed[k], STAGES - TAIL, 0);
     }
 }
 
@@ -98,7 +99,7 @@ int libfec_right(void)
 {
     int right = 1;
     for (int k = 0; k < BLOCKS; k++) {
-        for (int t = 0; t < STAGES; t++) {
+        for (int t = 0; t < STAGES - TAIL; t++) {
             right &= ((packed[k][t / 8] >> (7 - t % 8)) & 1) == sent[k][t];
         }
     }

@@ -10,6 +10,8 @@
 //!   all that the way forward needs.
 //! - The way forward waits for a load at each step, the search does not: a strip is followed while the next one is searched.
 
+mod tried;
+
 /// The most bytes of a strip's data, and the most strips.
 const MOST: usize = 64;
 
@@ -306,15 +308,15 @@ mod long {
 
     type Rows = Aligned<[[i16; 32]; 32]>;
 
-    static ROWS: Rows = Aligned(rows(LONG, 0));
-    static EARLIER: Rows = Aligned(rows(LONG, 2));
-    static LATER: Rows = Aligned(rows(LONG, 1));
-    static CODE: Code<64> = Code::new(LONG);
+    pub static ROWS: Rows = Aligned(rows(LONG, 0));
+    pub static EARLIER: Rows = Aligned(rows(LONG, 2));
+    pub static LATER: Rows = Aligned(rows(LONG, 1));
+    pub static CODE: Code<64> = Code::new(LONG);
 
     /// One stage back, eight pairs of states at a time; of the costs the bits in KEPT count. Registers of a row go in pairs: each has the complements of
     /// the other.
     #[inline(always)]
-    fn stage<const KEPT: i16>(after: &[i16; 64], row: &[i16; 32], before: &mut [i16; 64]) {
+    pub fn stage<const KEPT: i16>(after: &[i16; 64], row: &[i16; 32], before: &mut [i16; 64]) {
         for b in 0..4 {
             let mut even = [0; 8];
             let mut odd = [0; 8];
@@ -334,17 +336,17 @@ mod long {
 
     pub fn price(bytes: usize, page: &[u8], data: &[u8]) -> u64 {
         price_page(&CODE, bytes, page, data, |costs, earlier, later| {
-            let mut between = [0; 64];
-            stage::<-1>(costs, &ROWS.0[later], &mut between);
-            stage::<-1>(&between, &ROWS.0[earlier], costs);
+            let mut between = Aligned([0; 64]);
+            stage::<-1>(costs, &ROWS.0[later], &mut between.0);
+            stage::<-1>(&between.0, &ROWS.0[earlier], costs);
         })
     }
 
     pub fn write(bytes: usize, page: &mut [u8], data: &[u8]) -> u64 {
         write_page(&CODE, bytes, page, data, |costs, earlier, later| {
-            let mut between = [0; 64];
-            stage::<-4>(costs, &LATER.0[later], &mut between);
-            stage::<-1>(&between, &EARLIER.0[earlier], costs);
+            let mut between = Aligned([0; 64]);
+            stage::<-4>(costs, &LATER.0[later], &mut between.0);
+            stage::<-1>(&between.0, &EARLIER.0[earlier], costs);
         })
     }
 }
