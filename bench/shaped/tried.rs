@@ -1,7 +1,7 @@
 //! Other shapes of the long code's search, kept so that the figures in docs/PERFORMANCE.md can be had again. All have 16-bit costs but the last.
 use super::long::{stage, CODE, EARLIER, LATER, ROWS};
 use super::*;
-use std::ffi::c_char;
+use std::os::raw::c_char;
 
 /// A shape: its name, and how it prices and writes a page.
 struct Shape {
@@ -201,34 +201,31 @@ fn kept_write(bytes: usize, page: &mut [u8], data: &[u8]) -> u64 {
     })
 }
 
-/// One stage in the paper's order: the states k and k + 32 are made from 2 k and 2 k + 1.
+/// Prices of the states k below 32 at the digit 0 in the paper's order, and then those of the complements of their words.
+static PAPER_ROWS: Aligned<[[i16; 64]; 32]> = Aligned({
+    let mut rows = [[0; 64]; 32];
+    let mut k = 0;
+    while k < 32 * 64 {
+        let (r, s, d) = (k / 64, k % 32, k / 32 % 2);
+        let (a, b) = (parity(LONG.first & (2 * s)) ^ d, parity(LONG.second & (2 * s)) ^ d);
+        rows[r][k % 64] = price(r % 4, a).saturating_add(price(r / 4 % 4, b ^ (r / 16)));
+        k += 1;
+    }
+    rows
+});
+
+/// In the paper's order the states k and k + 32 are made from 2 k and 2 k + 1.
 fn paper_keep(strip: &[u8], labels: &[u8], kept: &mut Kept<i16>) -> i16 {
-    static WORDS: [usize; 32] = {
-        let mut words = [0; 32];
-        let mut k = 0;
-        while k < 32 {
-            words[k] = parity(LONG.first & (2 * k)) + 2 * parity(LONG.second & (2 * k));
-            k += 1;
-        }
-        words
-    };
     for q in (0..labels.len()).rev() {
         let (cells, label) = (six(strip, q), labels[q]);
         for i in (0..8).rev() {
-            let r = row(cells, label, i);
-            let (x, y) = (r % 4, r / 4 % 4);
-            let mut prices = [0; 4];
-            for w in 0..4 {
-                prices[w] = price(x, w % 2).saturating_add(price(y, (w / 2) ^ (r / 16)));
-            }
+            let row = &PAPER_ROWS.0[row(cells, label, i)];
             let (before, after) = kept.0.split_at_mut(8 * q + i + 1);
+            let (before, after) = (&mut before[8 * q + i], &after[0]);
             for k in 0..32 {
-                // Chosen, not looked up: the choices become constant masks.
-                let pick = |w: usize| if w == 0 { prices[0] } else if w == 1 { prices[1] } else if w == 2 { prices[2] } else { prices[3] };
-                let (p, c) = (pick(WORDS[k]), pick(3 - WORDS[k]));
-                let (zero, one) = (after[0][2 * k], after[0][2 * k + 1]);
-                before[8 * q + i][k] = zero.saturating_add(p).min(one.saturating_add(c));
-                before[8 * q + i][k + 32] = zero.saturating_add(c).min(one.saturating_add(p));
+                let (zero, one) = (after[2 * k], after[2 * k + 1]);
+                before[k] = zero.saturating_add(row[k]).min(one.saturating_add(row[k + 32]));
+                before[k + 32] = zero.saturating_add(row[k + 32]).min(one.saturating_add(row[k]));
             }
         }
     }
@@ -280,8 +277,8 @@ fn stage_eight(after: &[u8; 64], row: &[u8; 64], before: &mut [u8; 64]) {
             let k = 16 * b + i;
             let (p, q) = (row[k], row[k + 32]);
             let (x, y) = (after[k], after[k + 32]);
-            even[i] = x.wrapping_add(p).min(y.wrapping_add(q));
-            odd[i] = x.wrapping_add(q).min(y.wrapping_add(p));
+            even[i] = x.saturating_add(p).min(y.saturating_add(q));
+            odd[i] = x.saturating_add(q).min(y.saturating_add(p));
         }
         for i in 0..16 {
             before[32 * b + 2 * i] = even[i];
@@ -294,8 +291,10 @@ fn stage_eight(after: &[u8; 64], row: &[u8; 64], before: &mut [u8; 64]) {
 #[inline(always)]
 fn settle(costs: &mut [u8; 64]) -> i16 {
     let mut least = [255; 16];
-    for (k, &c) in costs.iter().enumerate() {
-        least[k % 16] = c.min(least[k % 16]);
+    for part in costs.chunks_exact(16) {
+        for k in 0..16 {
+            least[k] = part[k].min(least[k]);
+        }
     }
     let least = least.iter().fold(255, |x: u8, &y| x.min(y));
     for c in costs {
@@ -304,19 +303,31 @@ fn settle(costs: &mut [u8; 64]) -> i16 {
     4 * least as i16
 }
 
+/// The rows first, in a loop of their own: together with the stages the weaving is compiled to many masks instead of two instructions.
 fn eight_strip(strip: &[u8], labels: &[u8]) -> i16 {
-    let mut costs = [0; 64];
-    let mut total = 0;
-    for q in (0..labels.len()).rev() {
-        let (cells, label) = (six(strip, q), labels[q]);
-        for i in [6, 4, 2, 0] {
-            let mut between = [0; 64];
-            stage_eight(&costs, &QUARTERS.0[row(cells, label, i + 1)], &mut between);
-            stage_eight(&between, &QUARTERS.0[row(cells, label, i)], &mut costs);
+    let mut rows = [0; 8 * MOST];
+    for q in 0..labels.len() {
+        let cells = six(strip, q);
+        for i in 0..8 {
+            rows[8 * q + i] = row(cells, labels[q], i) as u8;
         }
-        total += settle(&mut costs);
     }
-    total + 4 * costs[0] as i16
+    eight_rows(&rows[..8 * labels.len()])
+}
+
+#[inline(never)]
+fn eight_rows(rows: &[u8]) -> i16 {
+    let mut costs = Aligned([0; 64]);
+    let mut between = Aligned([0; 64]);
+    let mut total = 0;
+    for eight in rows.chunks_exact(8).rev() {
+        for two in eight.chunks_exact(2).rev() {
+            stage_eight(&costs.0, &QUARTERS.0[two[1] as usize % 32], &mut between.0);
+            stage_eight(&between.0, &QUARTERS.0[two[0] as usize % 32], &mut costs.0);
+        }
+        total += settle(&mut costs.0);
+    }
+    total + 4 * costs.0[0] as i16
 }
 
 fn keep_eight(strip: &[u8], labels: &[u8], kept: &mut Kept<u8>) -> i16 {
