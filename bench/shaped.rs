@@ -308,15 +308,15 @@ mod long {
 
     type Rows = Aligned<[[i16; 32]; 32]>;
 
-    pub static ROWS: Rows = Aligned(rows(LONG, 0));
-    pub static EARLIER: Rows = Aligned(rows(LONG, 2));
-    pub static LATER: Rows = Aligned(rows(LONG, 1));
-    pub static CODE: Code<64> = Code::new(LONG);
+    pub(super) static ROWS: Rows = Aligned(rows(LONG, 0));
+    pub(super) static EARLIER: Rows = Aligned(rows(LONG, 2));
+    pub(super) static LATER: Rows = Aligned(rows(LONG, 1));
+    pub(super) static CODE: Code<64> = Code::new(LONG);
 
     /// One stage back, eight pairs of states at a time; of the costs the bits in KEPT count. Registers of a row go in pairs: each has the complements of
     /// the other.
     #[inline(always)]
-    pub fn stage<const KEPT: i16>(after: &[i16; 64], row: &[i16; 32], before: &mut [i16; 64]) {
+    pub(super) fn stage<const KEPT: i16>(after: &[i16; 64], row: &[i16; 32], before: &mut [i16; 64]) {
         for b in 0..4 {
             let mut even = [0; 8];
             let mut odd = [0; 8];
