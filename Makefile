@@ -3,7 +3,7 @@
 # make setup   the Debian packages that the tests need
 # make figures lines of code, definitions and proof by crate
 # make measure stack and time of each call of the C interface
-# make bench   the library beside other programs, in one run: docs/PERFORMANCE.md (ARCHIVE=file for another archive, PLOT=file for the plot)
+# make bench   the library's time beside other programs: docs/PERFORMANCE.md (ARCHIVE=file for another archive of the C interface)
 # make soak    the comparison ten times longer, with a new seed (or SEED=n)
 
 .PHONY: test run setup figures measure bench soak clean
@@ -28,9 +28,8 @@ measure: setup
 	@rt staticlib firmware > /dev/null && tests/build measure && target/tests/measure
 
 # It has a set-up of its own: the tests need neither its packages nor its programs.
-PLOT = target/bench/performance.svg
 bench:
-	@bash bench/setup && bench/build && target/bench/bench $(PLOT)
+	@bash bench/run
 
 SEED = $(shell date +%s)
 soak: setup

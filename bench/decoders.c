@@ -21,8 +21,8 @@ static const struct osmo_conv_code code = {
     .K = 7,
     .len = STAGES,
     .term = CONV_TERM_TRUNCATION,
-    .next_output = outputs,
-    .next_state = nexts,
+    .next_output = (const uint8_t(*)[2])outputs,
+    .next_state = (const uint8_t(*)[2])nexts,
 };
 
 static ubit_t sent[BLOCKS][STAGES];
