@@ -341,7 +341,9 @@ static void growth(const char *file, int rounds)
         {"code 7, write", "#c02020", 0}, {"code 7, price", "#c02020", 1}, {"code 3, write", "#2050b0", 0}, {"code 3, price", "#2050b0", 1}};
     static struct plot_panel panels[2] = {{.title = "One strip (S = 1)", .across = "L, bytes of data of a strip"},
                                           {.title = "Strips of 64 bytes (L = 64)", .across = "S, strips of the page"}};
-    for (int i = 0; i < rounds; i++) {
+    /* As many rounds as fit into some seconds, but a few at least. */
+    const double until = seconds() + 15;
+    for (int i = 0; i < rounds && (i < 5 || seconds() < until); i++) {
         for (uint32_t n = 1; n <= PLOT_POINTS; n++) {
             for (int l = 0; l < PLOT_LINES; l++) {
                 for (int p = 0; p < 2; p++) {
@@ -387,6 +389,6 @@ int main(int argc, char **argv)
     }
     check(CODES);
     measure(rounds);
-    growth(argv[1], rounds / 5 + 1);
+    growth(argv[1], rounds);
     return 0;
 }

@@ -3,16 +3,16 @@
 #include <stdio.h>
 
 /* Pixels. */
-enum { WIDTH = 960, HEIGHT = 400, PANEL = 380, TALL = 260, LEFT = 70, GAP = 100, TOP = 50, TICKS = 5 };
+enum { WIDTH = 960, HEIGHT = 400, PANEL = 380, TALL = 260, LEFT = 70, GAP = 100, TOP = 50, MOST_TICKS = 8 };
 
-/* The least of 1, 2, 2.5, 5 times a power of ten, TICKS of which reach a value. */
+/* The least of 1, 2, 2.5, 5 times a power of ten, MOST_TICKS of which reach a value. */
 static double tick_for(double most)
 {
     static const double steps[] = {1, 2, 2.5, 5};
     double power = 1e-6;
     for (;;) {
         for (size_t i = 0; i < sizeof steps / sizeof *steps; i++) {
-            if (steps[i] * power * TICKS >= most) {
+            if (steps[i] * power * MOST_TICKS >= most) {
                 return steps[i] * power;
             }
         }
@@ -35,11 +35,16 @@ static double most_of(const struct plot_panel *panel)
 
 static void draw(FILE *out, const struct plot_panel *panel, const char *up, const struct plot_line lines[PLOT_LINES], int left)
 {
-    const double tick = tick_for(most_of(panel));
+    const double most = most_of(panel);
+    const double tick = tick_for(most);
+    int ticks = 1;
+    while (tick * ticks < most) {
+        ticks++;
+    }
     const int bottom = TOP + TALL;
     fprintf(out, "<text x=\"%d\" y=\"%d\" font-weight=\"bold\">%s</text>\n", left, TOP - 20, panel->title);
-    for (int i = 0; i <= TICKS; i++) {
-        const int y = bottom - i * TALL / TICKS;
+    for (int i = 0; i <= ticks; i++) {
+        const int y = bottom - i * TALL / ticks;
         fprintf(out, "<line x1=\"%d\" y1=\"%d\" x2=\"%d\" y2=\"%d\" stroke=\"#dddddd\"/>\n", left, y, left + PANEL, y);
         fprintf(out, "<text x=\"%d\" y=\"%d\" text-anchor=\"end\">%g</text>\n", left - 8, y + 4, tick * i);
     }
@@ -55,7 +60,7 @@ static void draw(FILE *out, const struct plot_panel *panel, const char *up, cons
         fprintf(out, "<polyline fill=\"none\" stroke=\"%s\" stroke-width=\"1.5\"%s points=\"", lines[l].colour,
                 lines[l].dashed ? " stroke-dasharray=\"5 3\"" : "");
         for (int i = 0; i < PLOT_POINTS; i++) {
-            fprintf(out, "%s%.1f,%.1f", i == 0 ? "" : " ", left + (i + 1.0) * PANEL / PLOT_POINTS, bottom - panel->values[l][i] / (tick * TICKS) * TALL);
+            fprintf(out, "%s%.1f,%.1f", i == 0 ? "" : " ", left + (i + 1.0) * PANEL / PLOT_POINTS, bottom - panel->values[l][i] / (tick * ticks) * TALL);
         }
         fprintf(out, "\"/>\n");
     }
