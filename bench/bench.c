@@ -243,6 +243,36 @@ static double nanoseconds_a_stage(double time)
 
 static double best[CODES][KINDS][CALLS][PROGRAMS];
 
+/* Compilers differ in which form of the shaped program's stage they make best: it gets the one that is fastest here. */
+static void choose_forms(void)
+{
+    static const char *const forms[FORMS] = {"in blocks", "in a second loop", "in the one loop"};
+    double times[CALLS][FORMS];
+    size_t chosen[CALLS] = {0, 0};
+    job.code = SEGRUNOV_LONG;
+    job.bytes = MOST;
+    job.strips = MOST;
+    make_page(1);
+    new_data();
+    for (int i = 0; i < 30; i++) {
+        for (size_t form = 0; form < FORMS; form++) {
+            shaped_choose(form, form);
+            for (int call = 0; call < CALLS; call++) {
+                uint64_t answer;
+                const double took = timed(&programs[1], call, &answer);
+                times[call][form] = i == 0 ? took : least(times[call][form], took);
+            }
+        }
+    }
+    for (int call = 0; call < CALLS; call++) {
+        for (size_t form = 1; form < FORMS; form++) {
+            chosen[call] = times[call][form] < times[call][chosen[call]] ? form : chosen[call];
+        }
+    }
+    shaped_choose(chosen[0], chosen[1]);
+    printf("The shaped program weaves %s for a price and %s for a write: the fastest forms by this compiler.\n\n", forms[chosen[0]], forms[chosen[1]]);
+}
+
 /* One round of the largest page. */
 static void round_of_calls(int first_code, int code_count, int first_kind, int kind_count, int is_first)
 {
@@ -387,6 +417,7 @@ int main(int argc, char **argv)
         measure_shapes(rounds);
         return 0;
     }
+    choose_forms();
     check(CODES);
     measure(rounds);
     growth(argv[1], rounds);

@@ -3,7 +3,8 @@
 //!
 //! - Costs are 16 bits, signed, and a sum stops at the top, so that closed stays closed without a test: 512 stages of at most 56 stay below.
 //! - A state is numbered with its newest digit worth most: after state i come i / 2 and, for the digit 1, half of the states more. So the states
-//!   2 k and 2 k + 1 are made from k and k + half: whole registers are read, and two are woven into each other.
+//!   2 k and 2 k + 1 are made from k and k + half: whole registers are read, and two are woven into each other. Compilers differ in what they weave
+//!   well, so a stage is written in three forms, and the harness takes the one that is fastest as compiled.
 //! - The words of the states 2 k and 2 k + 1 are each other's complement, so one row of prices serves both. There is a constant row for each pair of
 //!   levels and label.
 //! - The weights are multiples of 4: the two lowest bits of a cost say whether the last two stages raised their first cell. That decides ties, and it is
@@ -229,8 +230,8 @@ fn price_page<const STATES: usize>(
         let mut costs = [0; STATES];
         for q in (0..bytes).rev() {
             let (cells, label) = (six(strip, q), labels[q]);
-            for i in [6, 4, 2, 0] {
-                back(&mut costs, row(cells, label, i), row(cells, label, i + 1));
+            for j in (0..4).rev() {
+                back(&mut costs, row(cells, label, 2 * j), row(cells, label, 2 * j + 1));
             }
         }
         if costs[0] == CLOSED {
@@ -305,49 +306,115 @@ fn spent(strip: usize) -> u64 {
 
 mod long {
     use super::*;
+    use std::sync::atomic::{AtomicUsize, Ordering};
 
-    type Rows = Aligned<[[i16; 32]; 32]>;
+    type Costs = [i16; 64];
+    type Rows = Aligned<[[i16; 64]; 32]>;
 
     pub(super) static ROWS: Rows = Aligned(rows(LONG, 0));
     pub(super) static EARLIER: Rows = Aligned(rows(LONG, 2));
     pub(super) static LATER: Rows = Aligned(rows(LONG, 1));
     pub(super) static CODE: Code<64> = Code::new(LONG);
 
-    /// One stage back, eight pairs of states at a time; of the costs the bits in KEPT count. Registers of a row go in pairs: each has the complements of
-    /// the other.
+    /// The states 2 k and 2 k + 1 from the states k and k + 32.
     #[inline(always)]
-    pub(super) fn stage<const KEPT: i16>(after: &[i16; 64], row: &[i16; 32], before: &mut [i16; 64]) {
-        for b in 0..4 {
-            let mut even = [0; 8];
-            let mut odd = [0; 8];
-            for i in 0..8 {
-                let k = 8 * b + i;
-                let (p, q) = (row[k], row[k ^ 8]);
-                let (x, y) = (after[k] & KEPT, after[k + 32] & KEPT);
-                even[i] = x.saturating_add(p).min(y.saturating_add(q));
-                odd[i] = x.saturating_add(q).min(y.saturating_add(p));
-            }
-            for i in 0..8 {
-                before[16 * b + 2 * i] = even[i];
-                before[16 * b + 2 * i + 1] = odd[i];
+    fn pair(x: i16, y: i16, p: i16, q: i16) -> (i16, i16) {
+        (x.saturating_add(p).min(y.saturating_add(q)), x.saturating_add(q).min(y.saturating_add(p)))
+    }
+
+    /// One stage back; of the costs after it the bits in KEPT count.
+    pub(super) trait Weave {
+        fn stage<const KEPT: i16>(after: &Costs, row: &[i16; 64], before: &mut Costs);
+    }
+
+    /// Eight pairs at a time. Registers of a row go in pairs: each has the complements of the other.
+    pub(super) struct Blocks;
+
+    impl Weave for Blocks {
+        #[inline(always)]
+        fn stage<const KEPT: i16>(after: &Costs, row: &[i16; 64], before: &mut Costs) {
+            for b in 0..4 {
+                let mut even = [0; 8];
+                let mut odd = [0; 8];
+                for i in 0..8 {
+                    let k = 8 * b + i;
+                    (even[i], odd[i]) = pair(after[k] & KEPT, after[k + 32] & KEPT, row[k], row[k ^ 8]);
+                }
+                for i in 0..8 {
+                    before[16 * b + 2 * i] = even[i];
+                    before[16 * b + 2 * i + 1] = odd[i];
+                }
             }
         }
     }
 
-    pub fn price(bytes: usize, page: &[u8], data: &[u8]) -> u64 {
-        price_page(&CODE, bytes, page, data, |costs, earlier, later| {
+    /// All pairs, then the weaving.
+    pub(super) struct TwoLoops;
+
+    impl Weave for TwoLoops {
+        #[inline(never)]
+        fn stage<const KEPT: i16>(after: &Costs, row: &[i16; 64], before: &mut Costs) {
+            let mut even = [0; 32];
+            let mut odd = [0; 32];
+            for k in 0..32 {
+                (even[k], odd[k]) = pair(after[k] & KEPT, after[k + 32] & KEPT, row[k], row[k + 32]);
+            }
+            for k in 0..32 {
+                before[2 * k] = even[k];
+                before[2 * k + 1] = odd[k];
+            }
+        }
+    }
+
+    /// Each pair where it belongs: four at a time, in half registers.
+    pub(super) struct OneLoop;
+
+    impl Weave for OneLoop {
+        #[inline(never)]
+        fn stage<const KEPT: i16>(after: &Costs, row: &[i16; 64], before: &mut Costs) {
+            for k in 0..32 {
+                (before[2 * k], before[2 * k + 1]) = pair(after[k] & KEPT, after[k + 32] & KEPT, row[k], row[k + 32]);
+            }
+        }
+    }
+
+    /// Two stages back for a price. In its loop, for then the costs stay in registers.
+    #[inline(always)]
+    fn priced<W: Weave>(costs: &mut Costs, earlier: usize, later: usize) {
+        let mut between = Aligned([0; 64]);
+        W::stage::<-1>(costs, &ROWS.0[later], &mut between.0);
+        W::stage::<-1>(&between.0, &ROWS.0[earlier], costs);
+    }
+
+    pub(super) fn price_by<W: Weave>(bytes: usize, page: &[u8], data: &[u8]) -> u64 {
+        price_page(&CODE, bytes, page, data, priced::<W>)
+    }
+
+    pub(super) fn write_by<W: Weave>(bytes: usize, page: &mut [u8], data: &[u8]) -> u64 {
+        write_page(&CODE, bytes, page, data, |costs, earlier, later| {
             let mut between = Aligned([0; 64]);
-            stage::<-1>(costs, &ROWS.0[later], &mut between.0);
-            stage::<-1>(&between.0, &ROWS.0[earlier], costs);
+            W::stage::<-4>(costs, &LATER.0[later], &mut between.0);
+            W::stage::<-1>(&between.0, &EARLIER.0[earlier], costs);
         })
     }
 
+    /// The form of a price, and that of a write.
+    pub(super) static FORMS: [AtomicUsize; 2] = [AtomicUsize::new(0), AtomicUsize::new(0)];
+
+    pub fn price(bytes: usize, page: &[u8], data: &[u8]) -> u64 {
+        match FORMS[0].load(Ordering::Relaxed) {
+            0 => price_by::<Blocks>(bytes, page, data),
+            1 => price_by::<TwoLoops>(bytes, page, data),
+            _ => price_by::<OneLoop>(bytes, page, data),
+        }
+    }
+
     pub fn write(bytes: usize, page: &mut [u8], data: &[u8]) -> u64 {
-        write_page(&CODE, bytes, page, data, |costs, earlier, later| {
-            let mut between = Aligned([0; 64]);
-            stage::<-4>(costs, &LATER.0[later], &mut between.0);
-            stage::<-1>(&between.0, &EARLIER.0[earlier], costs);
-        })
+        match FORMS[1].load(Ordering::Relaxed) {
+            0 => write_by::<Blocks>(bytes, page, data),
+            1 => write_by::<TwoLoops>(bytes, page, data),
+            _ => write_by::<OneLoop>(bytes, page, data),
+        }
     }
 }
 
@@ -400,6 +467,13 @@ mod short {
 }
 
 // ---------------------------------------------------------------- the interface for C
+
+/// Takes one of the three forms of the long code's stage, for prices and for writes.
+#[no_mangle]
+pub extern "C" fn shaped_choose(price: usize, write: usize) {
+    long::FORMS[0].store(price, std::sync::atomic::Ordering::Relaxed);
+    long::FORMS[1].store(write, std::sync::atomic::Ordering::Relaxed);
+}
 
 /// # Safety
 /// The pointers lead to as many bytes as the lengths say.

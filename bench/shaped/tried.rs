@@ -1,5 +1,5 @@
 //! Other shapes of the long code's search, kept so that the figures in docs/PERFORMANCE.md can be had again. All have 16-bit costs but the last.
-use super::long::{stage, CODE, EARLIER, LATER, ROWS};
+use super::long::{self, Blocks, OneLoop, TwoLoops, Weave, CODE, EARLIER, LATER, ROWS};
 use super::*;
 use std::os::raw::c_char;
 
@@ -10,14 +10,15 @@ struct Shape {
     write: fn(usize, &mut [u8], &[u8]) -> u64,
 }
 
-static SHAPES: [Shape; 7] = [
-    Shape { name: "the peer: a trail of two stages, followed while the next strip is searched\0", price: long::price, write: long::write },
-    Shape { name: "the same, each strip followed after its search\0", price: long::price, write: apart_write },
-    Shape { name: "the same, four strips followed together\0", price: long::price, write: four_write },
-    Shape { name: "the same order, the costs of every stage kept and compared on the way forward\0", price: kept_price, write: kept_write },
-    Shape { name: "the same, woven in one loop: half registers\0", price: halves_price, write: halves_write },
+static SHAPES: [Shape; 8] = [
+    Shape { name: "a trail of two stages, followed while the next strip is searched; woven in blocks\0", price: long::price_by::<Blocks>, write: long::write_by::<Blocks> },
+    Shape { name: "the same, woven in a second loop\0", price: long::price_by::<TwoLoops>, write: long::write_by::<TwoLoops> },
+    Shape { name: "the same, woven in the one loop\0", price: long::price_by::<OneLoop>, write: long::write_by::<OneLoop> },
+    Shape { name: "in blocks, each strip followed after its search\0", price: long::price_by::<Blocks>, write: apart_write },
+    Shape { name: "in blocks, four strips followed together\0", price: long::price_by::<Blocks>, write: four_write },
+    Shape { name: "in a second loop, the costs of every stage kept and compared on the way forward\0", price: kept_price, write: kept_write },
     Shape { name: "states in the paper's order, the costs of every stage kept and compared\0", price: paper_price, write: paper_write },
-    Shape { name: "8-bit costs, kept and compared; the peer where a cell of the strip is full\0", price: eight_price, write: eight_write },
+    Shape { name: "8-bit costs, kept and compared; the first shape where a cell of the page is full\0", price: eight_price, write: eight_write },
 ];
 
 // ---------------------------------------------------------------- pages
@@ -62,8 +63,8 @@ fn search(strip: &[u8], labels: &[u8], history: &mut History<64>) -> i16 {
         let (cells, label) = (six(strip, q), labels[q]);
         for j in (0..4).rev() {
             let mut between = [0; 64];
-            stage::<-4>(&costs, &LATER.0[row(cells, label, 2 * j + 1)], &mut between);
-            stage::<-1>(&between, &EARLIER.0[row(cells, label, 2 * j)], &mut costs);
+            Blocks::stage::<-4>(&costs, &LATER.0[row(cells, label, 2 * j + 1)], &mut between);
+            Blocks::stage::<-1>(&between, &EARLIER.0[row(cells, label, 2 * j)], &mut costs);
             history.0[q][j] = costs;
         }
     }
@@ -182,7 +183,7 @@ fn keep(strip: &[u8], labels: &[u8], kept: &mut Kept<i16>) -> i16 {
         let (cells, label) = (six(strip, q), labels[q]);
         for i in (0..8).rev() {
             let (before, after) = kept.0.split_at_mut(8 * q + i + 1);
-            stage::<-1>(&after[0], &ROWS.0[row(cells, label, i)], &mut before[8 * q + i]);
+            TwoLoops::stage::<-1>(&after[0], &ROWS.0[row(cells, label, i)], &mut before[8 * q + i]);
         }
     }
     kept.0[0][0]
@@ -197,39 +198,6 @@ fn kept_write(bytes: usize, page: &mut [u8], data: &[u8]) -> u64 {
     let mut kept = Aligned([[0; 64]; 8 * MOST + 1]);
     write_by(bytes, page, data, |strip, labels, digits| {
         let cost = keep(strip, labels, &mut kept);
-        compare(strip, labels, digits, |t, s| kept.0[t][s] as i32, |r, s, d| REVERSED[r][s][d], |s, d| s / 2 + 32 * d);
-        cost
-    })
-}
-
-/// Stages of one loop: each turn makes two states, so that the compiler takes four pairs at a time.
-fn halves_keep(strip: &[u8], labels: &[u8], kept: &mut Kept<i16>) -> i16 {
-    static WIDE: Aligned<[[i16; 64]; 32]> = Aligned(rows(LONG, 0));
-    for q in (0..labels.len()).rev() {
-        let (cells, label) = (six(strip, q), labels[q]);
-        for i in (0..8).rev() {
-            let row = &WIDE.0[row(cells, label, i)];
-            let (before, after) = kept.0.split_at_mut(8 * q + i + 1);
-            let (before, after) = (&mut before[8 * q + i], &after[0]);
-            for k in 0..32 {
-                let (x, y) = (after[k], after[k + 32]);
-                before[2 * k] = x.saturating_add(row[k]).min(y.saturating_add(row[k + 32]));
-                before[2 * k + 1] = x.saturating_add(row[k + 32]).min(y.saturating_add(row[k]));
-            }
-        }
-    }
-    kept.0[0][0]
-}
-
-fn halves_price(bytes: usize, page: &[u8], data: &[u8]) -> u64 {
-    let mut kept = Aligned([[0; 64]; 8 * MOST + 1]);
-    price_by(bytes, page, data, |strip, labels| halves_keep(strip, labels, &mut kept))
-}
-
-fn halves_write(bytes: usize, page: &mut [u8], data: &[u8]) -> u64 {
-    let mut kept = Aligned([[0; 64]; 8 * MOST + 1]);
-    write_by(bytes, page, data, |strip, labels, digits| {
-        let cost = halves_keep(strip, labels, &mut kept);
         compare(strip, labels, digits, |t, s| kept.0[t][s] as i32, |r, s, d| REVERSED[r][s][d], |s, d| s / 2 + 32 * d);
         cost
     })
@@ -379,14 +347,14 @@ fn keep_eight(strip: &[u8], labels: &[u8], kept: &mut Kept<u8>) -> i16 {
 
 fn eight_price(bytes: usize, page: &[u8], data: &[u8]) -> u64 {
     if full(page) {
-        return long::price(bytes, page, data);
+        return long::price_by::<Blocks>(bytes, page, data);
     }
     price_by(bytes, page, data, eight_strip)
 }
 
 fn eight_write(bytes: usize, page: &mut [u8], data: &[u8]) -> u64 {
     if full(page) {
-        return long::write(bytes, page, data);
+        return long::write_by::<Blocks>(bytes, page, data);
     }
     let mut kept = Aligned([[0; 64]; 8 * MOST + 1]);
     write_by(bytes, page, data, |strip, labels, digits| {
