@@ -45,28 +45,33 @@ static size_t data_length(void)
 typedef uint64_t price_call(uint32_t, uint32_t, uint32_t, const uint8_t *, size_t, const uint8_t *, size_t);
 typedef uint64_t write_call(uint32_t, uint32_t, uint32_t, uint8_t *, size_t, const uint8_t *, size_t);
 
-/* A program, and a page of its own. One without calls is a shape that was tried. The library is the first. */
+/* A program, and a page of its own. Its variant is the form of the shaped program's stage or, where there are no calls, a shape that was tried. */
 struct program {
     const char *name;
     price_call *price;
     write_call *write;
-    size_t shape;
+    size_t variant;
     uint8_t page[PAGE];
 };
 
+/* The library is the first. Compilers differ in which form of the shaped program they make best, so all of them run, and the fastest counts. */
+enum { SEGRUNOV, SHAPED, ORDINARY = SHAPED + FORMS };
+
 static struct program programs[PROGRAMS] = {
-    {.name = "segrunov", .price = segrunov_price, .write = segrunov_write},
-    {.name = "shaped", .price = shaped_price, .write = shaped_write},
-    {.name = "ordinary", .price = ordinary_price, .write = ordinary_write},
+    [SEGRUNOV] = {.name = "segrunov", .price = segrunov_price, .write = segrunov_write},
+    [SHAPED] = {.name = "shaped, in blocks", .price = shaped_price, .write = shaped_write, .variant = 0},
+    [SHAPED + 1] = {.name = "shaped, in two loops", .price = shaped_price, .write = shaped_write, .variant = 1},
+    [SHAPED + 2] = {.name = "shaped, in one loop", .price = shaped_price, .write = shaped_write, .variant = 2},
+    [ORDINARY] = {.name = "ordinary", .price = ordinary_price, .write = ordinary_write},
 };
-static int program_count = 3;
+static int program_count = ORDINARY + 1;
 
 /* The library and the shapes that were tried. */
 static void take_shapes(void)
 {
     program_count = 1;
     for (size_t shape = 0; tried_name(shape) != NULL && program_count < PROGRAMS; shape++) {
-        programs[program_count] = (struct program){.name = tried_name(shape), .shape = shape};
+        programs[program_count] = (struct program){.name = tried_name(shape), .variant = shape};
         program_count++;
     }
 }
@@ -74,9 +79,10 @@ static void take_shapes(void)
 static uint64_t called(struct program *p, int call)
 {
     if (p->price == NULL) {
-        return call == 0 ? tried_price(p->shape, job.bytes, p->page, page_length(), job.data, data_length())
-                         : tried_write(p->shape, job.bytes, p->page, page_length(), job.data, data_length());
+        return call == 0 ? tried_price(p->variant, job.bytes, p->page, page_length(), job.data, data_length())
+                         : tried_write(p->variant, job.bytes, p->page, page_length(), job.data, data_length());
     }
+    shaped_choose(p->variant);
     return call == 0 ? p->price(job.code, job.bytes, job.strips, p->page, page_length(), job.data, data_length())
                      : p->write(job.code, job.bytes, job.strips, p->page, page_length(), job.data, data_length());
 }
@@ -171,7 +177,7 @@ static void fail(const struct program *p, int call, uint64_t wanted, uint64_t an
     print_bytes("data", job.data, data_length());
     print_bytes("page before", job.page, page_length());
     print_bytes("page after", p->page, page_length());
-    print_bytes("page after, the library's", programs[0].page, page_length());
+    print_bytes("page after, the library's", programs[SEGRUNOV].page, page_length());
     exit(1);
 }
 
@@ -185,15 +191,15 @@ static uint64_t compared(int call, double times[PROGRAMS])
         const int p = (i + turn) % program_count;
         times[p] = timed(&programs[p], call, &answers[p]);
     }
-    const int keeps = call == 0 || SEGRUNOV_NUMBER(answers[0]) != SEGRUNOV_DONE;
+    const int keeps = call == 0 || SEGRUNOV_NUMBER(answers[SEGRUNOV]) != SEGRUNOV_DONE;
     for (int p = 0; p < program_count; p++) {
-        if (answers[p] != answers[0] || memcmp(programs[p].page, keeps ? job.page : programs[0].page, page_length()) != 0) {
-            fail(&programs[p], call, answers[0], answers[p]);
+        if (answers[p] != answers[SEGRUNOV] || memcmp(programs[p].page, keeps ? job.page : programs[SEGRUNOV].page, page_length()) != 0) {
+            fail(&programs[p], call, answers[SEGRUNOV], answers[p]);
         }
     }
     compared_calls++;
-    spent_calls += SEGRUNOV_NUMBER(answers[0]) == SEGRUNOV_SPENT;
-    return answers[0];
+    spent_calls += SEGRUNOV_NUMBER(answers[SEGRUNOV]) == SEGRUNOV_SPENT;
+    return answers[SEGRUNOV];
 }
 
 /* Price and write of a page, four times one after the other. */
@@ -209,9 +215,9 @@ static void check_page(uint32_t code, uint32_t bytes, uint32_t strips, uint32_t 
         const uint64_t price = compared(0, times);
         const uint64_t answer = compared(1, times);
         if (answer != price) {
-            fail(&programs[0], 1, price, answer);
+            fail(&programs[SEGRUNOV], 1, price, answer);
         }
-        memcpy(job.page, programs[0].page, page_length());
+        memcpy(job.page, programs[SEGRUNOV].page, page_length());
     }
 }
 
@@ -242,36 +248,6 @@ static double nanoseconds_a_stage(double time)
 }
 
 static double best[CODES][KINDS][CALLS][PROGRAMS];
-
-/* Compilers differ in which form of the shaped program's stage they make best: it gets the one that is fastest here. */
-static void choose_forms(void)
-{
-    static const char *const forms[FORMS] = {"in blocks", "in a second loop", "in the one loop"};
-    double times[CALLS][FORMS];
-    size_t chosen[CALLS] = {0, 0};
-    job.code = SEGRUNOV_LONG;
-    job.bytes = MOST;
-    job.strips = MOST;
-    make_page(1);
-    new_data();
-    for (int i = 0; i < 30; i++) {
-        for (size_t form = 0; form < FORMS; form++) {
-            shaped_choose(form, form);
-            for (int call = 0; call < CALLS; call++) {
-                uint64_t answer;
-                const double took = timed(&programs[1], call, &answer);
-                times[call][form] = i == 0 ? took : least(times[call][form], took);
-            }
-        }
-    }
-    for (int call = 0; call < CALLS; call++) {
-        for (size_t form = 1; form < FORMS; form++) {
-            chosen[call] = times[call][form] < times[call][chosen[call]] ? form : chosen[call];
-        }
-    }
-    shaped_choose(chosen[0], chosen[1]);
-    printf("The shaped program weaves %s for a price and %s for a write: the fastest forms by this compiler.\n\n", forms[chosen[0]], forms[chosen[1]]);
-}
 
 /* One round of the largest page. */
 static void round_of_calls(int first_code, int code_count, int first_kind, int kind_count, int is_first)
@@ -311,7 +287,7 @@ static void print_decoder(const char *name, double time)
 {
     printf("| %s | %.1f |", name, nanoseconds_a_stage(time));
     for (int k = 0; k < KINDS; k++) {
-        printf(" %.2f |", best[0][k][1][0] / time);
+        printf(" %.2f |", best[0][k][1][SEGRUNOV] / time);
     }
     printf("\n");
 }
@@ -330,8 +306,9 @@ static void measure(int rounds)
         for (int k = 0; k < KINDS; k++) {
             for (int call = 0; call < CALLS; call++) {
                 const double *b = best[c][k][call];
-                printf("| %u | %s | %s | %.1f | %.1f | %.1f | %.2f | %.2f |\n", (unsigned)codes[c], kinds[k], calls[call], nanoseconds_a_stage(b[0]),
-                       nanoseconds_a_stage(b[1]), nanoseconds_a_stage(b[2]), b[0] / b[1], b[0] / b[2]);
+                const double library = b[SEGRUNOV], shaped = least(b[SHAPED], least(b[SHAPED + 1], b[SHAPED + 2])), ordinary = b[ORDINARY];
+                printf("| %u | %s | %s | %.1f | %.1f | %.1f | %.2f | %.2f |\n", (unsigned)codes[c], kinds[k], calls[call], nanoseconds_a_stage(library),
+                       nanoseconds_a_stage(shaped), nanoseconds_a_stage(ordinary), library / shaped, library / ordinary);
             }
         }
     }
@@ -362,7 +339,7 @@ static double microseconds(uint32_t code, uint32_t bytes, uint32_t strips, int c
     job.strips = strips;
     make_page(1);
     new_data();
-    return 1e6 * timed(&programs[0], call, &answer);
+    return 1e6 * timed(&programs[SEGRUNOV], call, &answer);
 }
 
 static void growth(const char *file, int rounds)
@@ -417,7 +394,6 @@ int main(int argc, char **argv)
         measure_shapes(rounds);
         return 0;
     }
-    choose_forms();
     check(CODES);
     measure(rounds);
     growth(argv[1], rounds);

@@ -14,9 +14,9 @@ uint64_t ordinary_write(uint32_t code, uint32_t bytes, uint32_t strips, uint8_t 
 uint64_t shaped_price(uint32_t code, uint32_t bytes, uint32_t strips, const uint8_t *page, size_t page_len, const uint8_t *data, size_t data_len);
 uint64_t shaped_write(uint32_t code, uint32_t bytes, uint32_t strips, uint8_t *page, size_t page_len, const uint8_t *data, size_t data_len);
 
-/* Which of the FORMS forms of its stage the shaped program takes for prices and for writes of code 7. */
+/* Which of the FORMS forms of its stage the shaped program takes from now on, for code 7. */
 enum { FORMS = 3 };
-void shaped_choose(size_t price, size_t write);
+void shaped_choose(size_t form);
 
 /* The shapes of the long code's search that were tried (shaped/tried.rs): the name of one, NULL beyond the last, and its two calls. */
 const char *tried_name(size_t shape);

@@ -4,7 +4,7 @@
 //! - Costs are 16 bits, signed, and a sum stops at the top, so that closed stays closed without a test: 512 stages of at most 56 stay below.
 //! - A state is numbered with its newest digit worth most: after state i come i / 2 and, for the digit 1, half of the states more. So the states
 //!   2 k and 2 k + 1 are made from k and k + half: whole registers are read, and two are woven into each other. Compilers differ in what they weave
-//!   well, so a stage is written in three forms, and the harness takes the one that is fastest as compiled.
+//!   well, so a stage is written in three forms, and the harness takes the fastest.
 //! - The words of the states 2 k and 2 k + 1 are each other's complement, so one row of prices serves both. There is a constant row for each pair of
 //!   levels and label.
 //! - The weights are multiples of 4: the two lowest bits of a cost say whether the last two stages raised their first cell. That decides ties, and it is
@@ -398,11 +398,11 @@ mod long {
         })
     }
 
-    /// The form of a price, and that of a write.
-    pub(super) static FORMS: [AtomicUsize; 2] = [AtomicUsize::new(0), AtomicUsize::new(0)];
+    /// The form that is taken.
+    pub(super) static FORM: AtomicUsize = AtomicUsize::new(0);
 
     pub fn price(bytes: usize, page: &[u8], data: &[u8]) -> u64 {
-        match FORMS[0].load(Ordering::Relaxed) {
+        match FORM.load(Ordering::Relaxed) {
             0 => price_by::<Blocks>(bytes, page, data),
             1 => price_by::<TwoLoops>(bytes, page, data),
             _ => price_by::<OneLoop>(bytes, page, data),
@@ -410,7 +410,7 @@ mod long {
     }
 
     pub fn write(bytes: usize, page: &mut [u8], data: &[u8]) -> u64 {
-        match FORMS[1].load(Ordering::Relaxed) {
+        match FORM.load(Ordering::Relaxed) {
             0 => write_by::<Blocks>(bytes, page, data),
             1 => write_by::<TwoLoops>(bytes, page, data),
             _ => write_by::<OneLoop>(bytes, page, data),
@@ -468,11 +468,10 @@ mod short {
 
 // ---------------------------------------------------------------- the interface for C
 
-/// Takes one of the three forms of the long code's stage, for prices and for writes.
+/// Takes one of the three forms of the long code's stage from now on.
 #[no_mangle]
-pub extern "C" fn shaped_choose(price: usize, write: usize) {
-    long::FORMS[0].store(price, std::sync::atomic::Ordering::Relaxed);
-    long::FORMS[1].store(write, std::sync::atomic::Ordering::Relaxed);
+pub extern "C" fn shaped_choose(form: usize) {
+    long::FORM.store(form, std::sync::atomic::Ordering::Relaxed);
 }
 
 /// # Safety

@@ -10,8 +10,13 @@ struct Shape {
     write: fn(usize, &mut [u8], &[u8]) -> u64,
 }
 
+/// A name ends in a zero byte, for C.
 static SHAPES: [Shape; 8] = [
-    Shape { name: "a trail of two stages, followed while the next strip is searched; woven in blocks\0", price: long::price_by::<Blocks>, write: long::write_by::<Blocks> },
+    Shape {
+        name: "a trail of two stages, followed while the next strip is searched; woven in blocks\0",
+        price: long::price_by::<Blocks>,
+        write: long::write_by::<Blocks>,
+    },
     Shape { name: "the same, woven in a second loop\0", price: long::price_by::<TwoLoops>, write: long::write_by::<TwoLoops> },
     Shape { name: "the same, woven in the one loop\0", price: long::price_by::<OneLoop>, write: long::write_by::<OneLoop> },
     Shape { name: "in blocks, each strip followed after its search\0", price: long::price_by::<Blocks>, write: apart_write },
