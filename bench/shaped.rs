@@ -348,7 +348,7 @@ mod long {
         }
     }
 
-    /// All pairs, then the weaving.
+    /// All pairs, then the weaving. A call of its own: compiled into the loops around it, it is woven by more instructions.
     pub(super) struct TwoLoops;
 
     impl Weave for TwoLoops {
@@ -370,10 +370,12 @@ mod long {
     pub(super) struct OneLoop;
 
     impl Weave for OneLoop {
-        #[inline(never)]
+        #[inline(always)]
         fn stage<const KEPT: i16>(after: &Costs, row: &[i16; 64], before: &mut Costs) {
             for k in 0..32 {
-                (before[2 * k], before[2 * k + 1]) = pair(after[k] & KEPT, after[k + 32] & KEPT, row[k], row[k + 32]);
+                let (even, odd) = pair(after[k] & KEPT, after[k + 32] & KEPT, row[k], row[k + 32]);
+                before[2 * k] = even;
+                before[2 * k + 1] = odd;
             }
         }
     }
