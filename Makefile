@@ -3,9 +3,10 @@
 # make setup   the Debian packages that the tests need
 # make figures lines of code, definitions and proof by crate
 # make measure stack and time of each call of the C interface
+# make bench   the library's time beside other programs: docs/PERFORMANCE.md (ARCHIVE=file for another archive of the C interface)
 # make soak    the comparison ten times longer, with a new seed (or SEED=n)
 
-.PHONY: test run setup figures measure soak clean
+.PHONY: test run setup figures measure bench soak clean
 
 test: setup
 	@bash tests/gate
@@ -25,6 +26,10 @@ figures:
 
 measure: setup
 	@rt staticlib firmware > /dev/null && tests/build measure && target/tests/measure
+
+# It has a set-up of its own: the tests need neither its packages nor its programs.
+bench:
+	@bash bench/run
 
 SEED = $(shell date +%s)
 soak: setup
