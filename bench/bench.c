@@ -1,8 +1,8 @@
 /*
- * The library beside two Rust programs and two decoders.
+ * The library beside three Rust programs and two decoders of the same trellis.
  *
  *   bench FILE [ROUNDS]        the table of one run, and a plot into FILE: how time grows with L and S
- *   bench --tried [ROUNDS]     the shapes that were tried for the vector unit
+ *   bench --tried [ROUNDS]     the shapes that were tried in 16 and 8 bits
  *
  * Before each call the page is set anew, outside the time; a round makes every call once, by one program after the other; the least time of all rounds
  * counts. Every answer and every page is compared with the library's: the exit status is 1 where one differs. No time is judged.
@@ -45,7 +45,7 @@ static size_t data_length(void)
 typedef uint64_t price_call(uint32_t, uint32_t, uint32_t, const uint8_t *, size_t, const uint8_t *, size_t);
 typedef uint64_t write_call(uint32_t, uint32_t, uint32_t, uint8_t *, size_t, const uint8_t *, size_t);
 
-/* A program, and a page of its own. Its variant is the form of the shaped program's stage or, where there are no calls, a shape that was tried. */
+/* A program, and a page of its own. Its variant is the form of its stage or, where there are no calls, a shape that was tried. */
 struct program {
     const char *name;
     price_call *price;
@@ -54,17 +54,20 @@ struct program {
     uint8_t page[PAGE];
 };
 
-/* The library is the first. Compilers differ in which form of the shaped program they make best, so all of them run, and the fastest counts. */
-enum { SEGRUNOV, SHAPED, ORDINARY = SHAPED + FORMS };
+/* The library is the first. Compilers differ in which form of a stage they make best, so all of them run, and the fastest counts. */
+enum { SEGRUNOV, ORDINARY, SHAPED, NARROW = SHAPED + FORMS };
 
 static struct program programs[PROGRAMS] = {
     [SEGRUNOV] = {.name = "segrunov", .price = segrunov_price, .write = segrunov_write},
+    [ORDINARY] = {.name = "ordinary", .price = ordinary_price, .write = ordinary_write},
     [SHAPED] = {.name = "shaped, in blocks", .price = shaped_price, .write = shaped_write, .variant = 0},
     [SHAPED + 1] = {.name = "shaped, in two loops", .price = shaped_price, .write = shaped_write, .variant = 1},
     [SHAPED + 2] = {.name = "shaped, in one loop", .price = shaped_price, .write = shaped_write, .variant = 2},
-    [ORDINARY] = {.name = "ordinary", .price = ordinary_price, .write = ordinary_write},
+    [NARROW] = {.name = "narrow, in blocks", .price = narrow_price, .write = narrow_write, .variant = 0},
+    [NARROW + 1] = {.name = "narrow, in two loops", .price = narrow_price, .write = narrow_write, .variant = 1},
+    [NARROW + 2] = {.name = "narrow, in one loop", .price = narrow_price, .write = narrow_write, .variant = 2},
 };
-static int program_count = ORDINARY + 1;
+static int program_count = NARROW + FORMS;
 
 /* The library and the shapes that were tried. */
 static void take_shapes(void)
@@ -82,7 +85,7 @@ static uint64_t called(struct program *p, int call)
         return call == 0 ? tried_price(p->variant, job.bytes, p->page, page_length(), job.data, data_length())
                          : tried_write(p->variant, job.bytes, p->page, page_length(), job.data, data_length());
     }
-    shaped_choose(p->variant);
+    choose_form(p->variant);
     return call == 0 ? p->price(job.code, job.bytes, job.strips, p->page, page_length(), job.data, data_length())
                      : p->write(job.code, job.bytes, job.strips, p->page, page_length(), job.data, data_length());
 }
@@ -247,6 +250,12 @@ static double nanoseconds_a_stage(double time)
     return time * 1e9 / (BLOCKS * STAGES);
 }
 
+/* Of a program's forms. */
+static double fastest(const double times[FORMS])
+{
+    return least(times[0], least(times[1], times[2]));
+}
+
 static double best[CODES][KINDS][CALLS][PROGRAMS];
 
 /* One round of the largest page. */
@@ -301,14 +310,16 @@ static void measure(int rounds)
         osmocore = least(osmocore, decoded(libosmocore_decode, libosmocore_right, "libosmocore"));
         fec = least(fec, decoded(libfec_decode, libfec_right, "libfec"));
     }
-    printf("| code | page | call | segrunov | shaped | ordinary | segrunov / shaped | segrunov / ordinary |\n|---|---|---|---|---|---|---|---|\n");
+    printf("| code | page | call | segrunov | shaped | ordinary | narrow | segrunov / shaped | segrunov / ordinary | segrunov / narrow |\n"
+           "|---|---|---|---|---|---|---|---|---|---|\n");
     for (int c = 0; c < CODES; c++) {
         for (int k = 0; k < KINDS; k++) {
             for (int call = 0; call < CALLS; call++) {
                 const double *b = best[c][k][call];
-                const double library = b[SEGRUNOV], shaped = least(b[SHAPED], least(b[SHAPED + 1], b[SHAPED + 2])), ordinary = b[ORDINARY];
-                printf("| %u | %s | %s | %.1f | %.1f | %.1f | %.2f | %.2f |\n", (unsigned)codes[c], kinds[k], calls[call], nanoseconds_a_stage(library),
-                       nanoseconds_a_stage(shaped), nanoseconds_a_stage(ordinary), library / shaped, library / ordinary);
+                const double library = b[SEGRUNOV], ordinary = b[ORDINARY], shaped = fastest(b + SHAPED), narrow = fastest(b + NARROW);
+                printf("| %u | %s | %s | %.1f | %.1f | %.1f | %.1f | %.2f | %.2f | %.2f |\n", (unsigned)codes[c], kinds[k], calls[call],
+                       nanoseconds_a_stage(library), nanoseconds_a_stage(shaped), nanoseconds_a_stage(ordinary), nanoseconds_a_stage(narrow),
+                       library / shaped, library / ordinary, library / narrow);
             }
         }
     }

@@ -1,5 +1,5 @@
-//! The same job by a Rust program shaped for the vector unit of plain x86-64, in stable Rust without intrinsics. It is right for the house's weights
-//! and for strips of up to 64 bytes only, which is where its speed comes from:
+//! The same job by a Rust program in 16 bits, shaped for the vector unit of plain x86-64, in stable Rust without intrinsics. It is right for the
+//! house's weights and for strips of up to 64 bytes only, which is where its speed comes from:
 //!
 //! - Costs are 16 bits, signed, and a sum stops at the top, so that closed stays closed without a test: 512 stages of at most 56 stay below.
 //! - A state is numbered with its newest digit worth most: after state i come i / 2 and, for the digit 1, half of the states more. So the states
@@ -306,7 +306,8 @@ fn spent(strip: usize) -> u64 {
 
 mod long {
     use super::*;
-    use std::sync::atomic::{AtomicUsize, Ordering};
+    use crate::FORM;
+    use std::sync::atomic::Ordering::Relaxed;
 
     type Costs = [i16; 64];
     type Rows = Aligned<[[i16; 64]; 32]>;
@@ -400,11 +401,8 @@ mod long {
         })
     }
 
-    /// The form that is taken.
-    pub(super) static FORM: AtomicUsize = AtomicUsize::new(0);
-
     pub fn price(bytes: usize, page: &[u8], data: &[u8]) -> u64 {
-        match FORM.load(Ordering::Relaxed) {
+        match FORM.load(Relaxed) {
             0 => price_by::<Blocks>(bytes, page, data),
             1 => price_by::<TwoLoops>(bytes, page, data),
             _ => price_by::<OneLoop>(bytes, page, data),
@@ -412,7 +410,7 @@ mod long {
     }
 
     pub fn write(bytes: usize, page: &mut [u8], data: &[u8]) -> u64 {
-        match FORM.load(Ordering::Relaxed) {
+        match FORM.load(Relaxed) {
             0 => write_by::<Blocks>(bytes, page, data),
             1 => write_by::<TwoLoops>(bytes, page, data),
             _ => write_by::<OneLoop>(bytes, page, data),
@@ -469,12 +467,6 @@ mod short {
 }
 
 // ---------------------------------------------------------------- the interface for C
-
-/// Takes one of the three forms of the long code's stage from now on.
-#[no_mangle]
-pub extern "C" fn narrow_choose(form: usize) {
-    long::FORM.store(form, std::sync::atomic::Ordering::Relaxed);
-}
 
 /// # Safety
 /// The pointers lead to as many bytes as the lengths say.

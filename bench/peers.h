@@ -1,5 +1,5 @@
 /*
- * What the harness is linked with beside the library: the two Rust programs (peers.rs), with the arguments and the answers of segrunov_price and
+ * What the harness is linked with beside the library: the three Rust programs (peers.rs), with the arguments and the answers of segrunov_price and
  * segrunov_write on inputs that are in order, and the two decoders (decoders.c).
  */
 #ifndef PEERS_H
@@ -14,11 +14,14 @@ uint64_t ordinary_write(uint32_t code, uint32_t bytes, uint32_t strips, uint8_t 
 uint64_t shaped_price(uint32_t code, uint32_t bytes, uint32_t strips, const uint8_t *page, size_t page_len, const uint8_t *data, size_t data_len);
 uint64_t shaped_write(uint32_t code, uint32_t bytes, uint32_t strips, uint8_t *page, size_t page_len, const uint8_t *data, size_t data_len);
 
-/* Which of the FORMS forms of its stage the shaped program takes from now on, for code 7. */
-enum { FORMS = 3 };
-void shaped_choose(size_t form);
+uint64_t narrow_price(uint32_t code, uint32_t bytes, uint32_t strips, const uint8_t *page, size_t page_len, const uint8_t *data, size_t data_len);
+uint64_t narrow_write(uint32_t code, uint32_t bytes, uint32_t strips, uint8_t *page, size_t page_len, const uint8_t *data, size_t data_len);
 
-/* The shapes of the long code's search that were tried (shaped/tried.rs): the name of one, NULL beyond the last, and its two calls. */
+/* Which of the FORMS forms of their stage the shaped and the narrow program take from now on. */
+enum { FORMS = 3 };
+void choose_form(size_t form);
+
+/* The shapes of the long code's search that were tried (narrow/tried.rs): the name of one, NULL beyond the last, and its two calls. */
 const char *tried_name(size_t shape);
 uint64_t tried_price(size_t shape, uint32_t bytes, const uint8_t *page, size_t page_len, const uint8_t *data, size_t data_len);
 uint64_t tried_write(size_t shape, uint32_t bytes, uint8_t *page, size_t page_len, const uint8_t *data, size_t data_len);

@@ -7,10 +7,13 @@
 //! - The costs before every stage are kept, and the way forward compares them. Closed is so large that no cost reaches it, and so small that 512 stages
 //!   of two closed cells fit 32 bits.
 
+use crate::FORM;
+use std::sync::atomic::Ordering::Relaxed;
+
 const CLOSED: i32 = 1 << 19;
 
-/// The house's weights. The program does not know them: they pass through a black box.
-const HOUSE: [i32; 3] = [16, 20, 28];
+/// The house's weights. The compiler does not know them: each call reads them anew.
+static HOUSE: [i32; 3] = [16, 20, 28];
 
 /// The most bytes of a strip's data.
 const MOST: usize = 64;
@@ -122,21 +125,54 @@ fn six(strip: &[u8], q: usize) -> u64 {
     u64::from_le_bytes(w)
 }
 
-/// One stage back.
+/// The costs of the states 2 k and 2 k + 1, from those of k and k + half, by the prices of the word of state 2 k at the digit 0 and of its complement.
 #[inline(always)]
-fn stage<const STATES: usize>(after: &[i32; STATES], row: &[i32; STATES], before: &mut [i32; STATES]) {
+fn pair(x: i32, y: i32, word: i32, complement: i32) -> (i32, i32) {
+    ((x + word).min(y + complement), (x + complement).min(y + word))
+}
+
+/// Four pairs at a time, woven at once.
+const IN_BLOCKS: u8 = 0;
+/// All pairs, then the weaving.
+const IN_TWO_LOOPS: u8 = 1;
+/// Each pair where it belongs.
+const IN_ONE_LOOP: u8 = 2;
+
+/// One stage back, in one of the three forms: compilers differ in which one they make best.
+#[inline(always)]
+fn stage<const STATES: usize, const FORM: u8>(after: &[i32; STATES], row: &[i32; STATES], before: &mut [i32; STATES]) {
     let half = STATES / 2;
-    let mut even = [0; 32];
-    let mut odd = [0; 32];
-    for k in 0..half {
-        let x = after[k];
-        let y = after[k + half];
-        even[k] = (x + row[k]).min(y + row[k + half]);
-        odd[k] = (x + row[k + half]).min(y + row[k]);
-    }
-    for k in 0..half {
-        before[2 * k] = even[k];
-        before[2 * k + 1] = odd[k];
+    let at = |k: usize| pair(after[k], after[k + half], row[k], row[k + half]);
+    match FORM {
+        IN_BLOCKS if STATES == 64 => {
+            for b in 0..8 {
+                let mut even = [0; 4];
+                let mut odd = [0; 4];
+                for i in 0..4 {
+                    (even[i], odd[i]) = at(4 * b + i);
+                }
+                for i in 0..4 {
+                    before[8 * b + 2 * i] = even[i];
+                    before[8 * b + 2 * i + 1] = odd[i];
+                }
+            }
+        }
+        IN_TWO_LOOPS => {
+            let mut even = [0; 32];
+            let mut odd = [0; 32];
+            for k in 0..half {
+                (even[k], odd[k]) = at(k);
+            }
+            for k in 0..half {
+                before[2 * k] = even[k];
+                before[2 * k + 1] = odd[k];
+            }
+        }
+        _ => {
+            for k in 0..half {
+                (before[2 * k], before[2 * k + 1]) = at(k);
+            }
+        }
     }
 }
 
@@ -180,20 +216,20 @@ macro_rules! program {
                 }
             }
 
-            fn price_strip(known: &Known, rows: &Rows, bytes: usize) -> i32 {
+            fn price_strip<const FORM: u8>(known: &Known, rows: &Rows, bytes: usize) -> i32 {
                 let mut costs = [0; STATES];
                 for t in (0..8 * bytes).rev() {
                     let after = costs;
-                    stage(&after, &rows[known.rows[t] as usize % 32], &mut costs);
+                    stage::<STATES, FORM>(&after, &rows[known.rows[t] as usize % 32], &mut costs);
                 }
                 costs[0]
             }
 
-            fn search_strip(known: &Known, rows: &Rows, bytes: usize, kept: &mut [[i32; STATES]; 8 * MOST + 1]) -> i32 {
+            fn search_strip<const FORM: u8>(known: &Known, rows: &Rows, bytes: usize, kept: &mut [[i32; STATES]; 8 * MOST + 1]) -> i32 {
                 kept[8 * bytes] = [0; STATES];
                 for t in (0..8 * bytes).rev() {
                     let after = kept[t + 1];
-                    stage(&after, &rows[known.rows[t] as usize % 32], &mut kept[t]);
+                    stage::<STATES, FORM>(&after, &rows[known.rows[t] as usize % 32], &mut kept[t]);
                 }
                 kept[0][0]
             }
@@ -233,13 +269,13 @@ macro_rules! program {
                 }
             }
 
-            pub fn price_page(weights: [i32; 3], bytes: usize, page: &[u8], data: &[u8]) -> u64 {
+            fn price_page<const FORM: u8>(weights: [i32; 3], bytes: usize, page: &[u8], data: &[u8]) -> u64 {
                 let rows = rows(&prices(weights));
                 let mut known = Known { labels: [0; MOST], rows: [0; 8 * MOST] };
                 let mut total = 0;
                 for (k, (strip, part)) in page.chunks_exact(6 * bytes).zip(data.chunks_exact(bytes)).enumerate() {
                     know(strip, part, &mut known);
-                    let cost = price_strip(&known, &rows, bytes);
+                    let cost = price_strip::<FORM>(&known, &rows, bytes);
                     if cost >= CLOSED {
                         return spent(k);
                     }
@@ -248,7 +284,7 @@ macro_rules! program {
                 total
             }
 
-            pub fn write_page(weights: [i32; 3], bytes: usize, page: &mut [u8], data: &[u8]) -> u64 {
+            fn write_page<const FORM: u8>(weights: [i32; 3], bytes: usize, page: &mut [u8], data: &[u8]) -> u64 {
                 let table = prices(weights);
                 let rows = rows(&table);
                 let mut known = Known { labels: [0; MOST], rows: [0; 8 * MOST] };
@@ -258,7 +294,7 @@ macro_rules! program {
                 let mut total = 0;
                 for (k, (strip, part)) in page.chunks_exact(6 * bytes).zip(data.chunks_exact(bytes)).enumerate() {
                     know(strip, part, &mut known);
-                    let cost = search_strip(&known, &rows, bytes, &mut kept);
+                    let cost = search_strip::<FORM>(&known, &rows, bytes, &mut kept);
                     if cost >= CLOSED {
                         return spent(k);
                     }
@@ -270,6 +306,22 @@ macro_rules! program {
                     carry(strip, &labels[bytes * k..bytes * (k + 1)], &digits[bytes * k..bytes * (k + 1)]);
                 }
                 total
+            }
+
+            pub fn price(weights: [i32; 3], bytes: usize, page: &[u8], data: &[u8]) -> u64 {
+                match FORM.load(Relaxed) {
+                    0 => price_page::<IN_BLOCKS>(weights, bytes, page, data),
+                    1 => price_page::<IN_TWO_LOOPS>(weights, bytes, page, data),
+                    _ => price_page::<IN_ONE_LOOP>(weights, bytes, page, data),
+                }
+            }
+
+            pub fn write(weights: [i32; 3], bytes: usize, page: &mut [u8], data: &[u8]) -> u64 {
+                match FORM.load(Relaxed) {
+                    0 => write_page::<IN_BLOCKS>(weights, bytes, page, data),
+                    1 => write_page::<IN_TWO_LOOPS>(weights, bytes, page, data),
+                    _ => write_page::<IN_ONE_LOOP>(weights, bytes, page, data),
+                }
             }
         }
     };
@@ -289,10 +341,10 @@ fn spent(strip: usize) -> u64 {
 pub unsafe extern "C" fn shaped_price(code: u32, bytes: u32, _strips: u32, page: *const u8, page_len: usize, data: *const u8, data_len: usize) -> u64 {
     let page = std::slice::from_raw_parts(page, page_len);
     let data = std::slice::from_raw_parts(data, data_len);
-    let weights = std::hint::black_box(HOUSE);
+    let weights = std::ptr::read_volatile(&HOUSE);
     match code {
-        3 => short::price_page(weights, bytes as usize, page, data),
-        _ => long::price_page(weights, bytes as usize, page, data),
+        3 => short::price(weights, bytes as usize, page, data),
+        _ => long::price(weights, bytes as usize, page, data),
     }
 }
 
@@ -302,9 +354,9 @@ pub unsafe extern "C" fn shaped_price(code: u32, bytes: u32, _strips: u32, page:
 pub unsafe extern "C" fn shaped_write(code: u32, bytes: u32, _strips: u32, page: *mut u8, page_len: usize, data: *const u8, data_len: usize) -> u64 {
     let page = std::slice::from_raw_parts_mut(page, page_len);
     let data = std::slice::from_raw_parts(data, data_len);
-    let weights = std::hint::black_box(HOUSE);
+    let weights = std::ptr::read_volatile(&HOUSE);
     match code {
-        3 => short::write_page(weights, bytes as usize, page, data),
-        _ => long::write_page(weights, bytes as usize, page, data),
+        3 => short::write(weights, bytes as usize, page, data),
+        _ => long::write(weights, bytes as usize, page, data),
     }
 }
