@@ -395,11 +395,12 @@ static void growth(const char *file, int rounds)
 int main(int argc, char **argv)
 {
     const int rounds = argc > 2 ? atoi(argv[2]) : 100;
-    if (argc < 2 || argc > 3 || rounds < 1) {
+    const int tried = argc > 1 && strcmp(argv[1], "--tried") == 0;
+    if (argc < 2 || argc > 3 || rounds < 1 || (argv[1][0] == '-' && !tried)) {
         fprintf(stderr, "usage: bench FILE [ROUNDS], or bench --tried [ROUNDS]\n");
         return 2;
     }
-    if (strcmp(argv[1], "--tried") == 0) {
+    if (tried) {
         take_shapes();
         check(1);
         measure_shapes(rounds);

@@ -213,15 +213,15 @@ fn carry(taps: Taps, strip: &mut [u8], labels: &[u8], digits: &[u8]) {
     }
 }
 
-/// Prices a page; `back` takes the costs two stages back, by the rows of the earlier stage and the later.
+/// Two stages back: the costs before them from those after them, by the rows of the earlier stage and the later. A method, not a closure, so
+/// that it can be bound to be compiled into its loop, where the costs stay in registers.
+trait Back<const STATES: usize> {
+    fn back(costs: &mut [i16; STATES], earlier: usize, later: usize);
+}
+
+/// Prices a page.
 #[inline(always)]
-fn price_page<const STATES: usize>(
-    code: &Code<STATES>,
-    bytes: usize,
-    page: &[u8],
-    data: &[u8],
-    back: impl Fn(&mut [i16; STATES], usize, usize),
-) -> u64 {
+fn price_page<B: Back<STATES>, const STATES: usize>(code: &Code<STATES>, bytes: usize, page: &[u8], data: &[u8]) -> u64 {
     let mut labels = [0; MOST];
     let labels = &mut labels[..bytes];
     let mut total = 0;
@@ -231,7 +231,7 @@ fn price_page<const STATES: usize>(
         for q in (0..bytes).rev() {
             let (cells, label) = (six(strip, q), labels[q]);
             for j in (0..4).rev() {
-                back(&mut costs, row(cells, label, 2 * j), row(cells, label, 2 * j + 1));
+                B::back(&mut costs, row(cells, label, 2 * j), row(cells, label, 2 * j + 1));
             }
         }
         if costs[0] == CLOSED {
@@ -242,15 +242,9 @@ fn price_page<const STATES: usize>(
     total
 }
 
-/// Writes a page; `back` takes the costs two stages back and leaves the trail of these two in the lowest bits.
+/// Writes a page; going back leaves the trail of the two stages in the lowest bits.
 #[inline(always)]
-fn write_page<const STATES: usize>(
-    code: &Code<STATES>,
-    bytes: usize,
-    page: &mut [u8],
-    data: &[u8],
-    back: impl Fn(&mut [i16; STATES], usize, usize),
-) -> u64 {
+fn write_page<B: Back<STATES>, const STATES: usize>(code: &Code<STATES>, bytes: usize, page: &mut [u8], data: &[u8]) -> u64 {
     let strips = page.len() / (6 * bytes);
     let mut one: History<STATES> = Aligned([[[0; STATES]; 4]; MOST]);
     let mut other: History<STATES> = Aligned([[[0; STATES]; 4]; MOST]);
@@ -274,7 +268,7 @@ fn write_page<const STATES: usize>(
             for j in 0..4 {
                 if k < strips {
                     let i = 6 - 2 * j;
-                    back(&mut costs, row(cells, label, i), row(cells, label, i + 1));
+                    B::back(&mut costs, row(cells, label, i), row(cells, label, i + 1));
                     history.0[q][3 - j] = costs;
                 }
                 let two = two_digits(code, bits >> (12 * j), &old.0[f][j], state);
@@ -307,6 +301,7 @@ fn spent(strip: usize) -> u64 {
 mod long {
     use super::*;
     use crate::FORM;
+    use std::marker::PhantomData;
     use std::sync::atomic::Ordering::Relaxed;
 
     type Costs = [i16; 64];
@@ -381,24 +376,34 @@ mod long {
         }
     }
 
-    /// Two stages back for a price. In its loop, for then the costs stay in registers.
-    #[inline(always)]
-    fn priced<W: Weave>(costs: &mut Costs, earlier: usize, later: usize) {
-        let mut between = Aligned([0; 64]);
-        W::stage::<-1>(costs, &ROWS.0[later], &mut between.0);
-        W::stage::<-1>(&between.0, &ROWS.0[earlier], costs);
+    struct Priced<W>(PhantomData<W>);
+
+    impl<W: Weave> Back<64> for Priced<W> {
+        #[inline(always)]
+        fn back(costs: &mut Costs, earlier: usize, later: usize) {
+            let mut between = Aligned([0; 64]);
+            W::stage::<-1>(costs, &ROWS.0[later], &mut between.0);
+            W::stage::<-1>(&between.0, &ROWS.0[earlier], costs);
+        }
     }
 
-    pub(super) fn price_by<W: Weave>(bytes: usize, page: &[u8], data: &[u8]) -> u64 {
-        price_page(&CODE, bytes, page, data, priced::<W>)
-    }
+    struct Marked<W>(PhantomData<W>);
 
-    pub(super) fn write_by<W: Weave>(bytes: usize, page: &mut [u8], data: &[u8]) -> u64 {
-        write_page(&CODE, bytes, page, data, |costs, earlier, later| {
+    impl<W: Weave> Back<64> for Marked<W> {
+        #[inline(always)]
+        fn back(costs: &mut Costs, earlier: usize, later: usize) {
             let mut between = Aligned([0; 64]);
             W::stage::<-4>(costs, &LATER.0[later], &mut between.0);
             W::stage::<-1>(&between.0, &EARLIER.0[earlier], costs);
-        })
+        }
+    }
+
+    pub(super) fn price_by<W: Weave>(bytes: usize, page: &[u8], data: &[u8]) -> u64 {
+        price_page::<Priced<W>, 64>(&CODE, bytes, page, data)
+    }
+
+    pub(super) fn write_by<W: Weave>(bytes: usize, page: &mut [u8], data: &[u8]) -> u64 {
+        write_page::<Marked<W>, 64>(&CODE, bytes, page, data)
     }
 
     pub fn price(bytes: usize, page: &[u8], data: &[u8]) -> u64 {
@@ -449,20 +454,34 @@ mod short {
         }
     }
 
-    pub fn price(bytes: usize, page: &[u8], data: &[u8]) -> u64 {
-        price_page(&CODE, bytes, page, data, |costs, earlier, later| {
+    struct Priced;
+
+    impl Back<4> for Priced {
+        #[inline(always)]
+        fn back(costs: &mut [i16; 4], earlier: usize, later: usize) {
             let mut between = [0; 4];
             stage::<-1>(costs, &ROWS.0[later], &mut between);
             stage::<-1>(&between, &ROWS.0[earlier], costs);
-        })
+        }
     }
 
-    pub fn write(bytes: usize, page: &mut [u8], data: &[u8]) -> u64 {
-        write_page(&CODE, bytes, page, data, |costs, earlier, later| {
+    struct Marked;
+
+    impl Back<4> for Marked {
+        #[inline(always)]
+        fn back(costs: &mut [i16; 4], earlier: usize, later: usize) {
             let mut between = [0; 4];
             stage::<-4>(costs, &LATER.0[later], &mut between);
             stage::<-1>(&between, &EARLIER.0[earlier], costs);
-        })
+        }
+    }
+
+    pub fn price(bytes: usize, page: &[u8], data: &[u8]) -> u64 {
+        price_page::<Priced, 4>(&CODE, bytes, page, data)
+    }
+
+    pub fn write(bytes: usize, page: &mut [u8], data: &[u8]) -> u64 {
+        write_page::<Marked, 4>(&CODE, bytes, page, data)
     }
 }
 

@@ -4,7 +4,6 @@
 --   conv-dot                        a convolution at a stage is the sum of the generator with the bits so far
 --   dot-state, push-state           a register of m bits is all that generators of memory m need
 --   conv-quotient, quotient-below   the generator times the quotient is the data, and nothing else is
---   conv-cancel                     a generator whose digit 0 is 1 loses nothing
 use mathlib.Core.Path.{_≡_, refl, sym, _∙_, ap, ap₂, fun-ext}
 use mathlib.Core.Bool.{Bool, true, false, _&&_}
 use mathlib.Core.List.{List, [], _∷_}
@@ -91,7 +90,3 @@ module _ (m : ℕ) (gs : List Bool) where
     -- the quotient of a product is the factor, below stage n
     pub quotient-below : (n : ℕ) (x d : Bits) → Agree n (conv (true ∷ gs) x) d → Agree n x (quotient m gs d)
     quotient-below n x d e = conv-inj n gs x (quotient m gs d) (rw (conv-quotient d) e)
-
--- cancellation for all stages
-pub conv-cancel : (gs : List Bool) (x y : Bits) → conv (true ∷ gs) x ≡ conv (true ∷ gs) y → x ≡ y
-conv-cancel gs x y e = fun-ext λ t. conv-inj (suc t) gs x y (record { at = λ s h. ap (λ (z : Bits). z s) e }) .at t (omega arith)

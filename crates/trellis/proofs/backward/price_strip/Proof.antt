@@ -44,7 +44,8 @@ picks-of-requires c κs = search needs
 run-requires : tie.Need-run-requires Inv-loop μ-loop
 run-requires c κs =
     let h = c .before .before .before .before .loop .inv in
-    record { long = h .long; costs-le = h .cut; rows-le = c .before .before .before .before .before .before .before .before .before .pre .cut }
+    let s = c .before .before .before .before .before .before .before .before .before in
+    record { long = h .long; costs-le = h .cut; rows-le = s .pre .cut }
 
 settle-requires : tie.Need-settle-requires Inv-loop μ-loop
 settle-requires c κs =
