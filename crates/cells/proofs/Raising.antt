@@ -4,6 +4,7 @@
 --   raisedTo-length   a page raised is as long as before
 --   raisedTo-bit      bit i of cell c, and no other list of bytes has these bits (-only)
 --   raisedTo-level    the levels after it are the given ones
+--   raisedTo-keeps    a cell that isn't raised keeps its bits
 --   raisedTo-same     it depends on the levels to reach, and on the starts (-start), of the page's own cells alone
 --   raisedTo-none     to raise each cell to its own level changes nothing
 --   canRise-yes       which cells can rise, and which cannot (-outside, -full)
@@ -154,6 +155,14 @@ module _ (start : ℕ → ℕ) (page : List ℕ) (to : ℕ → ℕ) where
       let e = raised-ones (start c) (to c - level page c) (triple-three page c) (omega arith) in
       let b = ap (bitOf (raisedTo start page to)) (sym z) ∙ raisedTo-bit c 0 (omega arith) (omega arith) in
       omega (arith, b, raisedTo-bit c 1 (omega arith) (omega arith), raisedTo-bit c 2 (omega arith) h)
+
+  -- a cell that isn't raised keeps its bits
+  pub raisedTo-keeps : (c i : ℕ) → i < 3 → 3 * c + i < 8 * length page → to c ≤ level page c
+      → bitOf (raisedTo start page to) (3 * c + i) ≡ bitOf page (3 * c + i)
+  unfolding raisedTimes
+  raisedTo-keeps c i h k l =
+      let e : to c - level page c ≡ 0 = omega arith in
+      raisedTo-bit c i h k ∙ ap (λ (n : ℕ). getD (raisedTimes (start c) n (triple page c)) i 0) e ∙ triple-bit page c i h
 
   -- the page raised is the one list of bytes with these bits
   raisedTo-only : (after : List ℕ) → length after ≡ length page → Octets after
