@@ -1,10 +1,10 @@
--- A BLOCK is eight stages. Costs are held in 256ths, and a word whose first code bit is not the row's costs a little more, at a bit of the
--- low
--- byte that is the stage's own: so ties fall as they must, and the low byte of a state's number says how it came to the end of the block.
---   pickAt picks i        the row of stage i of the block: a byte of picks
+-- A BLOCK is eight stages. Costs are held in 256ths, and a word whose first code bit is not the row's costs a little more, at a bit of
+-- the low byte that is the stage's own: so ties fall as they must, and the low byte of a state's number says how it came to the end of
+-- the block.
+--   pickAt picks i       the row of stage i of the block: a byte of picks
 --   flagOf low j         1 where the first code bit of the word j is not `low`
 --   markedOf rows r k    the price of each word of the row r, marked at the bit k
---   blockOf                the numbers of the states before the last k stages of the block
+--   blockOf              the numbers of the states before the last k stages of the block
 --   settledOf            a number with its low byte cleared, and cut off at `top`
 --   RunAsked, Ran, Settled, Kept   what the functions of a block ask and give
 use Prim.Native.Nat.{ℕ, zero, suc, _+_, _-_, _*_, _/_, _%_, _^_, _≤_, _<_, min}

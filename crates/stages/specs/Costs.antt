@@ -1,7 +1,7 @@
 -- Costs as a program holds them: a number for each optional cost. Closed is any number from `closed` on, never a cost, and no sum brings it
 -- back among the costs.
---   Tells   the number v tells an optional cost
---   Trailed    the same in `unit`ths, with the trail of k stages below the unit
+--   Tells     the number v tells an optional cost
+--   Trailed   the same in `unit`ths, with the trail of k stages below the unit
 use mathlib.Core.Path.{_≡_}
 use Prim.Native.Nat.{ℕ, _+_, _*_, _^_, _≤_, _<_}
 use mathlib.Core.Option.{Option, none, some}

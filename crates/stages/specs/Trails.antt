@@ -1,6 +1,5 @@
 -- THE TRAIL: where the plan of the plain search leaves the bit that wins ties. From the trail of a state and the stages' bits the first
--- code
--- bits of its way follow, and from them its digits.
+-- code bits of its way follow, and from them its digits.
 --   stagesFrom   k stages from stage t on
 --   missOf       1 where the first code bit of a branch is not the stage's
 --   digitOf      the plan's digit
@@ -46,9 +45,8 @@ module _ {G : Type 0} (words : ℕ → ℕ) (quote : G → Prices) (next : G →
   trailOf (suc k) [] s = 0
   trailOf (suc k) (g ∷ gs) s = missOf g s (digitOf g gs s) * 2 ^ k + trailOf k gs (next g s (digitOf g gs s))
 
--- the row r of a table tells the prices q, none of them above `most`. Weights and layouts differ in how the table is filled, and in which
--- row
--- a stage picks
+-- the row r of a table tells the prices q, none of them above `most`. Weights and layouts differ in how the table is filled, and in
+-- which row a stage picks
 pub record Quoted (most : ℕ) (rows : List ℕ) (r : ℕ) (q : Prices) : Type 0 where
   pub plain : ℕ → ℕ
   pub in-units : (j : ℕ) → j ≤ 3 → getD rows (4 * r + j) 0 ≡ 256 * plain j

@@ -1,6 +1,5 @@
-// Eight stages at a time. The choice of each stage stands in the low byte of the costs, so that a stage is a sum and a minimum, and a price
-// and
-// a write share it.
+// Eight stages at a time. The choice of each stage stands in the low byte of the costs, so that a stage is a sum and a minimum, and a
+// price and a write share it.
 use crate::CLOSED;
 use crate::stage::least;
 use crate::stage::stage;
@@ -89,9 +88,8 @@ fn at_stage(bit: u32, i: u32) -> u32
     bit << (7 - i)
 }
 
-// The prices of a row for stage i of eight, in 256ths. A word whose first code bit is not the row's costs a little more, at the stage's own
-// bit
-// of the low byte: so a tie goes to the other word, and the bit says afterwards which was taken.
+// The prices of a row for stage i of eight, in 256ths. A word whose first code bit is not the row's costs a little more, at the stage's
+// own bit of the low byte: so a tie goes to the other word, and the bit says afterwards which was taken.
 fn marked(rows: &[u32; 128], row: usize, i: u32) -> [u32; 4]
     requires { ⌜ (row < 32) × (i < 8) × ((k : ℕ) → getD (now rows) k 0 ≤ top) ⌝ }
     ensures { λ r. ⌜ ((j : ℕ) → j ≤ 3 → getD r j 0 ≡ markedOf (now (rows .entry)) row (7 - i) j) ⌝ }
@@ -109,9 +107,8 @@ fn marked(rows: &[u32; 128], row: usize, i: u32) -> [u32; 4]
     ]
 }
 
-// Eight stages of the long code, the last first. The table is a constant here, where the stage is compiled into it: lent from further out
-// it
-// costs four times as much.
+// Eight stages of the long code, the last first. The table is a constant here, where the stage is compiled into it: lent from further
+// out, the compiler no longer makes masks of it.
 fn run_long(costs: &mut [u32; 64], rows: &[u32; 128], picks: u64)
     requires { ⌜ RunAsked (now costs) (now rows) ⌝ }
     ensures { λ _. ⌜ Ran 64 (wordsOf long) (now (rows .entry)) picks (now (costs .entry)) (now (costs .exit)) ⌝ }

@@ -1,6 +1,5 @@
 // The stages of the search, from the back, on rows of four prices: one stage, eight of them with their choices in the low byte of the
-// costs,
-// and the low byte kept and cleared.
+// costs, and the low byte kept and cleared.
 pub mod blocks;
 pub mod stage;
 

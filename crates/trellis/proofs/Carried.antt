@@ -1,14 +1,14 @@
 -- CARRYING THE DIGITS OUT: what the table of pairs shows, the bits of a block by it, and the strip after one block more.
---   shown-less     what is shown of a cell is three bits
---   shows-all      256 numbers that are the pairs of two cells are their table
---   shown-fits     the bits of a block fit 48 bits
---   shown-more     the bits of one stage more, as the code adds them
---   carriedBelow   the levels to reach where the cells before cell m are carried out
---   carried-none   before the first cell the strip is as it was
---   carried-block  one block more is carried out where its 48 bits are those that the table shows
---   carried-all    past the last cell all are carried out
---   digits-window                the window of eight digits is their byte
---   block-first, block-second    what the digits of a block want of its cells
+--   shown-less                  what is shown of a cell is three bits
+--   shows-all                   256 numbers that are the pairs of two cells are their table
+--   shown-fits                  the bits of a block fit 48 bits
+--   shown-more                  the bits of one stage more, as the code adds them
+--   carriedBelow                the levels to reach where the cells before cell m are carried out
+--   carried-none                before the first cell the strip is as it was
+--   carried-block               one block more is carried out where its 48 bits are those that the table shows
+--   carried-all                 past the last cell all are carried out
+--   digits-window               the window of eight digits is their byte
+--   block-first, block-second   what the digits of a block want of its cells
 use mathlib.Core.Path.{_≡_, refl, sym, _∙_, ap, ap₂}
 use mathlib.Core.Logic.{⊎-elim}
 use mathlib.Core.Bool.{Bool, cond}

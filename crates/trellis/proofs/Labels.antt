@@ -1,7 +1,7 @@
 -- Eight stages divided by the first generator, in the program: the labels of the data, forth and back, and the digits of a way.
---   byte-window    the window of a byte of data
---   labels-forth   what is divided after eight labels are the next eight
---   labels-back    and the division undone gives the eight before
+--   byte-window     the window of a byte of data
+--   labels-forth    what is divided after eight labels are the next eight
+--   labels-back     and the division undone gives the eight before
 --   followed-step   what is divided after eight digits of a way that is followed are the next eight
 use mathlib.Core.Path.{_≡_, sym, _∙_, ap, ap₂}
 use mathlib.Core.List.{List}

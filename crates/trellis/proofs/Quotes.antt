@@ -3,7 +3,7 @@
 --   price-nothing, price-step           what a cell costs to show a bit, in 256ths
 --   price-cut, table-filled             the price of a word, and the table of all
 --   pairList, pairs-le                  the program's table of pairs, none of them above 15
---   row-most, row-shl                     a row is at most 31, and fits its byte
+--   row-most, row-shl                   a row is at most 31, and fits its byte
 --   picks-less, picks-fit, picks-more   a row is added to those that are picked
 --   bits-bit, bits-less                 the 48 bits of a block are bits of the strip
 --   six-bit, pair-levels                six of them are a stage's, and give the levels of its two cells

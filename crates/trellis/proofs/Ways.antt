@@ -1,15 +1,15 @@
 -- The stages of a strip in the plain search, and what the numbers of the states tell over blocks of them, from the last block to the first.
---   Suits, suits, suits-sound                  what the program asks of a code and its weights, and that every code has it
+--   Suits, suits, suits-sound                     what the program asks of a code and its weights, and that every code has it
 --   words-le, state-inside, next-zero, next-one   the words and the next states of a code
---   label-told                                 the label of a stage
---   stages-pairs, stages-are                   the stages of a strip are those of the search
+--   label-told                                    the label of a stage
+--   stages-pairs, stages-are                      the stages of a strip are those of the search
 --   BlocksTold                                    what the loop over the blocks holds
---   blocks-last, block-told, blocks-more     at its start, and through a turn
---   blocks-first                              at its end: the number of state 0 tells the strip's outcome
---   block-quoted                               the rows of a block tell the prices of its stages
---   TracedFrom, traced-more                    the history of the blocks from q on
---   block-lows                                 the bits that the first cells of a block show
---   store-back                                 a loop that stores from the last place back
+--   blocks-last, block-told, blocks-more          at its start, and through a turn
+--   blocks-first                                  at its end: the number of state 0 tells the strip's outcome
+--   block-quoted                                  the rows of a block tell the prices of its stages
+--   TracedFrom, traced-more                       the history of the blocks from q on
+--   block-lows                                    the bits that the first cells of a block show
+--   store-back                                    a loop that stores from the last place back
 use mathlib.Core.Path.{_≡_, refl, sym, _∙_, ap, fun-ext, subst}
 use mathlib.Core.Bool.{true, false}
 use mathlib.Core.Logic.{⊎-elim}

@@ -5,7 +5,7 @@
 --   Table W rows             the table of the weights W, in 256ths
 --   Priced W rows            the same, of three weights of a byte each, none of them free
 --   pairOf                   the levels of two cells by their six bits
---   stageRow bits labels i      the row of stage i of a block
+--   stageRow bits labels i   the row of stage i of a block
 --   bitsAt strip q           the 48 bits of block q
 use mathlib.Core.Path.{_≡_}
 use mathlib.Core.Bool.{cond}
@@ -24,9 +24,8 @@ stepList W = W ++ (closed ∷ [])
 unfoldable pub priceFor : List ℕ → ℕ → ℕ → ℕ
 priceFor steps l v = cond (eqb (l % 2) v) 0 (getD steps l 0)
 
--- row r = k div 4 has the first level r mod 4, the second level r div 4 mod 4 and the label r div 16; its word j = k mod 4 asks bit 0 of j
--- of
--- the first cell, and bit 1 with the label added of the second. A word that is closed costs closed
+-- row r = k div 4 has the first level r mod 4, the second level r div 4 mod 4 and the label r div 16; its word j = k mod 4 asks bit 0
+-- of j of the first cell, and bit 1 with the label added of the second. A word that is closed costs closed
 unfoldable pub rowPrice : List ℕ → ℕ → ℕ
 rowPrice steps k = min (priceFor steps (k / 4 % 4) (k % 2) + priceFor steps (k / 16 % 4) ((k / 2 + k / 64) % 2)) closed
 

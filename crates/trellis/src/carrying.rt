@@ -1,6 +1,6 @@
-// Carrying the digits of a strip out, eight stages at a time: each cell that does not show the bit that they want is raised by one. Which
-// bit
-// of a cell a raise sets is a matter of the bit at which it starts to look for a zero (`startOf`): the table is made for any start.
+// Carrying the digits of a strip out, eight stages at a time: each cell that does not show the bit that they want is raised by one.
+// Which bit of a cell a raise sets is a matter of the bit at which it starts to look for a zero (`startOf`): the table is made for any
+// start.
 use crate::backward::data_window;
 use crate::rows::bits_of;
 use codes::Code;

@@ -97,9 +97,8 @@ fn price_for(steps: [u32; 4], level: usize, v: usize) -> u32
     if level % 2 == v { 0 } else { 256 * w }
 }
 
-// The table of rows by the weights: row r has the first level r mod 4, the second level r div 4 mod 4 and the label r div 16. A word that
-// is
-// closed costs closed, however many of its cells are.
+// The table of rows by the weights: row r has the first level r mod 4, the second level r div 4 mod 4 and the label r div 16. A word
+// that is closed costs closed, however many of its cells are.
 pub fn rows_of(weights: [u8; 3]) -> [u32; 128]
     ensures { λ r. ⌜ Table weights r ⌝ }
 {
