@@ -13,39 +13,12 @@
 
 mod tried;
 
-/// The most bytes of a strip's data, and the most strips.
-const MOST: usize = 64;
+use crate::tables::*;
 
 // ---------------------------------------------------------------- tables, made by the compiler
 
 const CLOSED: i16 = i16::MAX;
 const STEP: [i16; 4] = [16, 20, 28, CLOSED];
-
-/// The generators' taps, the present stage's digit worth 1.
-#[derive(Clone, Copy)]
-struct Taps {
-    memory: usize,
-    first: usize,
-    second: usize,
-}
-
-const SHORT: Taps = Taps { memory: 2, first: 0b111, second: 0b101 };
-const LONG: Taps = Taps { memory: 6, first: 0b100_1111, second: 0b110_1101 };
-
-const fn parity(x: usize) -> usize {
-    x.count_ones() as usize % 2
-}
-
-/// The last digits of a state, the newest worth 2: the window of its branch with the digit 0.
-const fn window(taps: Taps, state: usize) -> usize {
-    let mut sum = 0;
-    let mut i = 0;
-    while i < taps.memory {
-        sum += ((state >> (taps.memory - 1 - i)) % 2) << (i + 1);
-        i += 1;
-    }
-    sum
-}
 
 /// What it costs that a cell shows a bit.
 const fn price(level: usize, wanted: usize) -> i16 {
@@ -71,43 +44,6 @@ const fn rows<const WIDTH: usize>(taps: Taps, mark: i16) -> [[i16; WIDTH]; 32] {
         r += 1;
     }
     rows
-}
-
-/// The levels of two cells by their six bits: the first, and 4 times the second.
-static LEVELS: [u8; 64] = {
-    let mut table = [0; 64];
-    let mut x: usize = 0;
-    while x < 64 {
-        table[x] = ((x % 8).count_ones() + 4 * (x / 8).count_ones()) as u8;
-        x += 1;
-    }
-    table
-};
-
-/// Eight bits, six places apart.
-static SPREAD: [u64; 256] = {
-    let mut table = [0; 256];
-    let mut x = 0;
-    while x < 256 {
-        let mut i = 0;
-        while i < 8 {
-            table[x] += ((x as u64 >> i) % 2) << (6 * i);
-            i += 1;
-        }
-        x += 1;
-    }
-    table
-};
-
-/// The product of bits with taps, without carries.
-const fn times(taps: usize, x: usize) -> usize {
-    let mut sum = 0;
-    let mut i = 0;
-    while i < 7 {
-        sum ^= (taps >> i) % 2 * (x << i);
-        i += 1;
-    }
-    sum
 }
 
 /// Eight bits divided by taps: the seventh power of g is the inverse of g modulo D^8.
@@ -155,14 +91,6 @@ impl<const STATES: usize> Code<STATES> {
 struct Aligned<T>(T);
 
 // ---------------------------------------------------------------- strips and pages, for any stage
-
-/// Sixteen cells, the cells of eight stages.
-#[inline(always)]
-fn six(strip: &[u8], q: usize) -> u64 {
-    let mut w = [0; 8];
-    w[..6].copy_from_slice(&strip[6 * q..6 * q + 6]);
-    u64::from_le_bytes(w)
-}
 
 /// The bits that cells show, each at the lowest bit of its cell; the other bits say nothing.
 #[inline(always)]
@@ -289,11 +217,6 @@ fn write_page<B: Back<STATES>, const STATES: usize>(code: &Code<STATES>, bytes: 
         carry(code.taps, strip, &labels[k][..bytes], &digits[k][..bytes]);
     }
     total
-}
-
-/// The answer of a page that is spent at a strip.
-fn spent(strip: usize) -> u64 {
-    (7 << 32) + strip as u64
 }
 
 // ---------------------------------------------------------------- the stages of the two codes

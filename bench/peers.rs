@@ -2,6 +2,7 @@
 mod narrow;
 mod ordinary;
 mod shaped;
+mod tables;
 
 use std::sync::atomic::{AtomicUsize, Ordering::Relaxed};
 

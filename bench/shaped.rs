@@ -7,6 +7,7 @@
 //! - The costs before every stage are kept, and the way forward compares them. Closed is so large that no cost reaches it, and so small that 512 stages
 //!   of two closed cells fit 32 bits.
 
+use crate::tables::*;
 use crate::FORM;
 use std::sync::atomic::Ordering::Relaxed;
 
@@ -15,40 +16,12 @@ const CLOSED: i32 = 1 << 19;
 /// The house's weights. The compiler does not know them: each call reads them anew.
 static HOUSE: [i32; 3] = [16, 20, 28];
 
-/// The most bytes of a strip's data.
-const MOST: usize = 64;
-
-/// A generator's taps, the present stage's digit worth 1.
-#[derive(Clone, Copy)]
-struct Taps {
-    first: usize,
-    second: usize,
-}
-
-const SHORT: Taps = Taps { first: 0b111, second: 0b101 };
-const LONG: Taps = Taps { first: 0b100_1111, second: 0b110_1101 };
-
-const fn parity(x: usize) -> usize {
-    x.count_ones() as usize % 2
-}
-
-/// The window of a state, numbered the other way round, at the digit 0.
-const fn window(memory: usize, state: usize) -> usize {
-    let mut sum = 0;
-    let mut i = 0;
-    while i < memory {
-        sum += ((state >> (memory - 1 - i)) % 2) << (i + 1);
-        i += 1;
-    }
-    sum
-}
-
 /// The word of each even state 2 k at the digit 0, and then the complements: the first code bit, and twice the second.
-const fn words<const STATES: usize>(taps: Taps, memory: usize) -> [u8; STATES] {
+const fn words<const STATES: usize>(taps: Taps) -> [u8; STATES] {
     let mut words = [0; STATES];
     let mut k = 0;
     while k < STATES {
-        let w = window(memory, 2 * (k % (STATES / 2)));
+        let w = window(taps, 2 * (k % (STATES / 2)));
         let word = parity(taps.first & w) + 2 * parity(taps.second & w);
         words[k] = (if k < STATES / 2 { word } else { 3 - word }) as u8;
         k += 1;
@@ -69,45 +42,6 @@ fn prices(weights: [i32; 3]) -> [[i32; 4]; 32] {
     table
 }
 
-/// The levels of two cells by their six bits: the first, and 4 times the second.
-const LEVELS: [u8; 64] = {
-    let mut table = [0; 64];
-    let mut x: usize = 0;
-    while x < 64 {
-        table[x] = ((x % 8).count_ones() + 4 * (x / 8).count_ones()) as u8;
-        x += 1;
-    }
-    table
-};
-
-/// Eight bits, six places apart.
-const SPREAD: [u64; 256] = {
-    let mut table = [0; 256];
-    let mut x = 0;
-    while x < 256 {
-        let mut i = 0;
-        while i < 8 {
-            table[x] += ((x as u64 >> i) % 2) << (6 * i);
-            i += 1;
-        }
-        x += 1;
-    }
-    table
-};
-
-/// The product of bits with taps, without carries.
-const fn times(taps: usize, x: usize) -> usize {
-    let mut sum = 0;
-    let mut i = 0;
-    while i < 7 {
-        if (taps >> i) % 2 == 1 {
-            sum ^= x << i;
-        }
-        i += 1;
-    }
-    sum
-}
-
 /// Eight labels of a byte of data, after the eight labels before: g^7 is the inverse of g modulo D^8.
 const fn divide(taps: usize, before: usize, data: usize) -> usize {
     let mut x = data ^ (times(taps, before) >> 8);
@@ -117,12 +51,6 @@ const fn divide(taps: usize, before: usize, data: usize) -> usize {
         i += 1;
     }
     x
-}
-
-fn six(strip: &[u8], q: usize) -> u64 {
-    let mut w = [0; 8];
-    w[..6].copy_from_slice(&strip[6 * q..6 * q + 6]);
-    u64::from_le_bytes(w)
 }
 
 /// The costs of the states 2 k and 2 k + 1, from those of k and k + half, by the prices of the word of state 2 k at the digit 0 and of its complement.
@@ -177,13 +105,13 @@ fn stage<const STATES: usize, const FORM: u8>(after: &[i32; STATES], row: &[i32;
 }
 
 macro_rules! program {
-    ($name:ident, $taps:expr, $memory:expr, $states:expr) => {
+    ($name:ident, $taps:expr, $states:expr) => {
         mod $name {
             use super::*;
 
             const STATES: usize = $states;
             const TAPS: Taps = $taps;
-            static WORDS: [u8; STATES] = words(TAPS, $memory);
+            static WORDS: [u8; STATES] = words(TAPS);
 
             /// The prices of a row by states.
             type Rows = [[i32; STATES]; 32];
@@ -327,13 +255,8 @@ macro_rules! program {
     };
 }
 
-program!(short, SHORT, 2, 4);
-program!(long, LONG, 6, 64);
-
-/// The answer of a page that is spent at a strip.
-fn spent(strip: usize) -> u64 {
-    (7 << 32) + strip as u64
-}
+program!(short, SHORT, 4);
+program!(long, LONG, 64);
 
 /// # Safety
 /// The pointers lead to as many bytes as the lengths say.
