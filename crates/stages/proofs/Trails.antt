@@ -15,7 +15,7 @@ use Rattle.codes.proofs.Numbers.{sum-bits, one-if-le}
 use Rattle.search.specs.Plan.{add, lesser, turn, way, costs, digit-at}
 use Rattle.search.specs.Plain.{Prices, branchWord, branchPrice, branchTie}
 use Rattle.search.proofs.Windows.{mod-odd}
-use Rattle.stages.specs.Stage.{closed, stageOf}
+use Rattle.stages.specs.Stage.{stageOf}
 use Rattle.stages.specs.Blocks.{pickAt, flagOf, markedOf, blockOf}
 use Rattle.stages.specs.Costs.{Tells, Trailed}
 use Rattle.stages.specs.Trails.{stagesFrom, priceBy, tieBy, missOf, digitOf, trailOf, Quoted}
@@ -142,11 +142,11 @@ module _ {G : Type 0} (n : ℕ) (words : ℕ → ℕ) (words-le : (s : ℕ) → 
           (λ e. zero-lower (trailBy k gs x) (trailBy k gs (x + 1)) (trail-less k gs x) e)
           (branch-told w x (words-le s) near) (branch-told (3 - w) (x + 1) other (inside s))))
 
-  -- A BLOCK from stage t on, with `later` stages after it, in 256ths
-  module _ (most m t later : ℕ) (stage : ℕ → G) (rows : List ℕ) (picks : ℕ) (after : ℕ → ℕ)
-      (quoted : (i : ℕ) → i < 8 → Quoted most rows (pickAt picks i) (quote (stage (t + i))))
-      (told : (s : ℕ) → s < n → Trailed 256 closed m 0 (after s) (costBy (stagesFrom stage (t + 8) later) s) 0)
-      (room : 8 * most + m < closed) where
+  -- A BLOCK from stage t on, with `later` stages after it: eight stages, whose trail fits the unit
+  module _ (unit shut-at most m t later : ℕ) (stage : ℕ → G) (rows : List ℕ) (picks : ℕ) (after : ℕ → ℕ)
+      (quoted : (i : ℕ) → i < 8 → Quoted unit shut-at most rows (pickAt picks i) (quote (stage (t + i))))
+      (told : (s : ℕ) → s < n → Trailed unit shut-at m 0 (after s) (costBy (stagesFrom stage (t + 8) later) s) 0)
+      (room : 8 * most + m < shut-at) (fits : 2 ^ 8 ≤ unit) where
     -- the last k stages of the block, and those after it
     abbrev last : ℕ → List G
     last k = stagesFrom stage (t + (8 - k)) (k + later)
@@ -161,14 +161,14 @@ module _ {G : Type 0} (n : ℕ) (words : ℕ → ℕ) (words-le : (s : ℕ) → 
         rw (e, z, f)
 
     -- the prices of its row, marked
-    row-marked : (r k : ℕ) (q : Prices) (row : Quoted most rows r q) (j : ℕ) → j ≤ 3
-        → markedOf rows r k j ≡ 256 * row .plain j + flagOf (one-if (q .stay)) j * 2 ^ k
+    row-marked : (r k : ℕ) (q : Prices) (row : Quoted unit shut-at most rows r q) (j : ℕ) → j ≤ 3
+        → markedOf rows r k j ≡ unit * row .plain j + flagOf (one-if (q .stay)) j * 2 ^ k
     unfolding markedOf
     row-marked r k q row j h = ap₂ (λ (x l : ℕ). x + flagOf l j * 2 ^ k) (row .in-units j h) (row .low)
 
     -- THE BLOCK, its last k stages
     pub run-told : (k : ℕ) → k ≤ 8 → (s : ℕ) → s < n
-        → Trailed 256 closed (k * most + m) k (blockOf n words rows picks after k s) (costBy (last k) s) (trailBy k (last k) s)
+        → Trailed unit shut-at (k * most + m) k (blockOf n words rows picks after k s) (costBy (last k) s) (trailBy k (last k) s)
     unfolding blockOf trailOf
     run-told zero h s l = let e : 0 * most + m ≡ m = omega arith in let f : 0 + later ≡ later = omega arith in rw (e, f) (told s l)
     run-told (suc k) h s l =
@@ -180,5 +180,5 @@ module _ {G : Type 0} (n : ℕ) (words : ℕ → ℕ) (words-le : (s : ℕ) → 
         let a : k * most ≤ 7 * most = mul-le-mul fine (le-refl most) in
         let c : 2 ^ suc k ≤ 2 ^ 8 = pow-mono h in
         rw (b, last-more k fine)
-        (stage-told 256 closed most (k * most + m) k (stage (t + i)) (last k) (markedOf rows r k) (row .plain)
+        (stage-told unit shut-at most (k * most + m) k (stage (t + i)) (last k) (markedOf rows r k) (row .plain)
         (blockOf n words rows picks after k) (row-marked r k _ row) (row .tells) (run-told k (omega arith)) (omega arith) (omega arith) s)

@@ -6,7 +6,7 @@ use mathlib.Core.Path.{_≡_}
 use Prim.Native.Nat.{ℕ, _+_, _*_, _^_, _≤_, _<_}
 use mathlib.Core.Option.{Option, none, some}
 
--- the number v tells the optional cost: a cost up to `most` is itself, and from `shut` on there is none
+-- the number v tells the optional cost: a cost up to `most` is itself, and from `closed` on there is none
 pub data Tells (closed most : ℕ) : ℕ → Option ℕ → Type 0 where
   open-at : {c : ℕ} → c ≤ most → Tells closed most c (some c)
   shut : {v : ℕ} → closed ≤ v → Tells closed most v none

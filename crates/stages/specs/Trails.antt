@@ -4,7 +4,7 @@
 --   missOf       1 where the first code bit of a branch is not the stage's
 --   digitOf      the plan's digit
 --   trailOf      the misses along the plan of the first k stages, the first stage worth most
---   Quoted       WHAT A LAYOUT MUST SHOW of a row: it tells the prices of a stage, in 256ths, and the bit that wins a tie
+--   Quoted       WHAT A LAYOUT MUST SHOW of a row: it tells the prices of a stage, in units, and the bit that wins a tie
 use mathlib.Core.Path.{_≡_}
 use mathlib.Core.Bool.{Bool, not, Bool·beq}
 use mathlib.Core.List.{List, [], _∷_}
@@ -15,7 +15,6 @@ use Rattle.codes.specs.Sequences.{odd}
 use Rattle.codes.specs.Numbers.{one-if}
 use Rattle.search.specs.Plan.{costs, digit-at}
 use Rattle.search.specs.Plain.{Prices, branchWord, branchPrice, branchTie}
-use Rattle.stages.specs.Stage.{closed}
 use Rattle.stages.specs.Costs.{Tells}
 
 -- k stages from stage t on
@@ -45,10 +44,10 @@ module _ {G : Type 0} (words : ℕ → ℕ) (quote : G → Prices) (next : G →
   trailOf (suc k) [] s = 0
   trailOf (suc k) (g ∷ gs) s = missOf g s (digitOf g gs s) * 2 ^ k + trailOf k gs (next g s (digitOf g gs s))
 
--- the row r of a table tells the prices q, none of them above `most`. Weights and layouts differ in how the table is filled, and in
+-- the row r of a table tells the prices q in `unit`ths, none of them above `most`. Weights and layouts differ in how the table is filled, and in
 -- which row a stage picks
-pub record Quoted (most : ℕ) (rows : List ℕ) (r : ℕ) (q : Prices) : Type 0 where
+pub record Quoted (unit closed most : ℕ) (rows : List ℕ) (r : ℕ) (q : Prices) : Type 0 where
   pub plain : ℕ → ℕ
-  pub in-units : (j : ℕ) → j ≤ 3 → getD rows (4 * r + j) 0 ≡ 256 * plain j
+  pub in-units : (j : ℕ) → j ≤ 3 → getD rows (4 * r + j) 0 ≡ unit * plain j
   pub tells : (j : ℕ) → j ≤ 3 → Tells closed most (plain j) (q .of j)
   pub low : r % 2 ≡ one-if (q .stay)

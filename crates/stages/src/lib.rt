@@ -3,5 +3,5 @@
 pub mod blocks;
 pub mod stage;
 
-// From this number on there is no cost.
+// From this number on there is no cost: `closed`.
 pub const CLOSED: u32 = 524288;

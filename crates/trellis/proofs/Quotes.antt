@@ -321,7 +321,7 @@ module _ (W rows : List ℕ) (P : Priced W rows) (a b r : ℕ) (x : Bool) (a-le 
       (price-told W (P .three) (P .bytes) b (odd (j / 2) +₂ x) b-le)) (omega arith))
 
   -- and the bit that its first cell shows
-  levels-quoted : Quoted 510 rows r (oneBitPrices (stepsOf W) (stageAt a b x))
+  levels-quoted : Quoted 256 closed 510 rows r (oneBitPrices (stepsOf W) (stageAt a b x))
   unfolding oneBitPrices cellAt
   levels-quoted =
       let n = one-if-le x in
@@ -337,7 +337,7 @@ module _ (W rows : List ℕ) (P : Priced W rows) (a b r : ℕ) (x : Bool) (a-le 
 pub row-quoted : (W rows : List ℕ) → Priced W rows → (strip : List ℕ) → ((k : ℕ) → getD strip k 0 < 256) → (G : Generators)
     (content : List ℕ) (q i labels picks : ℕ) → i < 8 → pickAt picks i ≡ stageRow (bitsAt strip q) labels i
     → labels / 2 ^ (7 - i) % 2 ≡ one-if (labelFor G content (8 * q + i))
-    → Quoted 510 rows (pickAt picks i) (quoteFor W (stageFor G strip content (8 * q + i)))
+    → Quoted 256 closed 510 rows (pickAt picks i) (quoteFor W (stageFor G strip content (8 * q + i)))
 unfolding stageRow
 row-quoted W rows P strip bytes G content q i labels picks h e f =
     let c = 2 * (8 * q + i) in

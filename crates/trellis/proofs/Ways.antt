@@ -217,7 +217,7 @@ module _ (G : Generators) (rows strip content : List ℕ) where
   module _ (K : Proper G) (q picks : ℕ) {before : ℕ} {numbers ran : List ℕ} (most : n ≤ 64) (inside : q < n)
       (h : BlocksTold G rows strip content (q + 1) before numbers)
       (quoted : (W : List ℕ) → Priced W rows → (i : ℕ) → i < 8
-      → Quoted 510 rows (pickAt picks i) (quoteFor W (stageFor G strip content (8 * q + i))))
+      → Quoted 256 closed 510 rows (pickAt picks i) (quoteFor W (stageFor G strip content (8 * q + i))))
       (r : Ran (2 ^ G .memory) (wordsOf G) rows picks numbers ran) where
     -- the numbers before the block tell costs and trails
     pub block-told : (W : List ℕ) → Priced W rows → (s : ℕ) → s < 2 ^ G .memory
@@ -234,8 +234,8 @@ module _ (G : Generators) (rows strip content : List ℕ) where
         (trailFor G W 8 (blocksFor G strip content n q) s)) (sym (r .states s l))
         (rw (z, e, b) at
         (run-told (2 ^ G .memory) (wordsOf G) (words-le G) (quoteFor W) (nextFor G) (state-inside G (K .some-memory))
-        (next-zero G (K .some-memory)) (next-one G (K .some-memory)) 510 (510 * later) (8 * q) later (stageFor G strip content) rows picks
-        (λ i. getD numbers i 0) (quoted W P) (rw f at (h .told W P)) room 8 (omega arith) s l))
+        (next-zero G (K .some-memory)) (next-one G (K .some-memory)) 256 closed 510 (510 * later) (8 * q) later (stageFor G strip content) rows
+        picks (λ i. getD numbers i 0) (quoted W P) (rw f at (h .told W P)) room (omega arith) 8 (omega arith) s l))
 
     -- and once they are settled the turn is done
     pub blocks-more : {earlier : ℕ} {settled : List ℕ} → earlier ≡ windowOf 8 (labelAt G content) (8 * q)
@@ -270,7 +270,7 @@ blocks-first {G} {rows} {strip} {content} {before} {numbers} most h W K P =
 pub block-quoted : (G : Generators) {rows strip content numbers : List ℕ} (q picks : ℕ) {before bits : ℕ} → ((k : ℕ) → getD strip k 0 < 256)
     → BlocksTold G rows strip content (q + 1) before numbers → bits ≡ bitsAt strip q
     → ((i : ℕ) → i < 8 → pickAt picks i ≡ stageRow bits before i) → (W : List ℕ) → Priced W rows → (i : ℕ) → i < 8
-    → Quoted 510 rows (pickAt picks i) (quoteFor W (stageFor G strip content (8 * q + i)))
+    → Quoted 256 closed 510 rows (pickAt picks i) (quoteFor W (stageFor G strip content (8 * q + i)))
 block-quoted G {rows} {strip} {content} {numbers} q picks {before} {bits} octets h e p W P i l =
     let z : 8 * q + (7 - (7 - i)) ≡ 8 * q + i = omega arith in
     let m : 7 - i < 8 = omega arith in
