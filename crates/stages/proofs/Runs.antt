@@ -76,19 +76,19 @@ marked-le rows r k h p j = add-le-add (p (4 * r + j)) (bit-le ((r % 2 + j) % 2) 
 -- BOUNDS. k stages add k marked prices at most
 pub run-le : (n : ℕ) (words : ℕ → ℕ) (rows : List ℕ) (picks : ℕ) (after : ℕ → ℕ)
     → ((i : ℕ) → getD rows i 0 ≤ top) → ((i : ℕ) → after i ≤ top)
-    → (k s : ℕ) → k ≤ 8 → blockOf n words rows picks after k s ≤ top + k * (top + 128)
+    → (k s : ℕ) → k ≤ 8 → blockOf 8 n words rows picks after k s ≤ top + k * (top + 128)
 unfolding blockOf
 run-le n words rows picks after p q zero s h = omega (arith, q s)
 run-le n words rows picks after p q (suc k) s h =
-    let a = stage-le n (top + k * (top + 128)) (top + 128) words (markedOf rows (pickAt picks (7 - k)) k)
-    (blockOf n words rows picks after k)
-    (λ i. run-le n words rows picks after p q k i (omega arith)) (marked-le rows (pickAt picks (7 - k)) k (omega arith) p) s in
+    let a = stage-le n (top + k * (top + 128)) (top + 128) words (markedOf rows (pickAt picks (8 - suc k)) k)
+    (blockOf 8 n words rows picks after k)
+    (λ i. run-le n words rows picks after p q k i (omega arith)) (marked-le rows (pickAt picks (8 - suc k)) k (omega arith) p) s in
     omega arith
 
 -- so there is room for a price after each of the eight
 pub run-most : (n : ℕ) (words : ℕ → ℕ) (rows : List ℕ) (picks : ℕ) (after : ℕ → ℕ)
     → ((i : ℕ) → getD rows i 0 ≤ top) → ((i : ℕ) → after i ≤ top)
-    → (k s : ℕ) → k ≤ 8 → blockOf n words rows picks after k s ≤ mostCost
+    → (k s : ℕ) → k ≤ 8 → blockOf 8 n words rows picks after k s ≤ mostCost
 run-most n words rows picks after p q k s h = omega (arith, run-le n words rows picks after p q k s h)
 
 -- WORDS. A word is two bits
@@ -98,19 +98,19 @@ word-le G w = omega arith
 
 -- 64 STATES. A stage more, by lists: stage i after k others
 pub run-more : (G : Generators) (rows : List ℕ) (picks : ℕ) (after : ℕ → ℕ) (k i : ℕ) {costs prices exit : List ℕ} → k + i ≡ 7
-    → ((s : ℕ) → s < 64 → getD costs s 0 ≡ blockOf 64 (wordsOf G) rows picks after k s)
+    → ((s : ℕ) → s < 64 → getD costs s 0 ≡ blockOf 8 64 (wordsOf G) rows picks after k s)
     → ((j : ℕ) → j ≤ 3 → getD prices j 0 ≡ markedOf rows (pickAt picks i) (7 - i) j)
     → Staged 64 costs (listOf 64 (wordsOf G)) prices exit
-    → (s : ℕ) → s < 64 → getD exit s 0 ≡ blockOf 64 (wordsOf G) rows picks after (8 - i) s
+    → (s : ℕ) → s < 64 → getD exit s 0 ≡ blockOf 8 64 (wordsOf G) rows picks after (8 - i) s
 unfolding blockOf stagedAt
 run-more G rows picks after k i e p q t s h =
-    let a : i ≡ 7 - k = omega arith in
+    let a : i ≡ 8 - suc k = omega arith in
     let b : 7 - i ≡ k = omega arith in
     let d : 8 - i ≡ suc k = omega arith in
     rw d (t .states s h
-    ∙ stage-same 64 _ _ _ (wordsOf G) (markedOf rows (pickAt picks i) (7 - i)) (blockOf 64 (wordsOf G) rows picks after k) s
+    ∙ stage-same 64 _ _ _ (wordsOf G) (markedOf rows (pickAt picks i) (7 - i)) (blockOf 8 64 (wordsOf G) rows picks after k) s
     (listOf-at 64 (wordsOf G) s 0 h) (word-le G (2 * s)) q (p (2 * s % 64) (omega arith)) (p (2 * s % 64 + 1) (omega arith))
-    ∙ ap₂ (λ (x y : ℕ). stageOf 64 (wordsOf G) (markedOf rows (pickAt picks x) y) (blockOf 64 (wordsOf G) rows picks after k) s) a b)
+    ∙ ap₂ (λ (x y : ℕ). stageOf 64 (wordsOf G) (markedOf rows (pickAt picks x) y) (blockOf 8 64 (wordsOf G) rows picks after k) s) a b)
 
 -- FOUR STATES. Four numbers are those of the four states, and leave room for a price
 pub record Four (f : ℕ → ℕ) (a b c d : ℕ) : Type 0 where
@@ -125,18 +125,18 @@ pub record Four (f : ℕ → ℕ) (a b c d : ℕ) : Type 0 where
 
 -- a stage more of the short code
 pub four-more : (rows : List ℕ) (picks : ℕ) (after : ℕ → ℕ) → ((i : ℕ) → getD rows i 0 ≤ top) → ((i : ℕ) → after i ≤ top)
-    → (k i : ℕ) (p : List ℕ) {a b c d e f g h : ℕ} → k + i ≡ 7 → Four (blockOf 4 (wordsOf short) rows picks after k) a b c d
+    → (k i : ℕ) (p : List ℕ) {a b c d e f g h : ℕ} → k + i ≡ 7 → Four (blockOf 8 4 (wordsOf short) rows picks after k) a b c d
     → ((j : ℕ) → j ≤ 3 → getD p j 0 ≡ markedOf rows (pickAt picks i) (7 - i) j)
     → e ≡ min (a + getD p 0 0) (b + getD p 3 0) → f ≡ min (c + getD p 1 0) (d + getD p 2 0)
     → g ≡ min (a + getD p 3 0) (b + getD p 0 0) → h ≡ min (c + getD p 2 0) (d + getD p 1 0)
-    → Four (blockOf 4 (wordsOf short) rows picks after (8 - i)) e f g h
+    → Four (blockOf 8 4 (wordsOf short) rows picks after (8 - i)) e f g h
 unfolding blockOf stageOf wordOf parityOf tapsOf number digit ones onesIn
 four-more rows picks after u v k i p z four q e f g h =
-    let R = blockOf 4 (wordsOf short) rows picks after in
-    let x : i ≡ 7 - k = omega arith in
+    let R = blockOf 8 4 (wordsOf short) rows picks after in
+    let x : i ≡ 8 - suc k = omega arith in
     let y : 7 - i ≡ k = omega arith in
     let w : 8 - i ≡ suc k = omega arith in
-    let m : (j : ℕ) → j ≤ 3 → getD p j 0 ≡ markedOf rows (pickAt picks (7 - k)) k j = λ j l.
+    let m : (j : ℕ) → j ≤ 3 → getD p j 0 ≡ markedOf rows (pickAt picks (8 - suc k)) k j = λ j l.
     q j l ∙ ap₂ (λ (r t : ℕ). markedOf rows (pickAt picks r) t j) x y in
     let p0 = m 0 (omega arith) in
     let p1 = m 1 (omega arith) in

@@ -142,23 +142,22 @@ module _ {G : Type 0} (n : ℕ) (words : ℕ → ℕ) (words-le : (s : ℕ) → 
           (λ e. zero-lower (trailBy k gs x) (trailBy k gs (x + 1)) (trail-less k gs x) e)
           (branch-told w x (words-le s) near) (branch-told (3 - w) (x + 1) other (inside s))))
 
-  -- A BLOCK from stage t on, with `later` stages after it: eight stages, whose trail fits the unit
-  module _ (unit shut-at most m t later : ℕ) (stage : ℕ → G) (rows : List ℕ) (picks : ℕ) (after : ℕ → ℕ)
-      (quoted : (i : ℕ) → i < 8 → Quoted unit shut-at most rows (pickAt picks i) (quote (stage (t + i))))
-      (told : (s : ℕ) → s < n → Trailed unit shut-at m 0 (after s) (costBy (stagesFrom stage (t + 8) later) s) 0)
-      (room : 8 * most + m < shut-at) (fits : 2 ^ 8 ≤ unit) where
+  -- A BLOCK of `size` stages from stage t on, with `later` stages after it, whose trail fits the unit
+  module _ (size unit shut-at most m t later : ℕ) (stage : ℕ → G) (rows : List ℕ) (picks : ℕ) (after : ℕ → ℕ)
+      (quoted : (i : ℕ) → i < size → Quoted unit shut-at most rows (pickAt picks i) (quote (stage (t + i))))
+      (told : (s : ℕ) → s < n → Trailed unit shut-at m 0 (after s) (costBy (stagesFrom stage (t + size) later) s) 0)
+      (room : size * most + m < shut-at) (fits : 2 ^ size ≤ unit) where
     -- the last k stages of the block, and those after it
     abbrev last : ℕ → List G
-    last k = stagesFrom stage (t + (8 - k)) (k + later)
+    last k = stagesFrom stage (t + (size - k)) (k + later)
 
     -- one stage more
-    last-more : (k : ℕ) → k ≤ 7 → last (suc k) ≡ stage (t + (7 - k)) ∷ last k
+    last-more : (k : ℕ) → suc k ≤ size → last (suc k) ≡ stage (t + (size - suc k)) ∷ last k
     unfolding stagesFrom
     last-more k h =
-        let e : 8 - suc k ≡ 7 - k = omega arith in
-        let f : suc (t + (7 - k)) ≡ t + (8 - k) = omega arith in
+        let f : suc (t + (size - suc k)) ≡ t + (size - k) = omega arith in
         let z : suc k + later ≡ suc (k + later) = omega arith in
-        rw (e, z, f)
+        rw (z, f)
 
     -- the prices of its row, marked
     row-marked : (r k : ℕ) (q : Prices) (row : Quoted unit shut-at most rows r q) (j : ℕ) → j ≤ 3
@@ -167,18 +166,18 @@ module _ {G : Type 0} (n : ℕ) (words : ℕ → ℕ) (words-le : (s : ℕ) → 
     row-marked r k q row j h = ap₂ (λ (x l : ℕ). x + flagOf l j * 2 ^ k) (row .in-units j h) (row .low)
 
     -- THE BLOCK, its last k stages
-    pub run-told : (k : ℕ) → k ≤ 8 → (s : ℕ) → s < n
-        → Trailed unit shut-at (k * most + m) k (blockOf n words rows picks after k s) (costBy (last k) s) (trailBy k (last k) s)
+    pub run-told : (k : ℕ) → k ≤ size → (s : ℕ) → s < n
+        → Trailed unit shut-at (k * most + m) k (blockOf size n words rows picks after k s) (costBy (last k) s) (trailBy k (last k) s)
     unfolding blockOf trailOf
-    run-told zero h s l = let e : 0 * most + m ≡ m = omega arith in let f : 0 + later ≡ later = omega arith in rw (e, f) (told s l)
+    run-told zero h s l = let e : 0 * most + m ≡ m = omega arith in let f : 0 + later ≡ later = omega arith in
+        let z : size - 0 ≡ size = omega arith in rw (e, f, z) (told s l)
     run-told (suc k) h s l =
-        let i : ℕ = 7 - k in
+        let i : ℕ = size - suc k in
         let r : ℕ = pickAt picks i in
         let row = quoted i (omega arith) in
-        let fine : k ≤ 7 = omega arith in
         let b : suc k * most + m ≡ most + (k * most + m) = omega arith in
-        let a : k * most ≤ 7 * most = mul-le-mul fine (le-refl most) in
-        let c : 2 ^ suc k ≤ 2 ^ 8 = pow-mono h in
-        rw (b, last-more k fine)
+        let a : suc k * most ≤ size * most = mul-le-mul h (le-refl most) in
+        let c : 2 ^ suc k ≤ 2 ^ size = pow-mono h in
+        rw (b, last-more k h)
         (stage-told unit shut-at most (k * most + m) k (stage (t + i)) (last k) (markedOf rows r k) (row .plain)
-        (blockOf n words rows picks after k) (row-marked r k _ row) (row .tells) (run-told k (omega arith)) (omega arith) (omega arith) s)
+        (blockOf size n words rows picks after k) (row-marked r k _ row) (row .tells) (run-told k (omega arith)) (omega arith) (omega arith) s)

@@ -4,7 +4,7 @@
 --   pickAt picks i       the row of stage i of the block: a byte of picks
 --   flagOf low j         1 where the first code bit of the word j is not `low`
 --   markedOf rows r k    the price of each word of the row r, marked at the bit k
---   blockOf              the numbers of the states before the last k stages of the block
+--   blockOf              the numbers of the states before the last k stages of a block
 --   settledOf            a number with its low byte cleared, and cut off at `top`
 --   RunAsked, Ran, Settled, Kept   what the functions of a block ask and give
 use Prim.Native.Nat.{ℕ, zero, suc, _+_, _-_, _*_, _/_, _%_, _^_, _≤_, _<_, min}
@@ -25,11 +25,11 @@ flagOf low j = (low + j) % 2
 unfoldable pub markedOf : (rows : List ℕ) (r k j : ℕ) → ℕ
 markedOf rows r k j = getD rows (4 * r + j) 0 + flagOf (r % 2) j * 2 ^ k
 
--- n states, their words, and the numbers after the block: the numbers before its last k stages
-module _ (n : ℕ) (words : ℕ → ℕ) (rows : List ℕ) (picks : ℕ) (after : ℕ → ℕ) where
+-- a block of `size` stages, n states, their words, and the numbers after the block: the numbers before its last k stages
+module _ (size n : ℕ) (words : ℕ → ℕ) (rows : List ℕ) (picks : ℕ) (after : ℕ → ℕ) where
   unfoldable pub blockOf : ℕ → ℕ → ℕ
   blockOf zero = after
-  blockOf (suc k) = stageOf n words (markedOf rows (pickAt picks (7 - k)) k) (blockOf k)
+  blockOf (suc k) = stageOf n words (markedOf rows (pickAt picks (size - suc k)) k) (blockOf k)
 
 -- the low byte cleared, and no number above `top` told from it
 unfoldable pub settledOf : ℕ → ℕ
@@ -44,7 +44,7 @@ pub record RunAsked (costs rows : List ℕ) : Type 0 where
 -- the numbers of n states before the block; the other places are not touched
 pub record Ran (n : ℕ) (words : ℕ → ℕ) (rows : List ℕ) (picks : ℕ) (entry exit : List ℕ) : Type 0 where
   pub long : length exit ≡ 64
-  pub states : (s : ℕ) → s < n → getD exit s 0 ≡ blockOf n words rows picks (λ i. getD entry i 0) 8 s
+  pub states : (s : ℕ) → s < n → getD exit s 0 ≡ blockOf 8 n words rows picks (λ i. getD entry i 0) 8 s
   pub others : (s : ℕ) → n ≤ s → getD exit s 0 ≡ getD entry s 0
 
 -- the numbers of n states settled; the other places are not touched

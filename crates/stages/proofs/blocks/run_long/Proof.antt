@@ -20,7 +20,7 @@ Inv-loop costs₀ rows picks words i₀ costs i =
     (i ≤ 8)
     × (words ≡ listOf 64 (wordsOf long))
     × (length costs ≡ 64)
-    × ((s : ℕ) → s < 64 → getD costs s 0 ≡ blockOf 64 (wordsOf long) rows picks (λ k. getD costs₀ k 0) (8 - i) s)
+    × ((s : ℕ) → s < 64 → getD costs s 0 ≡ blockOf 8 64 (wordsOf long) rows picks (λ k. getD costs₀ k 0) (8 - i) s)
 
 abbrev μ-loop : tie.MeasureT-loop
 μ-loop costs₀ rows picks words i₀ costs i = i

@@ -13,7 +13,7 @@ use Rattle.stages.proofs.blocks.run_short.Tie as tie
 
 abbrev Inv-loop : tie.InvT-loop
 Inv-loop costs rows picks a₀ b₀ c₀ d₀ i₀ a b c d i =
-    (i ≤ 8) × Four (blockOf 4 (wordsOf short) rows picks (λ k. getD costs k 0) (8 - i)) a b c d
+    (i ≤ 8) × Four (blockOf 8 4 (wordsOf short) rows picks (λ k. getD costs k 0) (8 - i)) a b c d
 
 abbrev μ-loop : tie.MeasureT-loop
 μ-loop costs rows picks a₀ b₀ c₀ d₀ i₀ a b c d i = i
