@@ -46,17 +46,6 @@ const fn rows<const WIDTH: usize>(taps: Taps, mark: i16) -> [[i16; WIDTH]; 32] {
     rows
 }
 
-/// Eight bits divided by taps: the seventh power of g is the inverse of g modulo D^8.
-const fn divided(taps: usize, x: usize) -> u8 {
-    let mut y = x;
-    let mut i = 0;
-    while i < 7 {
-        y = times(taps, y);
-        i += 1;
-    }
-    (y & 255) as u8
-}
-
 /// A code, and what it makes of a byte.
 struct Code<const STATES: usize> {
     taps: Taps,

@@ -42,17 +42,6 @@ fn prices(weights: [i32; 3]) -> [[i32; 4]; 32] {
     table
 }
 
-/// Eight labels of a byte of data, after the eight labels before: g^7 is the inverse of g modulo D^8.
-const fn divide(taps: usize, before: usize, data: usize) -> usize {
-    let mut x = data ^ (times(taps, before) >> 8);
-    let mut i = 0;
-    while i < 7 {
-        x = times(taps, x) & 255;
-        i += 1;
-    }
-    x
-}
-
 /// The costs of the states 2 k and 2 k + 1, from those of k and k + half, by the prices of the word of state 2 k at the digit 0 and of its complement.
 #[inline(always)]
 fn pair(x: i32, y: i32, word: i32, complement: i32) -> (i32, i32) {
@@ -135,7 +124,7 @@ macro_rules! program {
             fn know(strip: &[u8], data: &[u8], known: &mut Known) {
                 let mut label = 0;
                 for q in 0..data.len() {
-                    label = divide(TAPS.first, label, data[q] as usize);
+                    label = divided(TAPS.first, data[q] as usize ^ (times(TAPS.first, label) >> 8)) as usize;
                     known.labels[q] = label as u8;
                     let cells = six(strip, q);
                     for i in 0..8 {

@@ -66,6 +66,17 @@ pub const fn times(taps: usize, x: usize) -> usize {
     sum
 }
 
+/// Eight bits divided by taps: the seventh power of g is the inverse of g modulo D^8.
+pub const fn divided(taps: usize, x: usize) -> u8 {
+    let mut y = x;
+    let mut i = 0;
+    while i < 7 {
+        y = times(taps, y);
+        i += 1;
+    }
+    (y & 255) as u8
+}
+
 /// Sixteen cells, the cells of eight stages.
 #[inline(always)]
 pub fn six(strip: &[u8], q: usize) -> u64 {

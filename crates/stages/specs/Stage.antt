@@ -18,14 +18,14 @@ closed = 524288
 
 -- closed in 256ths
 abbrev pub top : ℕ
-top = 134217728
+top = 256 * closed
 
 -- the most that the number of a state may be before a stage, and that of a word's price: their sum stays below 2 ^ 31
 abbrev pub mostCost : ℕ
-mostCost = 1610612736
+mostCost = 12 * top
 
 abbrev pub mostPrice : ℕ
-mostPrice = 268435456
+mostPrice = 2 * top
 
 -- the first for the digit 0, else the second
 abbrev pub pick : ℕ → ℕ → ℕ → ℕ
