@@ -180,4 +180,5 @@ module _ {G : Type 0} (n : ℕ) (words : ℕ → ℕ) (words-le : (s : ℕ) → 
         let c : 2 ^ suc k ≤ 2 ^ size = pow-mono h in
         rw (b, last-more k h)
         (stage-told unit shut-at most (k * most + m) k (stage (t + i)) (last k) (markedOf rows r k) (row .plain)
-        (blockOf size n words rows picks after k) (row-marked r k _ row) (row .tells) (run-told k (omega arith)) (omega arith) (omega arith) s)
+        (blockOf size n words rows picks after k) (row-marked r k _ row) (row .tells) (run-told k (omega arith)) (omega arith)
+        (omega arith) s)

@@ -44,8 +44,8 @@ module _ {G : Type 0} (words : ℕ → ℕ) (quote : G → Prices) (next : G →
   trailOf (suc k) [] s = 0
   trailOf (suc k) (g ∷ gs) s = missOf g s (digitOf g gs s) * 2 ^ k + trailOf k gs (next g s (digitOf g gs s))
 
--- the row r of a table tells the prices q in `unit`ths, none of them above `most`. Weights and layouts differ in how the table is filled, and in
--- which row a stage picks
+-- the row r of a table tells the prices q in `unit`ths, none of them above `most`. Weights and layouts differ in how the table is filled,
+-- and in which row a stage picks
 pub record Quoted (unit closed most : ℕ) (rows : List ℕ) (r : ℕ) (q : Prices) : Type 0 where
   pub plain : ℕ → ℕ
   pub in-units : (j : ℕ) → j ≤ 3 → getD rows (4 * r + j) 0 ≡ unit * plain j

@@ -1,8 +1,6 @@
 -- CARRYING THE DIGITS OUT: what the table of pairs shows, the bits of a block by it, and the strip after one block more.
 --   shown-less                  what is shown of a cell is three bits
 --   shows-all                   256 numbers that are the pairs of two cells are their table
---   shown-fits                  the bits of a block fit 48 bits
---   shown-more                  the bits of one stage more, as the code adds them
 --   carriedBelow                the levels to reach where the cells before cell m are carried out
 --   carried-none                before the first cell the strip is as it was
 --   carried-block               one block more is carried out where its 48 bits are those that the table shows
@@ -19,7 +17,7 @@ use native.Mathlib.Nat.{mod-lt, zero-lt-suc}
 use lib.Dec.{ltb}
 use lib.Bits.{bitXor}
 use lib.ListN.{length, getD, set, List·getD-eq-default}
-use lib.Pow.{pow-mono, shr-shr, shl-exact}
+use lib.Pow.{shr-shr}
 use lib.Seq.{ext-getD}
 use borrow.Author.Tests.{lt-ltb, le-ltb}
 use Rattle.cells.specs.Places.{number}
@@ -37,8 +35,8 @@ use Rattle.codes.proofs.Divisions.{xor-bit}
 use Rattle.codes.proofs.Windows.{window-byte, window-parity, label-bound}
 use Rattle.trellis.specs.Rows.{onesOf, bitsAt}
 use Rattle.trellis.specs.Carrying.{digitIn, wantedFirst, wantedSecond, wantedOf, carriedTo}
-use Rattle.trellis.specs.Carrying.{shownCell, shownPair, Shows, shownBits, byteIn, withBits}
-use Rattle.trellis.proofs.Digits.{packed, packed-less, packed-bit}
+use Rattle.trellis.specs.Carrying.{shownCell, shownPair, Shows, placeIn, shownBits, byteIn, withBits}
+use Rattle.trellis.proofs.Digits.{packed-bits}
 use Rattle.trellis.proofs.Digits.{stored, length-stored, stored-at, stored-other}
 
 -- CELLS. A place of some bits set to 1 leaves bits
@@ -123,37 +121,11 @@ shows-all first second pairs e p = record {
       (same? (k / 256) 0);
 }
 
--- A BLOCK. The place in the table of the pair of stage i
-abbrev placeIn : (bits first second i : ℕ) → ℕ
-placeIn bits first second i = bits / 2 ^ (6 * i) % 64 + 64 * (first / 2 ^ (7 - i) % 2 + 2 * (second / 2 ^ (7 - i) % 2))
-
+-- A BLOCK. Bit r of stage i
 module _ (pairs : List ℕ) (less : (k : ℕ) → getD pairs k 0 < 64) (bits first second : ℕ) where
-  -- its bits are digits of six bits
-  shown-packed : (n : ℕ) → shownBits pairs bits first second n ≡ packed 6 (λ i. getD pairs (placeIn bits first second i) 0) n
-  unfolding shownBits packed
-  shown-packed zero = refl
-  shown-packed (suc n) = ap (λ (x : ℕ). x + getD pairs (placeIn bits first second n) 0 * 2 ^ (6 * n)) (shown-packed n)
-
-  -- 48 bits at most
-  pub shown-fits : (n : ℕ) → n ≤ 8 → shownBits pairs bits first second n < 2 ^ 48
-  shown-fits n h =
-      let l : 6 * n ≤ 48 = omega arith in
-      rw (shown-packed n) (omega (arith, packed-less 6 _ (λ i. less (placeIn bits first second i)) n, pow-mono l))
-
-  -- one stage more
-  pub shown-more : (i out : ℕ) → i < 8 → out ≡ shownBits pairs bits first second i
-      → out + (getD pairs (placeIn bits first second i) 0 * 2 ^ (6 * i)) % 2 ^ 64 ≡ shownBits pairs bits first second (i + 1)
-  unfolding shownBits
-  shown-more i out h e =
-      let s : suc i ≡ i + 1 = omega arith in
-      ap₂ _+_ e (shl-exact 6 (6 * i) 64 (less (placeIn bits first second i)) (omega arith)) ∙ ap (shownBits pairs bits first second) s
-
-  -- bit r of stage i
   shown-stage : (i r : ℕ) → i < 8 → r < 6
       → shownBits pairs bits first second 8 / 2 ^ (6 * i + r) % 2 ≡ getD pairs (placeIn bits first second i) 0 / 2 ^ r % 2
-  shown-stage i r h l =
-      ap (λ (x : ℕ). x / 2 ^ (6 * i + r) % 2) (shown-packed 8)
-      ∙ packed-bit 6 _ (λ j. less (placeIn bits first second j)) 8 i r h l
+  shown-stage i r h l = packed-bits 6 _ (λ j. less (placeIn bits first second j)) 8 i r 1 h (omega arith)
 
 -- A CELL by a number whose three bits are its own
 module _ (strip : List ℕ) (c x : ℕ) (bits : (r : ℕ) → r < 3 → x / 2 ^ r % 2 ≡ bitOf strip (3 * c + r)) where

@@ -1,60 +1,69 @@
 -- Digits of some bits each, packed into a number, and numbers stored one after the other.
---   packed         the number of n digits of w bits each, the first worth least, which fits n times w bits (packed-less)
---   packed-bit     bit r of digit i
---   stored         a list with n numbers stored from place p on, as long as before (length-stored)
---   stored-at      the numbers stored, and every other place as it was (stored-other)
-use mathlib.Core.Path.{_≡_, refl, sym, _∙_, ap}
+--   packed-less   n digits of w bits each fit n times w bits, and more (packed-fits)
+--   packed-more   a digit more, as the code adds it
+--   packed-bits   b bits of digit i, from bit r on
+--   stored        a list with n numbers stored from place p on, as long as before (length-stored)
+--   stored-at     the numbers stored, and every other place as it was (stored-other)
+use mathlib.Core.Path.{_≡_, refl, sym, _∙_, ap, ap₂}
 use mathlib.Core.Logic.{⊎-elim}
 use mathlib.Core.List.{List}
 use Prim.Native.Nat.{ℕ, zero, suc, _+_, _*_, _-_, _/_, _%_, _^_, _<_, _≤_}
 use native.Mathlib.Omega.{arith, ne-cases}
-use native.Mathlib.Nat.{not-suc-le-zero, mul-assoc, mul-le-mul-right, add-mul-div-right, add-mul-mod-self-right}
+use native.Mathlib.Nat.{not-suc-le-zero, mul-assoc, mul-le-mul-left, mul-le-mul-right, add-mul-div-right, add-mul-mod-self-right}
 use lib.ListN.{length, getD, set, length-set}
-use lib.Pow.{pow-add, pow-pos, high, shr-shr}
+use lib.Pow.{pow-add, pow-pos, pow-mono, high, shr-shr, shl-exact}
 use lib.Seq.{getD-set-same, getD-set-other}
 use Rattle.cells.proofs.Places.{same?}
 use Rattle.cells.proofs.Parts.{within}
+use Rattle.trellis.specs.Rows.{packedOf}
 
--- BITS OF NUMBERS. What is added above a bit leaves the bit
-bit-below : (x y r e : ℕ) → (x + y * 2 ^ (e + 1 + r)) / 2 ^ r % 2 ≡ x / 2 ^ r % 2
-bit-below x y r e =
-    let m : y * 2 ^ (e + 1 + r) ≡ y * 2 ^ e * 2 * 2 ^ r =
-    ap (λ (z : ℕ). y * z) (pow-add 2 (e + 1) r ∙ ap (λ (z : ℕ). z * 2 ^ r) (pow-add 2 e 1)) ∙ sym (mul-assoc y (2 ^ e * 2) (2 ^ r))
-    ∙ ap (λ (z : ℕ). z * 2 ^ r) (sym (mul-assoc y (2 ^ e) 2)) in
-    ap (λ (z : ℕ). (x + z) / 2 ^ r % 2) m
-    ∙ ap (λ (z : ℕ). z % 2) (add-mul-div-right x (y * 2 ^ e * 2) (pow-pos r))
-    ∙ add-mul-mod-self-right (x / 2 ^ r) (y * 2 ^ e) 2
+-- BITS OF NUMBERS. What is added above some bits leaves them
+bits-below : (x y r b e : ℕ) → (x + y * 2 ^ (e + b + r)) / 2 ^ r % 2 ^ b ≡ x / 2 ^ r % 2 ^ b
+bits-below x y r b e =
+    let m : y * 2 ^ (e + b + r) ≡ y * 2 ^ e * 2 ^ b * 2 ^ r =
+    ap (λ (z : ℕ). y * z) (pow-add 2 (e + b) r ∙ ap (λ (z : ℕ). z * 2 ^ r) (pow-add 2 e b)) ∙ sym (mul-assoc y (2 ^ e * 2 ^ b) (2 ^ r))
+    ∙ ap (λ (z : ℕ). z * 2 ^ r) (sym (mul-assoc y (2 ^ e) (2 ^ b))) in
+    ap (λ (z : ℕ). (x + z) / 2 ^ r % 2 ^ b) m
+    ∙ ap (λ (z : ℕ). z % 2 ^ b) (add-mul-div-right x (y * 2 ^ e * 2 ^ b) (pow-pos r))
+    ∙ add-mul-mod-self-right (x / 2 ^ r) (y * 2 ^ e) (2 ^ b)
 
--- DIGITS of w bits each, the first worth least
-unfoldable pub packed : ℕ → (ℕ → ℕ) → ℕ → ℕ
-packed w f zero = 0
-packed w f (suc n) = packed w f n + f n * 2 ^ (w * n)
-
+-- DIGITS of w bits each
 module _ (w : ℕ) (f : ℕ → ℕ) (f-less : (i : ℕ) → f i < 2 ^ w) where
   -- n digits fit n times w bits
-  pub packed-less : (n : ℕ) → packed w f n < 2 ^ (w * n)
-  unfolding packed
+  packed-less : (n : ℕ) → packedOf w f n < 2 ^ (w * n)
+  unfolding packedOf
   packed-less zero = let e : w * 0 ≡ 0 = omega arith in rw e (omega arith)
   packed-less (suc n) =
       let e : w * suc n ≡ w + w * n = omega arith in
       rw (e, pow-add 2 w (w * n)) (omega (arith, packed-less n, mul-le-mul-right (2 ^ (w * n)) (f-less n)))
 
-  -- bit r of digit i
-  pub packed-bit : (n i r : ℕ) → i < n → r < w → packed w f n / 2 ^ (w * i + r) % 2 ≡ f i / 2 ^ r % 2
-  unfolding packed
-  packed-bit zero i r h l = absurd (not-suc-le-zero h)
-  packed-bit (suc n) i r h l =
-      let p = packed w f n in
+  -- and any more bits
+  pub packed-fits : (n m : ℕ) → n ≤ m → packedOf w f n < 2 ^ (w * m)
+  packed-fits n m h = omega (arith, packed-less n, pow-mono (mul-le-mul-left w h))
+
+  -- a digit more, shifted to its place within 64 bits
+  pub packed-more : (i out : ℕ) → w + w * i ≤ 64 → out ≡ packedOf w f i → out + (f i * 2 ^ (w * i)) % 2 ^ 64 ≡ packedOf w f (i + 1)
+  unfolding packedOf
+  packed-more i out h e =
+      let s : suc i ≡ i + 1 = omega arith in
+      ap₂ _+_ e (shl-exact w (w * i) 64 (f-less i) h) ∙ ap (packedOf w f) s
+
+  -- b bits of digit i, from its bit r on
+  pub packed-bits : (n i r b : ℕ) → i < n → r + b ≤ w → packedOf w f n / 2 ^ (w * i + r) % 2 ^ b ≡ f i / 2 ^ r % 2 ^ b
+  unfolding packedOf
+  packed-bits zero i r b h l = absurd (not-suc-le-zero h)
+  packed-bits (suc n) i r b h l =
+      let p = packedOf w f n in
       ⊎-elim
       (λ e.
       let x : p + f n * 2 ^ (w * n) ≡ f n * 2 ^ (w * n) + p = omega arith in
-      rw e (ap (λ (y : ℕ). y % 2) (sym (shr-shr (p + f n * 2 ^ (w * n)) (w * n) r)
+      rw e (ap (λ (y : ℕ). y % 2 ^ b) (sym (shr-shr (p + f n * 2 ^ (w * n)) (w * n) r)
       ∙ ap (λ (y : ℕ). y / 2 ^ r) (ap (λ (y : ℕ). y / 2 ^ (w * n)) x ∙ high (f n) (w * n) (packed-less n)))))
       (λ d.
       let k : i < n = ne-cases i n (i < n) d (λ z. z) (λ z. omega arith) in
-      let t = w * n - (w * i + r) - 1 in
-      let s : w * n ≡ t + 1 + (w * i + r) = omega (arith, within w i n k) in
-      ap (λ (z : ℕ). (p + f n * 2 ^ z) / 2 ^ (w * i + r) % 2) s ∙ bit-below p (f n) (w * i + r) t ∙ packed-bit n i r k l)
+      let t = w * n - (w * i + r) - b in
+      let s : w * n ≡ t + b + (w * i + r) = omega (arith, within w i n k) in
+      ap (λ (z : ℕ). (p + f n * 2 ^ z) / 2 ^ (w * i + r) % 2 ^ b) s ∙ bits-below p (f n) (w * i + r) b t ∙ packed-bits n i r b k l)
       (same? i n)
 
 -- STORES of n numbers, from place p on

@@ -1,27 +1,26 @@
 -- THE ROWS: the table of prices, the rows that a block picks, and what they tell of its stages.
---   steps-le, steps-are                 the steps of three weights of a byte each
---   price-nothing, price-step           what a cell costs to show a bit, in 256ths
---   price-cut, table-filled             the price of a word, and the table of all
---   pairList, pairs-le                  the program's table of pairs, none of them above 15
---   row-most, row-shl                   a row is at most 31, and fits its byte
---   picks-less, picks-fit, picks-more   a row is added to those that are picked
---   bits-bit, bits-less                 the 48 bits of a block are bits of the strip
---   six-bit, pair-levels                six of them are a stage's, and give the levels of its two cells
---   row-price                           what a word of a row costs, by the row's levels and label
---   price-told                          the price of a bit tells the price of the plain search
---   row-quoted                          THE MAIN LAW: the row that a block picks tells the prices of its stage, and the bit that wins a tie
+--   steps-le, steps-are         the steps of three weights of a byte each
+--   price-nothing, price-step   what a cell costs to show a bit, in 256ths
+--   price-cut, table-filled     the price of a word, and the table of all
+--   pairList, pairs-le          the program's table of pairs, none of them above 15
+--   row-added, row-less         a row as the program adds it up, which is a byte
+--   picks-are                   eight rows packed are picked one by one
+--   bits-bit, bits-less         the 48 bits of a block are bits of the strip
+--   six-bit, pair-levels        six of them are a stage's, and give the levels of its two cells
+--   row-price                   what a word of a row costs, by the row's levels and label
+--   price-told                  the price of a bit tells the price of the plain search
+--   row-quoted                  THE MAIN LAW: the row that a block picks tells the prices of its stage, and the bit that wins a tie
 use mathlib.Core.Path.{_≡_, refl, sym, _∙_, ap, ap₂}
 use mathlib.Core.Bool.{Bool, true, false, cond, Bool·beq}
 use mathlib.Core.List.{List, [], _∷_, _++_}
 use mathlib.Core.Option.{none, some}
 use Prim.Native.Nat.{ℕ, zero, suc, _+_, _-_, _*_, _/_, _%_, _^_, _<_, _≤_, min}
 use native.Mathlib.Omega.{arith}
-use native.Mathlib.Nat.{min-eq-left, min-eq-right, min-le-right, add-mul-div-right, mul-assoc, mul-le-mul, le-refl}
+use native.Mathlib.Nat.{min-eq-left, min-eq-right, min-le-right}
 use lib.Dec.{eqb, ltb}
 use lib.ListN.{length, getD, List·getD-append, List·getD-eq-default}
 use lib.Seq.{getD-at}
-use lib.Pow.{pow-add, pow-pos, pow-mono, shl-exact, shr-shr, field, mod-mod-pow, high}
-use borrow.Author.Count.{below-more}
+use lib.Pow.{shr-shr, field, mod-mod-pow}
 use borrow.Author.Tests.{eq-eqb, ne-eqb, ltb-true, ltb-false, le-ltb}
 use Rattle.cells.specs.Places.{listOf, number}
 use Rattle.cells.specs.Bytes.{bitOf}
@@ -45,9 +44,10 @@ use Rattle.stages.specs.Stage.{closed, top}
 use Rattle.stages.specs.Blocks.{pickAt}
 use Rattle.stages.specs.Costs.{Tells, open-at, shut}
 use Rattle.stages.specs.Trails.{Quoted}
-use Rattle.trellis.specs.Rows.{stepList, priceFor, rowPrice, Table, Priced, onesOf, pairOf, stageRow, bitsAt}
+use Rattle.trellis.specs.Rows.{stepList, priceFor, rowPrice, Table, Priced, onesOf, pairOf, stageRow, bitsAt, packedOf}
 use Rattle.trellis.specs.Ways.{labelFor, stageFor, quoteFor}
 use Rattle.trellis.proofs.Costs.{tells-add, tells-cut}
+use Rattle.trellis.proofs.Digits.{packed-bits}
 
 -- PRICES. Where no weight is more than a byte, no step is more than closed
 pub steps-le : (W : List ℕ) → ((i : ℕ) → getD W i 0 ≤ 255) → (i : ℕ) → getD (stepList W) i 0 ≤ closed
@@ -138,57 +138,27 @@ pairs-le x = rw (pairs-are x) (omega (arith, ones-le (x % 64), ones-le (x % 64 /
 
 module _ (bits labels i : ℕ) where
   -- the row of stage i, as the program adds it up
-  row-is : getD pairList (bits / 2 ^ (6 * i) % 64) 0 + labels / 2 ^ (7 - i) % 2 * 16 ≡ stageRow bits labels i
+  pub row-added : getD pairList (bits / 2 ^ (6 * i) % 64) 0 + labels / 2 ^ (7 - i) % 2 * 16 ≡ stageRow bits labels i
   unfolding stageRow
-  row-is = rw (pairs-are (bits / 2 ^ (6 * i)))
+  row-added = rw (pairs-are (bits / 2 ^ (6 * i)))
 
   -- it is at most 31
-  pub row-most : stageRow bits labels i ≤ 31
+  row-most : stageRow bits labels i ≤ 31
   row-most =
       let b : labels / 2 ^ (7 - i) % 2 ≤ 1 = omega arith in
-      omega (arith, row-is, pairs-le (bits / 2 ^ (6 * i)))
+      omega (arith, row-added, pairs-le (bits / 2 ^ (6 * i)))
 
-  -- and shifted to its byte it fits
-  pub row-shl : i < 8 → (getD pairList (bits / 2 ^ (6 * i) % 64) 0 + labels / 2 ^ (7 - i) % 2 * 16) * 2 ^ (8 * i) % 2 ^ 64
-      ≡ stageRow bits labels i * 2 ^ (8 * i)
-  row-shl l = rw row-is (shl-exact 8 (8 * i) 64 (omega (arith, row-most)) (omega arith))
+  -- so it is a byte
+  pub row-less : stageRow bits labels i < 2 ^ 8
+  row-less = omega (arith, row-most)
 
--- the rows of i stages are picked, and one row more is added
-module _ (p r i : ℕ) (less : p < 2 ^ (8 * i)) (h : r ≤ 31) where
-  -- that is a number of i + 1 bytes
-  pub picks-less : p + r * 2 ^ (8 * i) < 2 ^ (8 * (i + 1))
-  picks-less =
-      let q : r * 2 ^ (8 * i) ≤ 31 * 2 ^ (8 * i) = mul-le-mul h (le-refl (2 ^ (8 * i))) in
-      let e : 8 * (i + 1) ≡ 8 * i + 8 = omega arith in
-      rw e (omega (arith, pow-add 2 (8 * i) 8))
-
-  -- which fits where i is below 8
-  pub picks-fit : i < 8 → p + r * 2 ^ (8 * i) < 2 ^ 64
-  picks-fit l =
-      let e : 8 * (i + 1) ≤ 64 = omega arith in
-      omega (arith, picks-less, pow-mono e)
-
-  -- the rows before it are as they were
-  row-before : (j : ℕ) → j < i → pickAt (p + r * 2 ^ (8 * i)) j ≡ pickAt p j
-  unfolding pickAt
-  row-before j l =
-      let n = 8 * (i - j - 1) in
-      let e : 8 * i ≡ n + 8 + 8 * j = omega arith in
-      let f : r * 2 ^ (8 * i) ≡ r * 2 ^ n * 256 * 2 ^ (8 * j) = rw (e, pow-add 2 (n + 8) (8 * j), pow-add 2 n 8) (simp mul-assoc) in
-      rw (f, add-mul-div-right p (r * 2 ^ n * 256) (pow-pos (8 * j))) (omega arith)
-
-  -- and its own is there
-  row-there : pickAt (p + r * 2 ^ (8 * i)) i ≡ r
-  unfolding pickAt
-  row-there =
-      let e : p + r * 2 ^ (8 * i) ≡ r * 2 ^ (8 * i) + p = omega arith in
-      rw (e, high r (8 * i) less) (omega arith)
-
-  -- so they are the picks of i + 1 rows
-  pub picks-more : (row : ℕ → ℕ) → r ≡ row i → ((j : ℕ) → j < i → pickAt p j ≡ row j)
-      → (j : ℕ) → j < i + 1 → pickAt (p + r * 2 ^ (8 * i)) j ≡ row j
-  picks-more row e k =
-      below-more (λ (j : ℕ). pickAt (p + r * 2 ^ (8 * i)) j ≡ row j) i (λ j l. row-before j l ∙ k j l) (row-there ∙ e)
+-- eight rows packed are picked one by one
+pub picks-are : (bits labels i : ℕ) → i < 8 → pickAt (packedOf 8 (stageRow bits labels) 8) i ≡ stageRow bits labels i
+unfolding pickAt
+picks-are bits labels i h =
+    let z : 8 * i + 0 ≡ 8 * i = omega arith in
+    let e = packed-bits 8 (stageRow bits labels) (row-less bits labels) 8 i 0 5 h (omega arith) in
+    rw z at e ∙ omega (arith, row-most bits labels i)
 
 -- THE BITS. 48 bits are six bytes
 six-bytes : (f : ℕ → ℕ) → number 48 f

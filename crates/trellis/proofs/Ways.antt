@@ -234,8 +234,9 @@ module _ (G : Generators) (rows strip content : List ℕ) where
         (trailFor G W 8 (blocksFor G strip content n q) s)) (sym (r .states s l))
         (rw (z, e, b) at
         (run-told (2 ^ G .memory) (wordsOf G) (words-le G) (quoteFor W) (nextFor G) (state-inside G (K .some-memory))
-        (next-zero G (K .some-memory)) (next-one G (K .some-memory)) 8 256 closed 510 (510 * later) (8 * q) later (stageFor G strip content) rows
-        picks (λ i. getD numbers i 0) (quoted W P) (rw f at (h .told W P)) room (omega arith) 8 (omega arith) s l))
+        (next-zero G (K .some-memory)) (next-one G (K .some-memory)) 8 256 closed 510 (510 * later) (8 * q) later
+        (stageFor G strip content) rows picks (λ i. getD numbers i 0) (quoted W P) (rw f at (h .told W P)) room (omega arith)
+        8 (omega arith) s l))
 
     -- and once they are settled the turn is done
     pub blocks-more : {earlier : ℕ} {settled : List ℕ} → earlier ≡ windowOf 8 (labelAt G content) (8 * q)

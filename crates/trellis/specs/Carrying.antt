@@ -4,12 +4,12 @@
 --   carriedTo                   the level of each cell after the digits are carried out
 --   shownCell, shownPair        the bits of a cell, and of two, that are to show given bits
 --   Shows                       the program's table of such pairs
---   shownBits                   the 48 bits of a block by that table
+--   placeIn, shownBits          the 48 bits of a block by that table
 --   withBits                    a strip with these bits in a block
 --   CarryAsked                  what carrying out asks
 use mathlib.Core.Path.{_≡_}
 use mathlib.Core.List.{List, [], _∷_}
-use Prim.Native.Nat.{ℕ, zero, suc, _+_, _-_, _*_, _/_, _%_, _^_, _<_, _≤_}
+use Prim.Native.Nat.{ℕ, suc, _+_, _-_, _*_, _/_, _%_, _^_, _<_, _≤_}
 use lib.ListN.{length, getD, set}
 use Rattle.cells.specs.Places.{number}
 use Rattle.cells.specs.Levels.{level}
@@ -19,7 +19,7 @@ use Rattle.codes.specs.Layouts.{oneBit, byteCount}
 use Rattle.codes.specs.Taps.{tapsOf, parityOf, windowOf}
 use Rattle.codes.specs.Blocks.{labelAt}
 use Rattle.stages.specs.Stage.{pick}
-use Rattle.trellis.specs.Rows.{onesOf}
+use Rattle.trellis.specs.Rows.{onesOf, packedOf}
 
 -- the digit of stage t
 unfoldable pub digitIn : List ℕ → ℕ → ℕ
@@ -55,12 +55,14 @@ pub record Shows (first second : ℕ) (pairs : List ℕ) : Type 0 where
   pub at : (k : ℕ) → k < 256 → getD pairs k 0 ≡ shownPair first second k
   pub less : (k : ℕ) → getD pairs k 0 < 64
 
--- the bits of the first n stages of a block, where its cells are to show the bits `first` and `second`, the first stage's worth most
-unfoldable pub shownBits : (pairs : List ℕ) (bits first second n : ℕ) → ℕ
-shownBits pairs bits first second zero = 0
-shownBits pairs bits first second (suc i) =
-    shownBits pairs bits first second i
-    + getD pairs (bits / 2 ^ (6 * i) % 64 + 64 * (first / 2 ^ (7 - i) % 2 + 2 * (second / 2 ^ (7 - i) % 2))) 0 * 2 ^ (6 * i)
+-- the place in the table of the pair of stage i of a block, where its cells are to show the bits `first` and `second`, the first stage's
+-- worth most
+abbrev pub placeIn : (bits first second i : ℕ) → ℕ
+placeIn bits first second i = bits / 2 ^ (6 * i) % 64 + 64 * (first / 2 ^ (7 - i) % 2 + 2 * (second / 2 ^ (7 - i) % 2))
+
+-- the bits of its first n stages, six a stage
+abbrev pub shownBits : (pairs : List ℕ) (bits first second n : ℕ) → ℕ
+shownBits pairs bits first second = packedOf 6 (λ i. getD pairs (placeIn bits first second i) 0)
 
 -- byte j of 48 bits
 unfoldable pub byteIn : ℕ → ℕ → ℕ

@@ -7,10 +7,11 @@
 --   pairOf                   the levels of two cells by their six bits
 --   stageRow bits labels i   the row of stage i of a block
 --   bitsAt strip q           the 48 bits of block q
+--   packedOf w f n           n digits of w bits each as one number
 use mathlib.Core.Path.{_≡_}
 use mathlib.Core.Bool.{cond}
 use mathlib.Core.List.{List, [], _∷_, _++_}
-use Prim.Native.Nat.{ℕ, _+_, _-_, _*_, _/_, _%_, _^_, _<_, _≤_, min}
+use Prim.Native.Nat.{ℕ, zero, suc, _+_, _-_, _*_, _/_, _%_, _^_, _<_, _≤_, min}
 use lib.Dec.{eqb}
 use lib.ListN.{getD, length}
 use Rattle.search.specs.Strip.{Dear, stepsOf}
@@ -57,3 +58,8 @@ unfoldable pub bitsAt : List ℕ → ℕ → ℕ
 bitsAt strip q =
     getD strip (6 * q) 0 + getD strip (6 * q + 1) 0 * 256 + getD strip (6 * q + 2) 0 * 65536 + getD strip (6 * q + 3) 0 * 16777216
     + getD strip (6 * q + 4) 0 * 4294967296 + getD strip (6 * q + 5) 0 * 1099511627776
+
+-- the digits f of w bits each, the first worth least
+unfoldable pub packedOf : ℕ → (ℕ → ℕ) → ℕ → ℕ
+packedOf w f zero = 0
+packedOf w f (suc n) = packedOf w f n + f n * 2 ^ (w * n)

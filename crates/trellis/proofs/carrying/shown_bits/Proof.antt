@@ -5,8 +5,9 @@ use native.Mathlib.Omega.{arith}
 use native.Mathlib.Nat.{lt-trans}
 use lib.Dec.{lit<}
 use borrow.Author.Needs.{needs}
-use Rattle.trellis.specs.Carrying.{shownBits}
-use Rattle.trellis.proofs.Carried.{shown-fits, shown-more}
+use Rattle.trellis.specs.Rows.{packedOf}
+use Rattle.trellis.specs.Carrying.{placeIn, shownBits}
+use Rattle.trellis.proofs.Digits.{packed-fits, packed-more}
 use Rattle.trellis.proofs.carrying.shown_bits.Statement.{statement}
 use Rattle.trellis.proofs.carrying.shown_bits.Tie as tie
 
@@ -17,7 +18,7 @@ abbrev μ-loop : tie.MeasureT-loop
 μ-loop pairs bits first second out₀ i₀ out i = 8 - i
 
 loop-holds : tie.Need-loop-holds Inv-loop μ-loop
-unfolding shownBits
+unfolding packedOf
 loop-holds c = (search needs, refl)
 
 sub-v : tie.Need-sub-v Inv-loop μ-loop
@@ -82,15 +83,16 @@ loop-again c =
     let a = c .before .before .before .args in
     let l = c .before .before .loop in (
       search needs,
-      shown-more (a .pairs .now) (c .before .before .before .pre) (a .bits) (a .first) (a .second) (l .i) (l .out)
-          (c .before .loop-test .taken) (l .inv .1),
+      packed-more 6 _ (λ j. c .before .before .before .pre (placeIn (a .bits) (a .first) (a .second) j)) (l .i) (l .out)
+          (omega (arith, c .before .loop-test .taken)) (l .inv .1),
     )
 
 add-out : tie.Need-add-out Inv-loop μ-loop
 add-out c =
     let a = c .before .before .before .args in
     let l = c .before .before .loop in
-    let f = shown-fits (a .pairs .now) (c .before .before .before .pre) (a .bits) (a .first) (a .second) (l .i + 1) (loop-again c .0) in
+    let f = packed-fits 6 _ (λ j. c .before .before .before .pre (placeIn (a .bits) (a .first) (a .second) j)) (l .i + 1) 8
+    (loop-again c .0) in
     record { fits = omega (arith, f, loop-again c .1) }
 
 returns : tie.Need-returns Inv-loop μ-loop

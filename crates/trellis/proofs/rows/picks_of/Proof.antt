@@ -1,23 +1,25 @@
--- The loop's invariant: the rows of the stages before i are picked, and take i bytes. The measure is what is left of eight stages.
-use mathlib.Core.Path.{_≡_, refl}
-use Prim.Native.Nat.{ℕ, _-_, _*_, _/_, _^_, _≤_, _<_}
+-- The loop's invariant: the rows of the stages before i are packed, a byte each. The measure is what is left of eight stages.
+use mathlib.Core.Path.{_≡_, refl, _∙_, ap}
+use Prim.Native.Nat.{ℕ, _+_, _-_, _*_, _/_, _^_, _≤_, _<_}
 use native.Mathlib.Omega.{arith}
 use borrow.Author.Needs.{needs}
 use Rattle.stages.specs.Blocks.{pickAt}
-use Rattle.trellis.specs.Rows.{stageRow}
-use Rattle.trellis.proofs.Quotes.{pairs-le, row-most, row-shl, picks-less, picks-fit, picks-more}
+use Rattle.trellis.specs.Rows.{stageRow, packedOf}
+use Rattle.trellis.proofs.Digits.{packed-fits, packed-more}
+use Rattle.trellis.proofs.Quotes.{pairs-le, row-added, row-less, picks-are}
 use Rattle.trellis.proofs.rows.picks_of.Statement.{statement}
 use Rattle.trellis.proofs.rows.picks_of.Tie as tie
 
 abbrev Inv-loop : tie.InvT-loop
 Inv-loop bits labels pairs picks₀ i₀ picks i =
-    (i ≤ 8) × (picks < 2 ^ (8 * i)) × ((j : ℕ) → j < i → pickAt picks j ≡ stageRow bits labels j)
+    (i ≤ 8) × (picks ≡ packedOf 8 (stageRow bits labels) i)
 
 abbrev μ-loop : tie.MeasureT-loop
 μ-loop bits labels pairs picks₀ i₀ picks i = 8 - i
 
 loop-holds : tie.Need-loop-holds Inv-loop μ-loop
-loop-holds c = (search needs, omega arith, λ j h. absurd (let z : ⊥ = omega arith in z))
+unfolding packedOf
+loop-holds c = (search needs, refl)
 
 mul-pair : tie.Need-mul-pair Inv-loop μ-loop
 mul-pair c = search needs
@@ -58,16 +60,6 @@ cast-picks c = search needs
 shl-picks : tie.Need-shl-picks Inv-loop μ-loop
 shl-picks c = search needs
 
-add-picks-2 : tie.Need-add-picks-2 Inv-loop μ-loop
-add-picks-2 c =
-    let a = c .before .before .args in
-    let l = c .before .loop in
-    let t : l .i < 8 = c .loop-test .taken in
-    record {
-      fits = rw (row-shl (a .bits) (a .labels) (l .i) t)
-          (picks-fit (l .picks) _ (l .i) (l .inv .1) (row-most (a .bits) (a .labels) (l .i)) t);
-    }
-
 add-i : tie.Need-add-i Inv-loop μ-loop
 add-i c = search needs
 
@@ -78,15 +70,25 @@ loop-again : tie.Need-loop-again Inv-loop μ-loop
 loop-again c =
     let a = c .before .before .args in
     let l = c .before .loop in
-    let m = row-shl (a .bits) (a .labels) (l .i) (c .loop-test .taken) in
-    let n = row-most (a .bits) (a .labels) (l .i) in (
+    let t : l .i < 8 = c .loop-test .taken in (
       search needs,
-      rw m (picks-less (l .picks) _ (l .i) (l .inv .1) n),
-      rw m (picks-more (l .picks) _ (l .i) (l .inv .1) n (stageRow (a .bits) (a .labels)) refl (l .inv .2)),
+      rw (row-added (a .bits) (a .labels) (l .i))
+          (packed-more 8 (stageRow (a .bits) (a .labels)) (row-less (a .bits) (a .labels)) (l .i) (l .picks) (omega arith) (l .inv .1)),
     )
 
+add-picks-2 : tie.Need-add-picks-2 Inv-loop μ-loop
+add-picks-2 c =
+    let a = c .before .before .args in
+    let f = packed-fits 8 (stageRow (a .bits) (a .labels)) (row-less (a .bits) (a .labels)) (c .before .loop .i + 1) 8 (loop-again c .0) in
+    record { fits = omega (arith, f, loop-again c .1) }
+
 returns : tie.Need-returns Inv-loop μ-loop
-returns c = let e : c .before .loop .i ≡ 8 = omega arith in λ i h. c .before .loop .inv .2 i (omega arith)
+returns c =
+    let a = c .before .before .args in
+    let l = c .before .loop in
+    let e : l .i ≡ 8 = omega arith in
+    let p : l .picks ≡ packedOf 8 (stageRow (a .bits) (a .labels)) 8 = rw e at (l .inv .1) in
+    λ i h. ap (λ (x : ℕ). pickAt x i) p ∙ picks-are (a .bits) (a .labels) i h
 
 pub picks-of-spec : {M : Type 1} → statement M
 picks-of-spec =
