@@ -5,6 +5,7 @@
 --   shapeGround, ground         the grounds of erase and census; of read, price and write
 --   eraseGround                 from the state: an erase outside 50 to 400
 --   refusalNumber               the paper's number of a refusal
+--   textNumber                  the number of the refusal that no call has
 --   completionOf                done, or the refusal; completionNumber, the paper's number of it
 use mathlib.Core.Bool.{Bool, cond, _&&_, _||_}
 use mathlib.Core.Option.{Option, none, some}
@@ -76,6 +77,10 @@ refusalNumber StripsOutside = 3
 refusalNumber PageLength = 4
 refusalNumber DataLength = 5
 refusalNumber EraseTemperature = 8
+
+-- '6: text of the program is not in its form': the run program's own, so no member of the enum, which a call could answer
+abbrev pub textNumber : ℕ
+textNumber = 6
 
 -- the generators of a code's number, where it is one
 unfoldable pub numbered : ℕ → Generators

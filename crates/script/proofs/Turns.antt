@@ -19,7 +19,7 @@ use Rattle.search.specs.Best.{Solution}
 use Rattle.refusals.specs.declared.Refusal.{Refusal}
 use Rattle.refusals.specs.declared.Completion.{Completion}
 use Rattle.refusals.specs.declared.Completion.the-variants.{Done, Refused}
-use Rattle.refusals.specs.Refusals.{sizesGround, pageGround, dataGround, ground, refusalNumber, completionOf}
+use Rattle.refusals.specs.Refusals.{sizesGround, pageGround, dataGround, ground, refusalNumber, textNumber, completionOf}
 use Rattle.codes.proofs.Layouts.{oneBit-bytes}
 use Rattle.demand.specs.Computed.{pageWrite, spentStrip}
 use Rattle.page.specs.Answers.{callAnswer, jobAnswer, jobOf, answerOf, numberOf}
@@ -48,7 +48,7 @@ form-broken none e = refl
 form-broken (some w) e = let z : _≡_ {A = ℕ} 0 1 = cc in absurd (omega arith)
 
 module _ (p : Progress) (line : List ℕ) {f : Form} (e : f ≡ formOf (valuesOf line)) where
-  pub values-broken : f ≡ Broken → valuesTurn p line ≡ halt 6 p
+  pub values-broken : f ≡ Broken → valuesTurn p line ≡ halt textNumber p
   unfolding valuesTurn
   values-broken b = rw (form-broken (valuesOf line) (sym e ∙ b))
 
@@ -116,7 +116,7 @@ module _ (p : Progress) (line : List ℕ) (long : 8192 < length line) where
   unlike : (text : List ℕ) → length text ≤ 8192 → sameList line text ≡ false
   unlike text h = same-lengths line text (λ e. let z : ⊥ = omega arith in z)
 
-  no-values : (o : Option Values) → valuesOf line ≡ o → formTurn p o ≡ halt 6 p
+  no-values : (o : Option Values) → valuesOf line ≡ o → formTurn p o ≡ halt textNumber p
   no-values none e = refl
   no-values (some v) e =
       let t = text-of-values line v e in
@@ -129,7 +129,7 @@ module _ (p : Progress) (line : List ℕ) (long : 8192 < length line) where
   no-data = let b = size-bound (p .values) in data-odd (sizeOf (p .values)) line (λ e. let z : ⊥ = omega arith in z)
 
   -- A LONG LINE: whichever of the four it is, it halts
-  pub long-line : lineTurn p line ≡ halt 6 p
+  pub long-line : lineTurn p line ≡ halt textNumber p
   unfolding lineTurn writeTurn dataTurn valuesTurn namesTurn
   long-line =
       rw (no-data, and-false, unlike dataText (omega arith), no-values (valuesOf line) refl, unlike namesText (omega arith))

@@ -1,5 +1,6 @@
 -- What the run program does with its input is stated by these definitions: `Rows` has the row of a write, `Turns` what one line does,
--- `Runs` the whole run.
+-- `Runs` the whole run, `Positions` the run between two bytes of its input.
 pub mod Rows
 pub mod Turns
 pub mod Runs
+pub mod Positions

@@ -8,6 +8,7 @@ use mathlib.Core.List.{List, [], _∷_, _++_}
 use mathlib.Core.Option.{Option, none, some}
 use Prim.Native.Nat.{ℕ}
 use lib.Dec.{ltb, eqb}
+use Rattle.refusals.specs.Refusals.{textNumber}
 use Rattle.text.specs.Text.{namesText, headText, faultText}
 use Rattle.text.specs.Lines.{noValues}
 use Rattle.script.specs.Turns.{Progress, atLine, Turned, lineTurn}
@@ -28,8 +29,8 @@ onward t rest = t .text ++ cond (t .on) (rest (t .after)) []
 -- 'A line that breaks these rules, or is missing, is refusal 6 with its line number': lines 1 to 3 must be there, and every line must end.
 -- 'Lines are judged in order and the first at fault is reported'; 'rows printed before remain'
 unfoldable pub runFrom : Progress → List (Option (List ℕ)) → List ℕ
-runFrom p [] = cond (ltb 3 (p .number)) [] (faultText 6 (p .number))
-runFrom p (none ∷ rest) = faultText 6 (p .number)
+runFrom p [] = cond (ltb 3 (p .number)) [] (faultText textNumber (p .number))
+runFrom p (none ∷ rest) = faultText textNumber (p .number)
 runFrom p (some line ∷ rest) = onward (lineTurn p line) (λ q. runFrom q rest)
 
 -- THE RUN: what the program prints of this input. There is no page before line 3

@@ -36,7 +36,8 @@ fn answer_cost(a: Answer) -> u64
 // Writes the data to the page and puts the row at the end of the buffer.
 pub fn write_row(number: u64, v: Values, page: &mut [u8], data: &[u8], buffer: &mut [u8]) -> usize
     requires { ⌜ 96 ≡ length (now buffer) ⌝ }
-    ensures { λ r. ⌜ Tail (writeRow number v (now (page .entry)) (now («data» .entry))) r (now (buffer .exit)) ⌝ }
+    ensures { λ r. ⌜ Tail (writeRow number v (now (page .entry)) (now («data» .entry)))
+        r (now (buffer .entry)) (now (buffer .exit)) ⌝ }
     ensures { λ _. ⌜ now (page .exit) ≡ valuesPage v (now (page .entry)) (now («data» .entry)) ⌝ }
 {
     let answer = writing::write(v.code, v.bytes, v.strips, page, data);

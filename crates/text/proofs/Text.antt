@@ -4,6 +4,8 @@
 --   digits-more                         a number of several digits is the others and the last
 --   size-more, size-most, size-some     how many digits a number has
 --   put-before, text-more               a byte put in front of a text, and one byte more of a text
+--   kept-byte, kept-more                what stands before a byte that is put is as it was, and so it stays
+--   nothing-put, tail-same              a buffer of which nothing is printed, and a text by another name
 --   rest-next                           the rest of a line from a place is the byte there and the rest after it
 use mathlib.Core.Path.{_≡_, refl, sym, _∙_, ap}
 use mathlib.Core.Bool.{Bool, true, false}
@@ -12,10 +14,10 @@ use Prim.Native.Nat.{ℕ, zero, suc, _+_, _-_, _^_, _/_, _%_, _<_, _≤_}
 use native.Mathlib.Omega.{arith}
 use native.Mathlib.Numerals.{add-one}
 use lib.Dec.{ltb}
-use lib.ListN.{length, drop, set, getD, length-append, length-set}
-use lib.Seq.{drop-cons, getD-set-same, drop-set-lt}
+use lib.ListN.{length, take, drop, set, getD, length-append, length-set, drop-of-length-le}
+use lib.Seq.{drop-cons, getD-set-same, drop-set-lt, take-set-le, take-take}
 use borrow.Author.Tests.{lt-ltb, le-ltb, ltb-true, ltb-false}
-use Rattle.text.specs.Text.{onto, decimal}
+use Rattle.text.specs.Text.{onto, decimal, Tail}
 
 -- the digits of a number below 10
 pub onto-last : (k n : ℕ) (rest : List ℕ) → n < 10 → onto (suc k) n rest ≡ (48 + n) ∷ rest
@@ -104,6 +106,27 @@ put-before b end v h h2 =
     let g : at < length b = omega arith in
     let g2 : at < length (set b at v) = rw (length-set b at v) g in
     drop-cons (set b at v) at 0 g2 ∙ rw (getD-set-same b at v 0 g, drop-set-lt (suc at) b at v (omega arith), e)
+
+-- WHAT STANDS BEFORE a place in one buffer stands there in the other, so also before an earlier place
+kept-front : (a b : List ℕ) (at end : ℕ) → at ≤ end → take end a ≡ take end b → take at a ≡ take at b
+kept-front a b at end h e = sym (take-take at end a h) ∙ ap (take at) e ∙ take-take at end b h
+
+-- after a second text in front of the first: a before, b between, d after
+pub kept-more : (a b d : List ℕ) (at end : ℕ) → at ≤ end → take at d ≡ take at b → take end b ≡ take end a → take at d ≡ take at a
+kept-more a b d at end h e f = e ∙ kept-front b a at end h f
+
+-- and after a byte is put
+pub kept-byte : (a b : List ℕ) (end v : ℕ) → take end b ≡ take end a → take (end - 1) (set b (end - 1) v) ≡ take (end - 1) a
+kept-byte a b end v e = kept-more a b (set b (end - 1) v) (end - 1) end (omega arith) (take-set-le (end - 1) b (end - 1) v (omega arith)) e
+
+-- a buffer of 96 bytes as it is ends in no text
+pub nothing-put : (b : List ℕ) → 96 ≡ length b → Tail [] 96 b b
+nothing-put b e = record { at-most = omega arith; text-is = drop-of-length-le b {i = 96} (omega arith); kept = refl }
+
+-- a text by another name
+pub tail-same : {text other : List ℕ} {at : ℕ} {before buffer : List ℕ} → other ≡ text → Tail text at before buffer
+    → Tail other at before buffer
+tail-same e t = rw e t
 
 -- the rest from a place is the byte there and the rest after it
 pub rest-next : (l : List ℕ) (i : ℕ) → i < length l → drop i l ≡ getD l i 0 ∷ drop (i + 1) l

@@ -4,13 +4,13 @@
 --   namesText, dataText    lines 1 and 3
 --   headText, rowText      what is printed after line 3, and for each write
 --   faultHead, faultText   what is printed at a fault
---   Put, Tail              where a text stands in a buffer: in front of another one, and at the end
+--   Put, Tail              where a text stands in a buffer: in front of another one, and at the end; what stands before it is as it was
 use mathlib.Core.Path.{_≡_}
 use mathlib.Core.Bool.{cond}
 use mathlib.Core.List.{List, [], _∷_, _++_}
 use Prim.Native.Nat.{ℕ, zero, suc, _+_, _/_, _%_, _≤_}
 use lib.Dec.{ltb}
-use lib.ListN.{drop}
+use lib.ListN.{take, drop}
 use Rattle.text.specs.declared.Values.{Values}
 
 -- the decimal digits of n in front of a text, the last digit first; k is more than their count
@@ -52,13 +52,16 @@ faultHead = 114 ∷ 101 ∷ 102 ∷ 117 ∷ 115 ∷ 97 ∷ 108 ∷ 32 ∷ 108 �
 unfoldable pub faultText : ℕ → ℕ → List ℕ
 faultText refusal line = faultHead ++ (decimal refusal ++ 32 ∷ (decimal line ++ 10 ∷ []))
 
--- the buffer has a text from `at` on, of which at most so many bytes are new: what stood from `end` on is the rest of it
-pub record Put (most : ℕ) (text : List ℕ) (end at : ℕ) (buffer : List ℕ) : Type 0 where
+-- the buffer has a text from `at` on, of which at most so many bytes are new: what stood from `end` on is the rest of it; the bytes in front
+-- of it are as they were
+pub record Put (most : ℕ) (text : List ℕ) (end at : ℕ) (before buffer : List ℕ) : Type 0 where
   pub near : end ≤ at + most
   pub front : at ≤ end
   pub text-is : drop at buffer ≡ text
+  pub kept : take at buffer ≡ take at before
 
--- a buffer of 96 bytes ends in a text, from `at` on
-pub record Tail (text : List ℕ) (at : ℕ) (buffer : List ℕ) : Type 0 where
+-- a buffer of 96 bytes ends in a text, from `at` on; the bytes in front of it are as they were
+pub record Tail (text : List ℕ) (at : ℕ) (before buffer : List ℕ) : Type 0 where
   pub at-most : at ≤ 96
   pub text-is : drop at buffer ≡ text
+  pub kept : take at buffer ≡ take at before

@@ -9,8 +9,8 @@ use Rattle.script.proofs.following.data_turn.Tie as tie
 is-data-requires : tie.Need-is-data-requires
 is-data-requires c κs = search needs
 
-stop-requires : tie.Need-stop-requires
-stop-requires c κs = search needs
+stop-form-requires : tie.Need-stop-form-requires
+stop-form-requires c κs = search needs
 
 same-length : tie.Need-same-length
 same-length c = search needs
@@ -20,7 +20,7 @@ unfolding dataTurn
 returns c =
     let i = c .before .before .before .before in
     let e = sym (i .before .is-data .ensures) ∙ not-true _ (i .if1 .taken) in
-    rw e (c .before .before .stop .ensures)
+    rw e (c .before .before .stop-form .ensures)
 
 put-head-requires : tie.Need-put-head-requires
 put-head-requires c κs = search needs
@@ -33,14 +33,14 @@ unfolding dataTurn
 returns-2 c =
     let i = c .before .before .before .before in
     let e = sym (i .before .is-data .ensures) ∙ not-false _ (i .if1 .left) in
-    rw e (record { text-is = c .before .before .put-head .ensures; values-are = refl; on-is = refl })
+    rw e (record { text-is = c .before .before .put-head .ensures; run-is = refl })
 
 pub data-turn-spec : {M : Type 1} → statement M
 data-turn-spec =
     tie.close
     (tie.spec
     is-data-requires
-    stop-requires
+    stop-form-requires
     same-length
     returns
     put-head-requires

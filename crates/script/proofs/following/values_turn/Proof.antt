@@ -2,8 +2,8 @@
 use mathlib.Core.Path.{refl}
 use mathlib.Core.List.{[]}
 use native.Mathlib.Omega.{arith}
-use lib.ListN.{drop-of-length-le}
 use borrow.Author.Needs.{needs}
+use Rattle.text.proofs.Text.{nothing-put}
 use Rattle.script.specs.Turns.{atLine}
 use Rattle.script.proofs.Turns.{values-broken, values-given, values-refused}
 use Rattle.script.proofs.following.values_turn.Statement.{statement}
@@ -18,8 +18,8 @@ enum-known-form c = search needs
 enum-told : tie.Need-enum-told
 enum-told c = search needs
 
-stop-requires : tie.Need-stop-requires
-stop-requires c κs = search needs
+stop-form-requires : tie.Need-stop-form-requires
+stop-form-requires c κs = search needs
 
 same-length : tie.Need-same-length
 same-length c = search needs
@@ -29,7 +29,7 @@ returns c =
     let f = c .before .before .before .before in
     let a = f .before .before .before .before .before .args in
     rw (values-broken (atLine 2 (a .v) []) (a .line .now) (f .before .before .values-of .ensures) (f .enum-told .given .1))
-    (c .before .before .stop .ensures)
+    (c .before .before .stop-form .ensures)
 
 judge-sizes-requires : tie.Need-judge-sizes-requires
 judge-sizes-requires c κs = search needs
@@ -46,8 +46,8 @@ refusal-number-requires c κs = search needs
 cast-stop : tie.Need-cast-stop
 cast-stop c = search needs
 
-stop-requires-2 : tie.Need-stop-requires-2
-stop-requires-2 c κs = search needs
+stop-requires : tie.Need-stop-requires
+stop-requires c κs = search needs
 
 returns-2 : tie.Need-returns-2
 returns-2 c =
@@ -58,11 +58,7 @@ returns-2 c =
     values-given (atLine 2 (a .v) []) (a .line .now) (f .before .before .values-of .ensures) (f .form .given .1) (j .judge-sizes .ensures)
     (c .enum-told2 .given .1) in
     rw e
-    (record {
-      text-is = record { at-most = omega arith; text-is = drop-of-length-le (a .buffer .now) {i = 96} (omega arith) };
-      values-are = refl;
-      on-is = refl;
-    })
+    (record { text-is = nothing-put (a .buffer .now) (omega arith); run-is = refl })
 
 same-length-2 : tie.Need-same-length-2
 same-length-2 c = search needs
@@ -76,7 +72,7 @@ returns-3 c =
     let e =
     values-refused (atLine 2 (a .v) []) (a .line .now) (f .before .before .values-of .ensures) (f .form .given .1) (j .judge-sizes .ensures)
     (k .judged .given .1) in
-    rw (e, ← c .before .before .before .before .refusal-number .ensures) (c .before .before .stop2 .ensures)
+    rw (e, ← c .before .before .before .before .refusal-number .ensures) (c .before .before .stop .ensures)
 
 pub values-turn-spec : {M : Type 1} → statement M
 values-turn-spec =
@@ -85,7 +81,7 @@ values-turn-spec =
     values-of-requires
     enum-known-form
     enum-told
-    stop-requires
+    stop-form-requires
     same-length
     returns
     judge-sizes-requires
@@ -93,7 +89,7 @@ values-turn-spec =
     enum-known-judged
     refusal-number-requires
     cast-stop
-    stop-requires-2
+    stop-requires
     returns-2
     same-length-2
     returns-3)

@@ -7,8 +7,8 @@ use Rattle.script.specs.Turns.{writeTurn}
 use Rattle.script.proofs.following.write_turn.Statement.{statement}
 use Rattle.script.proofs.following.write_turn.Tie as tie
 
-stop-requires : tie.Need-stop-requires
-stop-requires c κs = search needs
+stop-form-requires : tie.Need-stop-form-requires
+stop-form-requires c κs = search needs
 
 same-length : tie.Need-same-length
 same-length c = search needs
@@ -17,13 +17,13 @@ returns : tie.Need-returns
 unfolding writeTurn
 returns c =
     rw (lt-leb _ 1003 (c .before .before .before .before .if1 .taken))
-    (record { told = c .before .before .stop .ensures; page-is = refl }, refl)
+    (record { told = c .before .before .stop-form .ensures; page-is = refl }, refl)
 
 decode-requires : tie.Need-decode-requires
 decode-requires c κs = search needs
 
-stop-requires-2 : tie.Need-stop-requires-2
-stop-requires-2 c κs = search needs
+stop-form-requires-2 : tie.Need-stop-form-requires-2
+stop-form-requires-2 c κs = search needs
 
 same-length-2 : tie.Need-same-length-2
 same-length-2 c = search needs
@@ -37,13 +37,16 @@ returns-2 c =
     let i = c .before .before .before .before in
     let e = sym (i .before .before .before .decode .ensures .0) ∙ not-true _ (i .if2 .taken) in
     let l = le-leb _ 1003 (i .before .before .before .before .before .if1 .left) in
-    (rw (l, e) (record { told = c .before .before .stop2 .ensures; page-is = refl }), rw l (i .before .before .before .decode .ensures .1))
+    (rw (l, e) (record { told = c .before .before .stop-form2 .ensures; page-is = refl }), rw l (i .before .before .before .decode .ensures .1))
 
 sub-write-row : tie.Need-sub-write-row
 sub-write-row c = search needs
 
 write-row-requires : tie.Need-write-row-requires
 write-row-requires c κs = search needs
+
+add-t16 : tie.Need-add-t16
+add-t16 c = search needs
 
 same-length-4 : tie.Need-same-length-4
 same-length-4 c = search needs
@@ -63,7 +66,7 @@ returns-3 c =
     let w = c .before .before .before .before .write-row .ensures in
     let l = le-leb _ 1003 (i .before .before .before .before .before .if1 .left) in (
       rw (l, g, ← data-decoded _ _ g, ← d .1)
-          (record { told = record { text-is = w .0; values-are = refl; on-is = refl }; page-is = w .1 }),
+          (record { told = record { text-is = w .0; run-is = refl }; page-is = w .1 }),
       rw l (d .1),
     )
 
@@ -71,16 +74,17 @@ pub write-turn-spec : {M : Type 1} → statement M
 write-turn-spec =
     tie.close
     (tie.spec
-    stop-requires
+    stop-form-requires
     same-length
     returns
     decode-requires
-    stop-requires-2
+    stop-form-requires-2
     same-length-2
     same-length-3
     returns-2
     sub-write-row
     write-row-requires
+    add-t16
     same-length-4
     same-length-5
     same-length-6

@@ -2,17 +2,17 @@
 use mathlib.Core.Path.{_≡_, refl, sym, _∙_, ap}
 use Prim.Native.Nat.{suc, _+_, _/_, _^_, _≤_, _<_}
 use native.Mathlib.Omega.{arith}
-use lib.ListN.{length, drop, length-set}
+use lib.ListN.{length, take, drop, length-set}
 use borrow.Author.Needs.{needs}
 use Rattle.text.specs.Text.{onto, decimal}
-use Rattle.text.proofs.Text.{put-before, digits-more, size-more, size-most, size-some, onto-append, onto-last}
+use Rattle.text.proofs.Text.{put-before, kept-byte, digits-more, size-more, size-most, size-some, onto-append, onto-last}
 use Rattle.text.proofs.printing.put_decimal.Statement.{statement}
 use Rattle.text.proofs.printing.put_decimal.Tie as tie
 
 abbrev Inv-loop : tie.InvT-loop
 Inv-loop buffer₀ end number n₀ at₀ buffer n at =
     (at ≤ end) × (end + length (decimal n) ≤ at + 20) × (length buffer ≡ length buffer₀)
-    × (onto (suc number) number (drop end buffer₀) ≡ onto (suc n) n (drop at buffer))
+    × (onto (suc number) number (drop end buffer₀) ≡ onto (suc n) n (drop at buffer)) × (take at buffer ≡ take at buffer₀)
 
 abbrev μ-loop : tie.MeasureT-loop
 μ-loop buffer₀ end number n₀ at₀ buffer n at = n
@@ -20,7 +20,7 @@ abbrev μ-loop : tie.MeasureT-loop
 loop-holds : tie.Need-loop-holds Inv-loop μ-loop
 loop-holds c =
     let e : c .args .number < 10 ^ 20 = omega arith in
-    (omega arith, omega (arith, size-most 19 (c .args .number) e), refl, refl)
+    (omega arith, omega (arith, size-most 19 (c .args .number) e), refl, refl, refl)
 
 sub-at : tie.Need-sub-at Inv-loop μ-loop
 sub-at c = omega (arith, size-some (c .before .loop .n))
@@ -47,6 +47,7 @@ loop-again c =
       simp length-set (omega arith),
       l .inv .3 ∙ digits-more (l .n) _ (c .loop-test .taken)
           ∙ ap (onto (suc (l .n / 10)) (l .n / 10)) (sym (put-before _ (l .at) _ (omega arith) (omega arith))),
+      kept-byte _ _ (l .at) _ (l .inv .4),
     )
 
 sub-at-2 : tie.Need-sub-at-2 Inv-loop μ-loop
@@ -76,6 +77,7 @@ returns c =
       text-is =
           put-before _ (l .at) _ (omega arith) (omega arith) ∙ sym (onto-last (l .n) (l .n) _ (omega arith)) ∙ sym (l .inv .3)
           ∙ onto-append (suc (s .number)) (s .number) _;
+      kept = kept-byte _ _ (l .at) _ (l .inv .4);
     }
 
 pub put-decimal-spec : {M : Type 1} → statement M

@@ -3,6 +3,7 @@ use native.Mathlib.Omega.{arith}
 use lib.ListN.{drop-of-length-le}
 use borrow.Author.Needs.{needs}
 use Rattle.text.specs.Text.{faultHead, faultText}
+use Rattle.text.proofs.Text.{kept-more}
 use Rattle.text.proofs.printing.put_fault.Statement.{statement}
 use Rattle.text.proofs.printing.put_fault.Tie as tie
 
@@ -28,9 +29,11 @@ returns c =
     let r = t .before .before .before .before .before in
     let l = r .before .before .before .before in
     let e = drop-of-length-le (l .before .before .before .args .buffer .now) {i = 96} (omega arith) in
+    let k = kept-more _ _ _ _ _ (r .put-field2 .ensures .front) (r .put-field2 .ensures .kept) (l .put-field .ensures .kept) in
     record {
       at-most = omega arith;
       text-is = rw (t .put-text .ensures .text-is, r .put-field2 .ensures .text-is, l .put-field .ensures .text-is, e);
+      kept = kept-more _ _ _ _ _ (t .put-text .ensures .front) (t .put-text .ensures .kept) k;
     }
 
 pub put-fault-spec : {M : Type 1} → statement M

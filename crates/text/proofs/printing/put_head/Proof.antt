@@ -19,7 +19,8 @@ returns : tie.Need-returns
 unfolding headText
 returns c =
     let e = drop-of-length-le (c .before .before .before .before .before .before .args .buffer .now) {i = 96} (omega arith) in
-    record { at-most = omega arith; text-is = rw (c .before .before .put-text .ensures .text-is, e) }
+    let t = c .before .before .put-text .ensures in
+    record { at-most = omega arith; text-is = rw (t .text-is, e); kept = t .kept }
 
 pub put-head-spec : {M : Type 1} → statement M
 put-head-spec = tie.close (tie.spec slice-aggregate-put-text put-text-requires same-length returns)

@@ -3,6 +3,7 @@ use native.Mathlib.Omega.{arith}
 use lib.ListN.{drop-of-length-le}
 use borrow.Author.Needs.{needs}
 use Rattle.text.specs.Text.{rowText}
+use Rattle.text.proofs.Text.{kept-more}
 use Rattle.text.proofs.printing.put_row.Statement.{statement}
 use Rattle.text.proofs.printing.put_row.Tie as tie
 
@@ -29,11 +30,14 @@ returns c =
     let k = a .before .before .before .before in
     let l = k .before .before .before .before in
     let e = drop-of-length-le (l .before .before .before .args .buffer .now) {i = 96} (omega arith) in
+    let two = kept-more _ _ _ _ _ (k .put-field2 .ensures .front) (k .put-field2 .ensures .kept) (l .put-field .ensures .kept) in
+    let three = kept-more _ _ _ _ _ (a .put-field3 .ensures .front) (a .put-field3 .ensures .kept) two in
     record {
       at-most = omega arith;
       text-is =
           rw (n .put-field4 .ensures .text-is, a .put-field3 .ensures .text-is)
           (rw (k .put-field2 .ensures .text-is, l .put-field .ensures .text-is, e));
+      kept = kept-more _ _ _ _ _ (n .put-field4 .ensures .front) (n .put-field4 .ensures .kept) three;
     }
 
 pub put-row-spec : {M : Type 1} → statement M

@@ -2,8 +2,9 @@
 use native.Mathlib.Omega.{arith}
 use lib.ListN.{drop-of-length-le}
 use borrow.Author.Needs.{needs}
-use Rattle.text.specs.Text.{valuesText}
 use mathlib.Core.List.{append-nil}
+use Rattle.text.specs.Text.{valuesText}
+use Rattle.text.proofs.Text.{kept-more}
 use Rattle.text.proofs.printing.put_values.Statement.{statement}
 use Rattle.text.proofs.printing.put_values.Tie as tie
 
@@ -35,9 +36,11 @@ returns c =
     let b = n .before .before .before .before in
     let l = b .before .before .before .before in
     let e = drop-of-length-le (l .before .before .before .before .before .before .args .buffer .now) {i = 96} (omega arith) in
+    let two = kept-more _ _ _ _ _ (b .put-field .ensures .front) (b .put-field .ensures .kept) (l .put-decimal .ensures .kept) in
     record {
       at-most = omega arith;
       text-is = rw (n .put-field2 .ensures .text-is, b .put-field .ensures .text-is, l .put-decimal .ensures .text-is, e, append-nil);
+      kept = kept-more _ _ _ _ _ (n .put-field2 .ensures .front) (n .put-field2 .ensures .kept) two;
     }
 
 pub put-values-spec : {M : Type 1} → statement M
