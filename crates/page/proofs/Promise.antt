@@ -2,6 +2,8 @@
 --   promise-kept                    of any job that is in order where it has no ground
 --   numbered-sound, oneBit-whole    both codes and every L go with one bit a cell
 --   job-in-order, wrote             so the calls' jobs keep it, with any weights
+--   page-length                     a write keeps the page's length
+--   could-done                      a call with no ground is done where some page could be
 --   done-not-spent, spent-no-page   spent exactly when there is no page
 use mathlib.Core.Path.{_≡_, refl}
 use mathlib.Core.Bool.{Bool, true, false, cond}
@@ -13,6 +15,7 @@ use lib.Dec.{eqb}
 use lib.ListN.{length, getD}
 use Rattle.cells.specs.Bytes.{Octets}
 use Rattle.cells.specs.Raising.{startIn, raisedTo}
+use Rattle.cells.proofs.Raising.{raisedTo-length}
 use Rattle.codes.specs.Generators.{short, long, digit}
 use Rattle.codes.specs.Layouts.{oneBit}
 use Rattle.codes.specs.Encoders.{Proper}
@@ -94,6 +97,26 @@ unfolding pageOf answerOf
 wrote W code L S before content b =
     promise-kept (ground code L S (length before) (length content)) (jobOf W code L S before content)
     (job-in-order W code L S before content b)
+
+-- A WRITE KEEPS THE PAGE'S LENGTH, whatever its answer
+pub page-length : (W : List ℕ) (code L S : ℕ) (before content : List ℕ) → length (pageOf W code L S before content) ≡ length before
+unfolding pageOf jobPage
+page-length W code L S before content =
+    go (ground code L S (length before) (length content)) (pageWrite (jobOf W code L S before content))
+  where
+    go : (g : Option Refusal) (w : Option Solution)
+        → length (callPage g w (λ a. raisedTo (startIn (width (jobOf W code L S before content))) before (levelAt (a .levels))) before)
+        ≡ length before
+    go (some r) w = refl
+    go none none = refl
+    go none (some a) = raisedTo-length _ before (levelAt (a .levels))
+
+-- 'A CALL WITH NONE OF THESE GROUNDS IS DONE': no ground from the input, and a page that could be, so that it is not spent
+pub could-done : {g : Option Refusal} {J : Job} {after : List ℕ} {r : Answer} → Promised g J after r → g ≡ none → (other : List ℕ)
+    → Could J other → (cost : ℕ) × (r ≡ A.Done cost)
+could-done (done {cost = cost} e p) g other c = (cost, refl)
+could-done (spent e p f) g other c = absurd (p .no-page other c)
+could-done (refused {r = r} e f) g other c = let z : _≡_ {A = ℕ} 0 1 = cc in absurd (omega arith)
 
 -- SPENT EXACTLY WHEN there is no such page: of a call in order, done and spent exclude each other and there is no third
 pub done-not-spent : {g : Option Refusal} {J : Job} {after : List ℕ} {r : Answer} → Promised g J after r → g ≡ none

@@ -2,4 +2,5 @@
 pub mod Rows
 pub mod Turns
 pub mod Runs
+pub mod Outputs
 pub mod Positions

@@ -14,7 +14,7 @@ use native.Mathlib.Omega.{arith}
 use native.Mathlib.Numerals.{add-one}
 use lib.Dec.{ltb, leb, eqb}
 use lib.ListN.{length, take, drop, getD, set, replicate, length-set, length-append, length-take, length-drop, take-append-drop, length-replicate, replicate-append-replicate}
-use lib.Seq.{take-all, length-take-le, take-at, drop-at, take-suc, take-suc-set, drop-set-lt, drop-drop, getD-take}
+use lib.Seq.{take-all, length-take-le, take-at, drop-at, take-add, take-suc, take-suc-set, drop-set-lt, drop-drop, getD-take}
 use borrow.Author.Tests.{lt-ltb, le-ltb, leb-true, leb-false, ne-eqb}
 use Rattle.codes.specs.Layouts.{oneBit, byteCount}
 use Rattle.codes.proofs.Layouts.{oneBit-bytes}
@@ -31,7 +31,7 @@ use Rattle.script.specs.Runs.{linesFrom, linesOf, runFrom, runOf}
 use Rattle.script.specs.declared.Run.{Run}
 use Rattle.script.specs.declared.Step.{Step}
 use Rattle.script.specs.declared.Turn.{Turn}
-use Rattle.script.specs.Positions.{Position, start, printsFrom, Takes, InParts, ended, stopped, taken, keptBytes, mostPage, pageSize, Holds, positionOf, Ready, LineEnd, KeptPart, Stepped}
+use Rattle.script.specs.Positions.{Position, start, printsFrom, Takes, Leads, InParts, ended, stopped, taken, keptBytes, mostPage, pageSize, Holds, positionOf, Ready, Blank, LineEnd, KeptPart, Stepped}
 use Rattle.text.proofs.Text.{nothing-put}
 use Rattle.script.proofs.Rows.{size-bound}
 use Rattle.script.proofs.Turns.{long-line}
@@ -61,6 +61,21 @@ parts-whole (taken {text = text} {parts = parts} t r) = ap (λ (l : List ℕ). t
 -- so from the start it is THE RUN of the whole input
 pub run-whole : {parts : List (List ℕ)} {text : List ℕ} → InParts start parts text → text ≡ runOf (joined parts)
 run-whole {parts} r = parts-whole r ∙ run-starts (joined parts)
+
+-- bytes, and then others
+pub leads-none : (s : Position) → Leads s [] s
+leads-none s = record { text = []; takes = record { whole = λ rest. refl } }
+
+pub leads-more : {s t u : Position} (bytes : List ℕ) (i n : ℕ) {text : List ℕ} → Leads s (take i bytes) t
+    → Takes t (take n (drop i bytes)) text u → Leads s (take (i + n) bytes) u
+leads-more {t = t} bytes i n {text} l k = record {
+  text = l .text ++ text;
+  takes = record {
+    whole = λ rest.
+        rw (take-add i n bytes, append-assoc (take i bytes) (take n (drop i bytes)) rest, append-assoc (l .text) text (printsFrom _ rest))
+        (l .takes .whole (take n (drop i bytes) ++ rest) ∙ ap (λ (x : List ℕ). l .text ++ x) (k .whole rest));
+  };
+}
 
 -- BYTES AFTER THE RUN HAS STOPPED print nothing
 pub stopped-takes : (s : Position) (bytes : List ℕ) → s .on ≡ false → Takes s bytes [] s
@@ -276,6 +291,7 @@ values-after v line = by (valuesOf line)
     judged : (w : Values) (g : Option Refusal) → let q = judgedTurn (atLine 2 v []) w g .after in (q .number ≤ 3) × (q .page ≡ [])
     judged w none = (omega arith, refl)
     judged w (some r) = (omega arith, refl)
+
     by : (o : Option Values) → let q = formTurn (atLine 2 v []) o .after in (q .number ≤ 3) × (q .page ≡ [])
     by none = (omega arith, refl)
     by (some w) = judged w (sizesGround (w .code) (w .bytes) (w .strips))
@@ -332,7 +348,7 @@ module _ (number n : ℕ) (v : Values) (line page : List ℕ) (h : 3 < number) (
 -- THE TURNS OF LINES 1 TO 3, by their numbers
 module _ (number : ℕ) (v : Values) (line page : List ℕ) {r : Turn} {before buffer : List ℕ}
     (k : Holds (atLine number v (take (pageSize number v) page)) page) where
-  pub names-told : number ≡ 1 → Told (namesTurn (atLine 1 v []) line) r before buffer 
+  pub names-told : number ≡ 1 → Told (namesTurn (atLine 1 v []) line) r before buffer
       → Told (lineTurn (atLine number v (take (pageSize number v) page)) line) r before buffer
       × Holds (lineTurn (atLine number v (take (pageSize number v) page)) line .after) page
   unfolding lineTurn pageSize
@@ -341,7 +357,7 @@ module _ (number : ℕ) (v : Values) (line page : List ℕ) {r : Turn} {before b
       let a = names-after v line in
       rw e (t, holds-none page z (namesTurn (atLine 1 v []) line .after) (a .0) (a .1))
 
-  pub values-told : number ≡ 2 → Told (valuesTurn (atLine 2 v []) line) r before buffer 
+  pub values-told : number ≡ 2 → Told (valuesTurn (atLine 2 v []) line) r before buffer
       → Told (lineTurn (atLine number v (take (pageSize number v) page)) line) r before buffer
       × Holds (lineTurn (atLine number v (take (pageSize number v) page)) line .after) page
   unfolding lineTurn pageSize
@@ -350,13 +366,26 @@ module _ (number : ℕ) (v : Values) (line page : List ℕ) {r : Turn} {before b
       let a = values-after v line in
       rw e (t, holds-none page z (valuesTurn (atLine 2 v []) line .after) (a .0) (a .1))
 
-  pub data-told : number ≡ 3 → Told (dataTurn (atLine 3 v []) line) r before buffer 
+  pub data-told : number ≡ 3 → Told (dataTurn (atLine 3 v []) line) r before buffer
       → Told (lineTurn (atLine number v (take (pageSize number v) page)) line) r before buffer
       × Holds (lineTurn (atLine number v (take (pageSize number v) page)) line .after) page
   unfolding lineTurn pageSize
   data-told e t =
       let z = holds-zeros page (atLine number v (take (pageSize number v) page)) (omega arith) k in
       rw e (t, data-after v line page z)
+
+-- BLANK BUFFERS are ready for a run from its start
+pub blank-ready : (r : Run) (line page content : List ℕ) → Blank line page content → r .number ≡ 1 → r .used ≡ 0 → Ready r line page content
+blank-ready r line page content k n u = record {
+  line-long = k .line-long;
+  page-long = ap length (k .page-is) ∙ length-replicate {A = ℕ} mostPage 0;
+  data-long = k .data-long;
+  used-most = omega arith;
+  number-some = omega arith;
+  holds =
+      holds-none page (k .page-is) (positionOf r line page .progress) (omega arith)
+      (rw (page-none (r .number) (r .values) (omega arith)));
+}
 
 -- THE LINE'S NUMBER never falls
 module _ (p : Progress) (line : List ℕ) where

@@ -1,6 +1,6 @@
 -- What a line does. The values that a line 2 gives are in order, so that a write of data in form is never refused for its input; and a line
 -- of more than 8,192 bytes is in no form, so that the program need not keep more of it.
---   answers-0-or-7                                THE ANSWER of a row is 0 or 7
+--   Begun, answers-0-or-7                         once the writes have begun, the answer of a row is 0 or 7
 --   long-line                                     A LONG LINE is refusal 6
 --   values-broken, values-given, values-refused   line 2, by what the functions answer of its form and of its values
 use mathlib.Core.Path.{_≡_, refl, sym, _∙_, ap}
@@ -30,7 +30,7 @@ use Rattle.text.specs.declared.Form.the-variants.{Given, Broken}
 use Rattle.text.specs.Text.{decimal, namesText, dataText, valuesText}
 use Rattle.cells.specs.Places.{sameList}
 use Rattle.text.specs.Lines.{valuesOf, formOf}
-use Rattle.text.specs.Hex.{isData, contentOf}
+use Rattle.text.specs.Hex.{pairs, isData, contentOf}
 use Rattle.text.proofs.Text.{size-most}
 use Rattle.text.proofs.Lines.{same-lengths, text-of-values}
 use Rattle.text.proofs.Hex.{data-odd, text-of-data}
@@ -85,15 +85,22 @@ zero-or-seven : (w : Option Solution) (k : ℕ) → (numberOf (callAnswer none w
 zero-or-seven (some a) k = inl refl
 zero-or-seven none k = inr refl
 
+-- ONCE THE WRITES HAVE BEGUN the values are in order, and the page has their size
+pub record Begun (p : Progress) : Type 0 where
+  pub late : 3 < p .number
+  pub judged : sizesGround (p .values .code) (p .values .bytes) (p .values .strips) ≡ none
+  pub sized : length (p .page) ≡ byteCount oneBit (sizeOf (p .values))
+
 -- 'one row a write: its number from 1, 0 or 7'
-pub answers-0-or-7 : (p : Progress) (line text page content : List ℕ) (v : Values) → valuesTurn p line ≡ goes p [] v (p .page)
-    → length page ≡ byteCount oneBit (sizeOf v) → contentOf (sizeOf v) text ≡ some content
-    → (numberOf (valuesAnswer v page content) ≡ 0) ⊎ (numberOf (valuesAnswer v page content) ≡ 7)
-unfolding answerOf jobAnswer valuesTurn
-answers-0-or-7 p line text page content v e h t =
-    rw (write-in-order v (length page) (length content) (form-goes p v (valuesOf line) e) h (text-of-data (sizeOf v) text content t .1))
-    (zero-or-seven (pageWrite (jobOf house (v .code) (v .bytes) (v .strips) page content))
-    (spentStrip (jobOf house (v .code) (v .bytes) (v .strips) page content)))
+pub answers-0-or-7 : (p : Progress) (text : List ℕ) → Begun p → isData (sizeOf (p .values)) text ≡ true
+    → (numberOf (valuesAnswer (p .values) (p .page) (pairs text)) ≡ 0) ⊎ (numberOf (valuesAnswer (p .values) (p .page) (pairs text)) ≡ 7)
+unfolding answerOf jobAnswer contentOf
+answers-0-or-7 p text b t =
+    let v = p .values in
+    let d = text-of-data (sizeOf v) text (pairs text) (rw t) in
+    rw (write-in-order v (length (p .page)) (length (pairs text)) (b .judged) (b .sized) (d .1))
+    (zero-or-seven (pageWrite (jobOf house (v .code) (v .bytes) (v .strips) (p .page) (pairs text)))
+    (spentStrip (jobOf house (v .code) (v .bytes) (v .strips) (p .page) (pairs text))))
 
 -- the text of values has at most 17 bytes
 short-values : (v : Values) → v .code < 100000 → v .bytes < 100000 → v .strips < 100000 → length (valuesText v) ≤ 17

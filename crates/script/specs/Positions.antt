@@ -1,12 +1,12 @@
 -- A run between two bytes of its input, and bytes of the input that are taken.
 --   Position, start            how far the run is, the bytes of the line so far, and whether it goes on; the first one
 --   printsFrom                 WHAT THE RUN PRINTS from a position on the rest of the input
---   Takes                      bytes of the input lead from a position to another, and print a text
+--   Takes, Leads               bytes of the input lead from a position to another, and print a text; or some text
 --   InParts                    an input that comes in parts, and what is printed of it
 --   keptBytes, mostPage        the program's room for a line, and for a page
 --   pageSize, Holds            the bytes of the page, and the buffer that holds it
 --   positionOf                 the position that the program's values and buffers stand for
---   Ready                      the program's values and buffers are in order
+--   Ready, Blank               the program's values and buffers are in order; buffers before the first byte
 --   LineEnd                    where a line ends within bytes
 --   KeptPart                   the bytes of a line so far, in the program's buffer
 --   LineAsked, Stepped         what a line asks, and what a step of the program gives
@@ -42,6 +42,11 @@ printsFrom s input = cond (s .on) (runFrom (s .progress) (linesFrom (s .part) in
 -- bytes
 pub record Takes (s : Position) (bytes text : List ℕ) (t : Position) : Type 0 where
   pub whole : (rest : List ℕ) → printsFrom s (bytes ++ rest) ≡ text ++ printsFrom t rest
+
+-- bytes of the input lead from a position to another, whatever they print
+pub record Leads (s : Position) (bytes : List ℕ) (t : Position) : Type 0 where
+  pub text : List ℕ
+  pub takes : Takes s bytes text t
 
 -- the parts are taken one after the other, up to the end of the input or until the run has stopped
 pub data InParts : Position → List (List ℕ) → List ℕ → Type 0 where
@@ -83,6 +88,12 @@ pub record Ready (r : Run) (line page content : List ℕ) : Type 0 where
   pub used-most : r .used ≤ keptBytes
   pub number-some : 0 < r .number
   pub holds : Holds (positionOf r line page .progress) page
+
+-- buffers of that size, all zeros, are in order before the first byte
+pub record Blank (line page content : List ℕ) : Type 0 where
+  pub line-long : length line ≡ keptBytes
+  pub page-is : page ≡ replicate mostPage 0
+  pub data-long : length content ≡ 4096
 
 -- the first byte 10 stands at `end`, or there is none and `end` is the end of the bytes
 pub record LineEnd (bytes : List ℕ) (end : ℕ) : Type 0 where

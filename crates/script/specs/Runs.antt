@@ -3,13 +3,16 @@
 --   onward    what is printed from a turn on
 --   runFrom   what is printed from a line on
 --   runOf     THE RUN
+--   RowsFrom, Output   the form of what is printed: rows, and the whole
 use mathlib.Core.Bool.{cond}
 use mathlib.Core.List.{List, [], _∷_, _++_}
+use mathlib.Core.Logic.{_⊎_}
 use mathlib.Core.Option.{Option, none, some}
-use Prim.Native.Nat.{ℕ}
+use mathlib.Core.Path.{_≡_}
+use Prim.Native.Nat.{ℕ, _+_, _≤_}
 use lib.Dec.{ltb, eqb}
 use Rattle.refusals.specs.Refusals.{textNumber}
-use Rattle.text.specs.Text.{namesText, headText, faultText}
+use Rattle.text.specs.Text.{namesText, headText, rowText, faultText}
 use Rattle.text.specs.Lines.{noValues}
 use Rattle.script.specs.Turns.{Progress, atLine, Turned, lineTurn}
 
@@ -36,6 +39,19 @@ runFrom p (some line ∷ rest) = onward (lineTurn p line) (λ q. runFrom q rest)
 -- THE RUN: what the program prints of this input. There is no page before line 3
 unfoldable pub runOf : List ℕ → List ℕ
 runOf input = runFrom (atLine 1 noValues []) (linesOf input)
+
+-- THE FORM OF WHAT IS PRINTED. 'One row a write: its number from 1, 0 or 7, the cost, the sum of the levels': the rows from write k on, and
+-- behind them nothing, or the fault of the next line
+pub data RowsFrom : ℕ → List ℕ → Type 0 where
+  no-more : {k : ℕ} → RowsFrom k []
+  fault : {k : ℕ} → RowsFrom k (faultText textNumber (k + 3))
+  row : {k : ℕ} (answer cost levels : ℕ) {rest : List ℕ} → (answer ≡ 0) ⊎ (answer ≡ 7) → RowsFrom (k + 1) rest
+      → RowsFrom k (rowText k answer cost levels ++ rest)
+
+-- a fault of lines 1 to 3, or the head and the rows
+pub data Output : List ℕ → Type 0 where
+  faulted : (refusal line : ℕ) → line ≤ 3 → Output (faultText refusal line)
+  headed : {rest : List ℕ} → RowsFrom 1 rest → Output (headText ++ rest)
 
 -- the paper's example
 --   code bytes strips / 3 1 1 / data / 80 / 00 / 80

@@ -88,14 +88,7 @@ fn line_turn(
     if number > 3 {
         let n = recording::size(values);
         let m = codes::STRIP_BYTES * n;
-        return following::write_turn(
-            number,
-            values,
-            line,
-            &mut page[..m],
-            &mut data[..n],
-            buffer,
-        );
+        return following::write_turn(number, values, line, &mut page[..m], &mut data[..n], buffer);
     }
     if number == 3 {
         return following::data_turn(values, line, buffer);
@@ -157,6 +150,7 @@ pub fn take_bytes(
 // The end of the input: a line that is missing or not ended is at fault.
 pub fn take_end(run: Run, buffer: &mut [u8]) -> usize
     requires { ⌜ 96 ≡ length (now buffer) ⌝ }
+    ensures { λ r. ⌜ r ≤ 96 ⌝ }
     ensures { λ r. ⌜ ((line page : List ℕ) → run .used ≤ length line
         → Tail (printsFrom (positionOf run line page) []) r (now (buffer .entry)) (now (buffer .exit))) ⌝ }
 {

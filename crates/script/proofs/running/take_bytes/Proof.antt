@@ -12,8 +12,7 @@ use Rattle.script.proofs.running.take_bytes.Tie as tie
 returns : tie.Need-returns
 returns c =
     let s = c .before .before .before .before .before .before .before .before in
-    let a = s .args in
-    (
+    let a = s .args in (
       stopped-step (a .run) (a .bytes .now) (a .line .now) (a .page .now) (a .«data» .now) (a .buffer .now) (s .pre .1) (s .pre .0)
           (not-true _ (c .if1 .taken)),
       s .pre .1,
@@ -69,15 +68,14 @@ returns-3 c =
     let k = e .before .before .before in
     let i = k .before .before in
     let s = i .before .before .before .before .before .before .before .before in
-    let a = s .args in
-    (
+    let a = s .args in (
       line-step (a .run) (a .bytes .now) (a .line .now) (a .page .now) (a .«data» .now) (a .buffer .now) (s .pre .1) (s .pre .0)
-      (not-false _ (i .if1 .left)) (k .keep-part .ensures .0) (k .keep-part .ensures .1) (e .if2 .left)
-      (t .line-turn .ensures .0) (t .line-turn .ensures .1 .0),
+          (not-false _ (i .if1 .left)) (k .keep-part .ensures .0) (k .keep-part .ensures .1) (e .if2 .left)
+          (t .line-turn .ensures .0) (t .line-turn .ensures .1 .0),
       line-ready (a .run) (a .bytes .now) (a .line .now) (a .page .now) (a .«data» .now) (a .buffer .now) (s .pre .1) (s .pre .0)
-      (not-false _ (i .if1 .left)) (k .keep-part .ensures .0) (k .keep-part .ensures .1) (e .if2 .left)
-      (t .line-turn .ensures .0) (t .line-turn .ensures .1 .0)
-      (t .line-turn .kept .1 .1 .1 .0 ∙ s .pre .1 .page-long) (t .line-turn .kept .1 .1 .1 .1 .0 ∙ s .pre .1 .data-long),
+          (not-false _ (i .if1 .left)) (k .keep-part .ensures .0) (k .keep-part .ensures .1) (e .if2 .left)
+          (t .line-turn .ensures .0) (t .line-turn .ensures .1 .0)
+          (t .line-turn .kept .1 .1 .1 .0 ∙ s .pre .1 .page-long) (t .line-turn .kept .1 .1 .1 .1 .0 ∙ s .pre .1 .data-long),
     )
 
 pub take-bytes-spec : {M : Type 1} → statement M

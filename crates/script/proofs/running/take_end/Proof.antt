@@ -11,14 +11,16 @@ use Rattle.script.proofs.running.take_end.Tie as tie
 returns : tie.Need-returns
 returns c =
     let s = c .before .before .before .before in
-    λ line page h. tail-same (end-stopped (s .args .run) line page (not-true _ (c .if1 .taken))) (nothing-put _ (s .pre))
+    (omega arith, λ line page h. tail-same (end-stopped (s .args .run) line page (not-true _ (c .if1 .taken))) (nothing-put _ (s .pre)))
 
 returns-2 : tie.Need-returns-2
 returns-2 c =
     let i = c .before .before .before in
     let s = i .before .before .before .before in
-    λ line page h.
-        tail-same (end-whole (s .args .run) line page (not-false _ (i .if1 .left)) (c .before .if2 .taken) (c .if3 .taken)) (nothing-put _ (s .pre))
+    let on = not-false _ (i .if1 .left) in (
+      omega arith,
+      λ line page h. tail-same (end-whole (s .args .run) line page on (c .before .if2 .taken) (c .if3 .taken)) (nothing-put _ (s .pre)),
+    )
 
 stop-form-requires : tie.Need-stop-form-requires
 stop-form-requires c κs = search needs
@@ -32,10 +34,12 @@ returns-3 c =
     let i = j .before .before in
     let s = i .before .before .before .before in
     let on = not-false _ (i .if1 .left) in
-    let told = c .before .before .stop-form .ensures .text-is in
-    λ line page h.
-        ⊎-elim (λ w. tail-same (end-missing (s .args .run) line page on (w .0 .taken) (w .1 .left)) told)
-        (λ w. tail-same (end-open (s .args .run) line page on h (w .left)) told) (j .if2 .came)
+    let told = c .before .before .stop-form .ensures .text-is in (
+      told .at-most,
+      λ line page h.
+          ⊎-elim (λ w. tail-same (end-missing (s .args .run) line page on (w .0 .taken) (w .1 .left)) told)
+          (λ w. tail-same (end-open (s .args .run) line page on h (w .left)) told) (j .if2 .came),
+    )
 
 pub take-end-spec : {M : Type 1} → statement M
 take-end-spec = tie.close (tie.spec returns returns-2 stop-form-requires same-length returns-3)
