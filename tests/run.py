@@ -3,6 +3,7 @@
 
 The model judges lines and writes pages by the paper alone: levels on the branches, every level not below the old one, no digits and no cosets.
 """
+import functools
 import random
 import subprocess
 import sys
@@ -30,33 +31,49 @@ def raised(page, c):
     page[k // 8] |= 1 << (k % 8)
 
 
-def data_bit(code, a, b):
-    """The sum over the bits of the present stage and the m before it, the present one first."""
-    m, g1, g2 = CODES[code]
-    return sum((g2 >> (m - i) & 1) * a[i] + (g1 >> (m - i) & 1) * b[i] for i in range(m + 1)) % 2
-
-
 def climb(old, new):
     return sum(WEIGHTS[old:new])
 
 
+def sums_of(generator, memory):
+    """The data bits that a cell's bit is added to: bit i of the number is set where the data bit i stages later has it, by digit i of the generator."""
+    return sum((generator >> (memory - i) & 1) << i for i in range(memory + 1))
+
+
+@functools.cache
+def choices(old_a, old_b):
+    """For each pair of bits that the cells of a stage can show, of all levels not below the old ones: the least cost, then the lowest levels."""
+    best = {}
+    for x in range(old_a, 4):
+        for y in range(old_b, 4):
+            way = climb(old_a, x) + climb(old_b, y), bytes((x, y))
+            shown = x % 2, y % 2
+            best[shown] = min(way, best.get(shown, way))
+    return best
+
+
+@functools.cache
 def write_strip(code, strip, data):
-    """The strip after the write and its cost, or None: the least cost, then the lowest levels at the first cell that differs."""
-    m = CODES[code][0]
-    best = {((0,) * m, (0,) * m): (0, ())}
+    """The strip after the write and its cost, or None: the least cost, then the lowest levels at the first cell that differs.
+
+    All that the rest of a strip depends on is what the cells so far add to the data bits to come: of the ways that add the same, the best is kept.
+    """
+    memory, g1, g2 = CODES[code]
+    sums_a, sums_b = sums_of(g2, memory), sums_of(g1, memory)
+    best = {0: (0, b"")}
     for t in range(8 * len(data)):
-        old = level(strip, 2 * t), level(strip, 2 * t + 1)
+        steps = [(a * sums_a ^ b * sums_b, *way) for (a, b), way in choices(level(strip, 2 * t), level(strip, 2 * t + 1)).items()]
+        data_bit = bit(data, t)
         following = {}
-        for (a, b), (cost, levels) in best.items():
-            for x in range(old[0], 4):
-                for y in range(old[1], 4):
-                    now_a, now_b = (x % 2, *a), (y % 2, *b)
-                    if data_bit(code, now_a, now_b) != bit(data, t):
-                        continue
-                    state = now_a[:m], now_b[:m]
-                    way = cost + climb(old[0], x) + climb(old[1], y), (*levels, x, y)
-                    if state not in following or way < following[state]:
-                        following[state] = way
+        for so_far, (cost, levels) in best.items():
+            for added, step_cost, step_levels in steps:
+                sums = so_far ^ added
+                if sums & 1 != data_bit:
+                    continue
+                way = cost + step_cost, levels + step_levels
+                to_come = sums >> 1
+                if to_come not in following or way < following[to_come]:
+                    following[to_come] = way
         best = following
     if not best:
         return None
@@ -68,25 +85,11 @@ def write_strip(code, strip, data):
     return bytes(after), cost
 
 
-def read_strip(code, strip):
-    m = CODES[code][0]
-    stages = len(strip) * 8 // 6
-    a = [0] * m + [level(strip, 2 * t) % 2 for t in range(stages)]
-    b = [0] * m + [level(strip, 2 * t + 1) % 2 for t in range(stages)]
-    data = bytearray(stages // 8)
-    for t in range(stages):
-        data[t // 8] |= data_bit(code, a[t : t + m + 1][::-1], b[t : t + m + 1][::-1]) << (t % 8)
-    return bytes(data)
-
-
 def write_page(code, length, strips, page, data):
     """The page after, the answer's number and the cost."""
     after, cost = b"", 0
     for k in range(strips):
-        strip = page[6 * length * k : 6 * length * (k + 1)]
-        own = data[length * k : length * (k + 1)]
-        # a strip that holds its data costs nothing, and no other page costs nothing: the search is spared
-        found = (strip, 0) if not any(strip) and not any(own) or read_strip(code, strip) == own else write_strip(code, strip, own)
+        found = write_strip(code, page[6 * length * k : 6 * length * (k + 1)], data[length * k : length * (k + 1)])
         if found is None:
             return page, 7, 0
         after, cost = after + found[0], cost + found[1]
@@ -223,4 +226,5 @@ def main():
     return 0
 
 
-sys.exit(main())
+if __name__ == "__main__":
+    sys.exit(main())
