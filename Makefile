@@ -8,17 +8,22 @@
 
 .PHONY: test run setup figures measure bench soak clean
 
+# All that `make run` needs. The kit is given on the machine and is no package. The hint names a heading of README.md (see tests/gate).
+HAVE_RT = command -v rt > /dev/null || { echo "make: the command rt of the Rattle kit is not on the PATH: see README.md, 'The kit'" >&2; exit 1; }
+
 test: setup
 	@bash tests/gate
 
 # The program is proved before it is run; what the prover says is shown where it fails.
 SCRIPT = examples/writes.txt
-run: setup
+run:
+	@$(HAVE_RT)
 	@mkdir -p target
 	@rt check run > target/run.log 2>&1 || { cat target/run.log; exit 1; }
 	@target/bin/run < $(SCRIPT)
 
 setup:
+	@$(HAVE_RT)
 	@bash tests/setup
 
 figures:
