@@ -34,6 +34,9 @@
 extern "C" {
 #endif
 
+/* The version: its first number changes where a caller has to change, its second where there is more to call, else its third. */
+#define SEGRUNOV_VERSION "1.0.0"
+
 /* The two codes. */
 #define SEGRUNOV_SHORT UINT32_C(3)
 #define SEGRUNOV_LONG UINT32_C(7)
