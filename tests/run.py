@@ -45,7 +45,7 @@ def climb(old, new):
 
 
 def sums_of(generator, memory):
-    """The data bits that a cell's bit is added to: bit i of the number is set where the data bit i stages later has it, by digit i of the generator."""
+    """Bit i is set where a cell's bit is in the sum for the data bit i stages after the cell's own: by the generator's digit i, leftmost first."""
     return sum((generator >> (memory - i) & 1) << i for i in range(memory + 1))
 
 
