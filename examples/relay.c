@@ -5,9 +5,12 @@
  *   store    price the new image, and write it where the page takes it; where the page is spent, keep the old image and ask for an erase
  *   erase    within the limits of the flash's certificate, 5.0 to 40.0 degrees Celsius
  *
- * The page is worked on in RAM. flash_program must bring the cells of the flash to the bits of the RAM copy; it never has to lower one, so it needs no
- * erase. The three functions of the driver below stand for the real ones. A relay that can lose its supply while it erases keeps the image in a second
- * page until the first is written again.
+ * The page is worked on in RAM. The three functions of the driver below stand for the real ones of a NOR flash: an erase makes its bits ones, and
+ * programming turns ones into zeros. The library's erased page is zeros, and a write turns zeros into ones: so the driver complements every byte, on
+ * load and on program. A write lowers no cell, so that programming needs no erase.
+ *
+ * Neither erasing nor programming is done at once. A relay that can lose its supply meanwhile keeps the image in a second page until the first holds
+ * it, and a checksum in the image, by which the start knows an unfinished page.
  */
 #include <stdbool.h>
 #include <stdio.h>
@@ -27,19 +30,32 @@ static uint8_t flash[sizeof page];
 
 static void flash_load(void)
 {
-    memcpy(page, flash, sizeof page);
+    size_t i;
+    for (i = 0; i < sizeof page; i++) {
+        page[i] = (uint8_t)~flash[i];
+    }
 }
 
-static void flash_program(void)
+/* False where the flash does not hold the page afterwards: it failed, or a bit had to go from 0 to 1, which no write asks for. */
+static bool flash_program(void)
 {
-    memcpy(flash, page, sizeof page);
+    size_t i;
+    for (i = 0; i < sizeof page; i++) {
+        const uint8_t wanted = (uint8_t)~page[i];
+        flash[i] &= wanted; /* all that programming can do */
+        if (flash[i] != wanted) {
+            return false;
+        }
+    }
+    return true;
 }
 
 static void flash_erase(void)
 {
-    memset(flash, 0, sizeof flash);
+    memset(flash, 0xff, sizeof flash);
 }
 
+/* FAULT: the flash failed, or a constant of this file is wrong. */
 enum store_result { STORED, ERASE_WANTED, FAULT };
 
 /* Reads the image; false where a constant of this file is wrong, since only then a read is refused. */
@@ -57,7 +73,7 @@ static enum store_result store(const uint8_t *image)
     case SEGRUNOV_DONE:
         if (SEGRUNOV_VALUE(price) != 0) {
             (void)segrunov_write(SEGRUNOV_LONG, STRIP_BYTES, STRIPS, page, sizeof page, image, IMAGE_BYTES);
-            flash_program();
+            return flash_program() ? STORED : FAULT;
         }
         return STORED;
     case SEGRUNOV_SPENT:
@@ -67,7 +83,7 @@ static enum store_result store(const uint8_t *image)
     }
 }
 
-/* Erases the page, and stores the image anew; false where it is too cold or too warm, and the old image stays. */
+/* Erases the page, and stores the image anew; false where it is too cold or too warm, and the old image stays, or where the flash failed. */
 static bool erase(const uint8_t *image, int16_t tenths)
 {
     if (SEGRUNOV_NUMBER(segrunov_erase(STRIP_BYTES, STRIPS, page, sizeof page, tenths)) != SEGRUNOV_DONE) {
@@ -81,6 +97,7 @@ int main(void)
 {
     uint8_t image[STRIP_BYTES * STRIPS];
     unsigned stored = 0;
+    flash_erase(); /* as a new part comes */
     if (!start(image)) {
         return 1;
     }
@@ -96,6 +113,9 @@ int main(void)
             break;
         }
         stored++;
+    }
+    if (stored == 0) {
+        return 1; /* an erased page takes every image */
     }
     printf("images stored between erases: %u\n", stored);
     if (erase(image, 450)) {

@@ -21,6 +21,11 @@
  * The grounds are tested in the order of their numbers, and the first that applies is the answer. With any refusal no byte is changed: not the
  * page, not the data, not the buffer, also not the strips before a spent one.
  *
+ * THE FLASH. An erased page is zeros here, and a write turns zeros into ones. Nearly every NOR part has it the other way: an erase makes ones, and
+ * programming turns ones into zeros. Its driver complements every byte, on load and on program (examples/relay.c); the calls need not know. No bit has
+ * to go back before the next erase, but words are programmed again: a part that takes a word once only, as with error correction over each word, does
+ * not serve.
+ *
  * RESOURCES. No heap, no global state, no lock: calls on different buffers may run at the same time. Every call returns. Stack: SEGRUNOV_STACK
  * bytes at most. The C library must supply memcpy and memset; nothing else is needed.
  */
@@ -33,6 +38,9 @@
 #ifdef __cplusplus
 extern "C" {
 #endif
+
+/* The version: its first number changes where a caller has to change, its second where there is more to call, else its third. */
+#define SEGRUNOV_VERSION "1.0.0"
 
 /* The two codes. */
 #define SEGRUNOV_SHORT UINT32_C(3)

@@ -6,7 +6,7 @@
  */
 #include "segrunov.h"
 
-enum { GUARD = 8, PAGE = 12, DATA = 2 };
+enum { GUARD = 8, PAGE = 36, DATA = 6 };
 
 static const uint8_t GUARD_BYTE = 0xa5;
 
@@ -63,10 +63,11 @@ static uint64_t answer(uint32_t number, uint32_t value)
     return ((uint64_t)number << 32) + value;
 }
 
-/* A write with L = 1: the page and data before, the answer, and the page after. */
+/* A write: the page and data before, the answer, and the page after. */
 struct known_write {
     const char *what;
     uint32_t code;
+    uint32_t bytes;
     uint32_t strips;
     uint8_t before[PAGE];
     uint8_t data[DATA];
@@ -76,19 +77,41 @@ struct known_write {
 };
 
 static const struct known_write KNOWN_WRITES[] = {
-    {"erased, write 00", 3, 1, {0}, {0x00}, 0, 0, {0}},
-    {"erased, write 01", 3, 1, {0}, {0x01}, 0, 48, {0x41, 0x02}},
-    {"erased, write 40", 3, 1, {0}, {0x40}, 0, 16, {0, 0, 0, 0, 0x10}},
-    {"erased, write 80", 3, 1, {0}, {0x80}, 0, 16, {0, 0, 0, 0, 0, 0x20}},
-    {"erased, write 80 with code 7", 7, 1, {0}, {0x80}, 0, 16, {0, 0, 0, 0, 0, 0x20}},
-    {"full, write fe", 3, 1, {0xff, 0xff, 0xff, 0xff, 0xff, 0xff}, {0xfe}, 0, 0, {0xff, 0xff, 0xff, 0xff, 0xff, 0xff}},
-    {"full, write 1e with code 7", 7, 1, {0xff, 0xff, 0xff, 0xff, 0xff, 0xff}, {0x1e}, 0, 0, {0xff, 0xff, 0xff, 0xff, 0xff, 0xff}},
-    {"full, write 80", 3, 1, {0xff, 0xff, 0xff, 0xff, 0xff, 0xff}, {0x80}, 7, 0, {0xff, 0xff, 0xff, 0xff, 0xff, 0xff}},
-    {"two strips, write 80 40", 3, 2, {0}, {0x80, 0x40}, 0, 32, {0, 0, 0, 0, 0, 0x20, 0, 0, 0, 0, 0x10, 0}},
-    {"strip 1 full, write 80 00", 3, 2, {0, 0, 0, 0, 0, 0, 0xff, 0xff, 0xff, 0xff, 0xff, 0xff}, {0x80, 0x00}, 7, 1,
+    {"erased, write 00", 3, 1, 1, {0}, {0x00}, 0, 0, {0}},
+    {"erased, write 01", 3, 1, 1, {0}, {0x01}, 0, 48, {0x41, 0x02}},
+    {"erased, write 40", 3, 1, 1, {0}, {0x40}, 0, 16, {0, 0, 0, 0, 0x10}},
+    {"erased, write 80", 3, 1, 1, {0}, {0x80}, 0, 16, {0, 0, 0, 0, 0, 0x20}},
+    {"erased, write 80 with code 7", 7, 1, 1, {0}, {0x80}, 0, 16, {0, 0, 0, 0, 0, 0x20}},
+    {"full, write fe", 3, 1, 1, {0xff, 0xff, 0xff, 0xff, 0xff, 0xff}, {0xfe}, 0, 0, {0xff, 0xff, 0xff, 0xff, 0xff, 0xff}},
+    {"full, write 1e with code 7", 7, 1, 1, {0xff, 0xff, 0xff, 0xff, 0xff, 0xff}, {0x1e}, 0, 0, {0xff, 0xff, 0xff, 0xff, 0xff, 0xff}},
+    {"full, write 80", 3, 1, 1, {0xff, 0xff, 0xff, 0xff, 0xff, 0xff}, {0x80}, 7, 0, {0xff, 0xff, 0xff, 0xff, 0xff, 0xff}},
+    {"two strips, write 80 40", 3, 1, 2, {0}, {0x80, 0x40}, 0, 32, {0, 0, 0, 0, 0, 0x20, 0, 0, 0, 0, 0x10, 0}},
+    {"strip 1 full, write 80 00", 3, 1, 2, {0, 0, 0, 0, 0, 0, 0xff, 0xff, 0xff, 0xff, 0xff, 0xff}, {0x80, 0x00}, 7, 1,
      {0, 0, 0, 0, 0, 0, 0xff, 0xff, 0xff, 0xff, 0xff, 0xff}},
-    {"strip 1 full, write 80 fe", 3, 2, {0, 0, 0, 0, 0, 0, 0xff, 0xff, 0xff, 0xff, 0xff, 0xff}, {0x80, 0xfe}, 0, 16,
+    {"strip 1 full, write 80 fe", 3, 1, 2, {0, 0, 0, 0, 0, 0, 0xff, 0xff, 0xff, 0xff, 0xff, 0xff}, {0x80, 0xfe}, 0, 16,
      {0, 0, 0, 0, 0, 0x20, 0xff, 0xff, 0xff, 0xff, 0xff, 0xff}},
+    /*
+     * Where L is not S: costs and pages by write_page, the model in tests/run.py. With L and S exchanged, which no length tells, the data costs
+     * another amount, the page reads as other data, and another strip is spent.
+     */
+    {"erased, L = 2, S = 3", 3, 2, 3, {0}, {0x01, 0x23, 0x45, 0x67, 0x89, 0xab}, 0, 256,
+     {0x01, 0x10, 0, 0x01, 0x10, 0, 0x40, 0, 0x04, 0, 0, 0, 0x01, 0, 0, 0, 0x80, 0x04,
+      0, 0x10, 0, 0x08, 0, 0, 0x08, 0x02, 0, 0, 0, 0x20, 0, 0, 0x04, 0, 0, 0x20}},
+    {"erased, L = 2, S = 3 with code 7", 7, 2, 3, {0}, {0x01, 0x23, 0x45, 0x67, 0x89, 0xab}, 0, 288,
+     {0x01, 0x10, 0x20, 0x40, 0, 0, 0x01, 0, 0, 0, 0x10, 0, 0x01, 0, 0x20, 0x01, 0, 0x20,
+      0, 0x80, 0x20, 0, 0, 0, 0x48, 0x80, 0, 0x40, 0, 0x20, 0, 0, 0, 0, 0, 0x20}},
+    {"erased, L = 3, S = 2", 3, 3, 2, {0}, {0x01, 0x23, 0x45, 0x67, 0x89, 0xab}, 0, 240,
+     {0x01, 0x10, 0, 0x01, 0x10, 0, 0x40, 0, 0x04, 0, 0, 0, 0x01, 0, 0, 0, 0x10, 0,
+      0x08, 0, 0, 0, 0x02, 0x20, 0x40, 0, 0, 0, 0, 0x20, 0, 0, 0x04, 0, 0, 0x20}},
+    {"erased, L = 3, S = 2 with code 7", 7, 3, 2, {0}, {0x01, 0x23, 0x45, 0x67, 0x89, 0xab}, 0, 240,
+     {0x01, 0x10, 0x20, 0x40, 0, 0, 0x01, 0, 0, 0, 0x10, 0, 0, 0x02, 0, 0, 0x80, 0,
+      0x41, 0, 0, 0x01, 0, 0, 0x08, 0, 0, 0, 0x80, 0, 0, 0, 0x20, 0, 0x80}},
+    {"strip 2 full, L = 2, S = 3", 3, 2, 3,
+     {0, 0, 0, 0, 0, 0, 0, 0, 0, 0, 0, 0, 0, 0, 0, 0, 0, 0, 0, 0, 0, 0, 0, 0,
+      0xff, 0xff, 0xff, 0xff, 0xff, 0xff, 0xff, 0xff, 0xff, 0xff, 0xff, 0xff},
+     {0x01, 0x23, 0x45, 0x67, 0x89, 0xab}, 7, 2,
+     {0, 0, 0, 0, 0, 0, 0, 0, 0, 0, 0, 0, 0, 0, 0, 0, 0, 0, 0, 0, 0, 0, 0, 0,
+      0xff, 0xff, 0xff, 0xff, 0xff, 0xff, 0xff, 0xff, 0xff, 0xff, 0xff, 0xff}},
 };
 
 static void known_writes(void)
@@ -96,19 +119,20 @@ static void known_writes(void)
     size_t i;
     for (i = 0; i < sizeof KNOWN_WRITES / sizeof *KNOWN_WRITES; i++) {
         const struct known_write *k = &KNOWN_WRITES[i];
-        const size_t page_len = SEGRUNOV_PAGE_BYTES(1, k->strips);
-        const size_t data_len = SEGRUNOV_DATA_BYTES(1, k->strips);
+        const size_t page_len = SEGRUNOV_PAGE_BYTES(k->bytes, k->strips);
+        const size_t data_len = SEGRUNOV_DATA_BYTES(k->bytes, k->strips);
+        const uint64_t expected = answer(k->number, k->value);
         struct guarded page, data, back;
         fill(&page, k->before, page_len);
         fill(&data, k->data, data_len);
-        check(k->what, segrunov_price(k->code, 1, k->strips, inside(&page), page_len, inside(&data), data_len) == answer(k->number, k->value));
+        check(k->what, segrunov_price(k->code, k->bytes, k->strips, inside(&page), page_len, inside(&data), data_len) == expected);
         check(k->what, holds(&page, k->before, page_len));
-        check(k->what, segrunov_write(k->code, 1, k->strips, inside(&page), page_len, inside(&data), data_len) == answer(k->number, k->value));
+        check(k->what, segrunov_write(k->code, k->bytes, k->strips, inside(&page), page_len, inside(&data), data_len) == expected);
         check(k->what, holds(&page, k->after, page_len));
         check(k->what, holds(&data, k->data, data_len));
         if (k->number == SEGRUNOV_DONE) {
             fill(&back, k->data, 0);
-            check(k->what, segrunov_read(k->code, 1, k->strips, inside(&page), page_len, inside(&back), data_len) == 0);
+            check(k->what, segrunov_read(k->code, k->bytes, k->strips, inside(&page), page_len, inside(&back), data_len) == 0);
             check(k->what, holds(&back, k->data, data_len));
             check(k->what, holds(&page, k->after, page_len));
         }
@@ -199,7 +223,11 @@ static const struct known_erase KNOWN_ERASES[] = {
     {"erase at -1", 1, 1, 6, -1, 8},
     {"erase at -32768", 1, 1, 6, INT16_MIN, 8},
     {"erase at 32767", 1, 1, 6, INT16_MAX, 8},
+    {"erase, L = 2, S = 3", 2, 3, 36, 200, 0},
+    {"erase, L = 3, S = 2", 3, 2, 36, 200, 0},
+    {"erase, L = 3, S = 2, at 401", 3, 2, 36, 401, 8},
     {"erase, L = 0 before 401", 0, 1, 6, 401, 2},
+    {"erase, L = 65", 65, 1, 6, 200, 2},
     {"erase, S = 65", 1, 65, 6, 200, 3},
     {"erase, a page of 5 bytes before 49", 1, 1, 5, 49, 4},
 };

@@ -2,16 +2,26 @@
 """run.py PROGRAM [SEED]: the run program on many inputs, well formed and broken, compared with an independent model of document 01's text.
 
 The model judges lines and writes pages by the paper alone: levels on the branches, every level not below the old one, no digits and no cosets.
+The program has to print exactly what the model does, nothing on standard error, and to end with status 0, however its reads cut the input.
 """
+import fcntl
+import functools
+import os
 import random
 import subprocess
 import sys
+import tempfile
+import termios
+import threading
+import time
 
 CODES = {3: (2, 0o7, 0o5), 7: (6, 0o171, 0o133)}
 WEIGHTS = (16, 20, 28)
 HEAD = b"code bytes strips"
 EXAMPLE = b"code bytes strips\n3 1 1\ndata\n80\n00\n80\n"
 EXAMPLE_OUT = b"write answer cost levels\n1 0 16 1\n2 0 16 2\n3 0 20 3\n"
+# L and S of pages with long data lines, where the two must not be mistaken for each other
+LONG = (64, 64), (64, 63), (64, 1), (1, 64), (3, 17), (17, 3), (20, 1), (1, 19)
 
 
 # ---- cells and codes
@@ -30,33 +40,49 @@ def raised(page, c):
     page[k // 8] |= 1 << (k % 8)
 
 
-def data_bit(code, a, b):
-    """The sum over the bits of the present stage and the m before it, the present one first."""
-    m, g1, g2 = CODES[code]
-    return sum((g2 >> (m - i) & 1) * a[i] + (g1 >> (m - i) & 1) * b[i] for i in range(m + 1)) % 2
-
-
 def climb(old, new):
     return sum(WEIGHTS[old:new])
 
 
+def sums_of(generator, memory):
+    """Bit i is set where a cell's bit is in the sum for the data bit i stages after the cell's own: by the generator's digit i, leftmost first."""
+    return sum((generator >> (memory - i) & 1) << i for i in range(memory + 1))
+
+
+@functools.cache
+def choices(old_a, old_b):
+    """For each pair of bits that the cells of a stage can show, of all levels not below the old ones: the least cost, then the lowest levels."""
+    best = {}
+    for x in range(old_a, 4):
+        for y in range(old_b, 4):
+            way = climb(old_a, x) + climb(old_b, y), bytes((x, y))
+            shown = x % 2, y % 2
+            best[shown] = min(way, best.get(shown, way))
+    return best
+
+
+@functools.cache
 def write_strip(code, strip, data):
-    """The strip after the write and its cost, or None: the least cost, then the lowest levels at the first cell that differs."""
-    m = CODES[code][0]
-    best = {((0,) * m, (0,) * m): (0, ())}
+    """The strip after the write and its cost, or None: the least cost, then the lowest levels at the first cell that differs.
+
+    All that the rest of a strip depends on is what the cells so far add to the data bits to come: of the ways that add the same, the best is kept.
+    """
+    memory, g1, g2 = CODES[code]
+    sums_a, sums_b = sums_of(g2, memory), sums_of(g1, memory)
+    best = {0: (0, b"")}
     for t in range(8 * len(data)):
-        old = level(strip, 2 * t), level(strip, 2 * t + 1)
+        steps = [(a * sums_a ^ b * sums_b, *way) for (a, b), way in choices(level(strip, 2 * t), level(strip, 2 * t + 1)).items()]
+        data_bit = bit(data, t)
         following = {}
-        for (a, b), (cost, levels) in best.items():
-            for x in range(old[0], 4):
-                for y in range(old[1], 4):
-                    now_a, now_b = (x % 2, *a), (y % 2, *b)
-                    if data_bit(code, now_a, now_b) != bit(data, t):
-                        continue
-                    state = now_a[:m], now_b[:m]
-                    way = cost + climb(old[0], x) + climb(old[1], y), (*levels, x, y)
-                    if state not in following or way < following[state]:
-                        following[state] = way
+        for so_far, (cost, levels) in best.items():
+            for added, step_cost, step_levels in steps:
+                sums = so_far ^ added
+                if sums & 1 != data_bit:
+                    continue
+                way = cost + step_cost, levels + step_levels
+                to_come = sums >> 1
+                if to_come not in following or way < following[to_come]:
+                    following[to_come] = way
         best = following
     if not best:
         return None
@@ -68,25 +94,11 @@ def write_strip(code, strip, data):
     return bytes(after), cost
 
 
-def read_strip(code, strip):
-    m = CODES[code][0]
-    stages = len(strip) * 8 // 6
-    a = [0] * m + [level(strip, 2 * t) % 2 for t in range(stages)]
-    b = [0] * m + [level(strip, 2 * t + 1) % 2 for t in range(stages)]
-    data = bytearray(stages // 8)
-    for t in range(stages):
-        data[t // 8] |= data_bit(code, a[t : t + m + 1][::-1], b[t : t + m + 1][::-1]) << (t % 8)
-    return bytes(data)
-
-
 def write_page(code, length, strips, page, data):
     """The page after, the answer's number and the cost."""
     after, cost = b"", 0
     for k in range(strips):
-        strip = page[6 * length * k : 6 * length * (k + 1)]
-        own = data[length * k : length * (k + 1)]
-        # a strip that holds its data costs nothing, and no other page costs nothing: the search is spared
-        found = (strip, 0) if not any(strip) and not any(own) or read_strip(code, strip) == own else write_strip(code, strip, own)
+        found = write_strip(code, page[6 * length * k : 6 * length * (k + 1)], data[length * k : length * (k + 1)])
         if found is None:
             return page, 7, 0
         after, cost = after + found[0], cost + found[1]
@@ -149,11 +161,9 @@ def text_of(code, length, strips, rows):
 
 
 def well_formed(rng):
-    code = 7 if rng.random() < 0.1 else 3
-    length, strips = (1, 1) if code == 7 else (rng.randint(1, 3), rng.randint(1, 3))
-    rows = rng.randint(0, 3 if code == 7 else 12)
+    code, length, strips = rng.choice((3, 7)), rng.randint(1, 3), rng.randint(1, 3)
     few = [bytes(rng.randrange(256) for _ in range(length * strips)) for _ in range(3)]
-    return text_of(code, length, strips, [rng.choice(few) for _ in range(rows)])
+    return text_of(code, length, strips, [rng.choice(few) for _ in range(rng.randint(0, 12))])
 
 
 def broken(rng):
@@ -201,26 +211,97 @@ def special():
     yield text_of(7, 64, 64, [bytes(4096)] * 1000)
 
 
+def filled(rng, size):
+    """Data without a zero byte, so that a byte that is lost or blanked shows in the cost."""
+    return bytes(rng.randint(1, 255) for _ in range(size))
+
+
+def long_lines(rng):
+    """Long data: the last byte alone, then every byte, then another last byte. The longest page also until it is spent."""
+    shapes = *LONG, *((rng.randint(1, 64), rng.randint(1, 64)) for _ in range(10))
+    for code in CODES:
+        for length, strips in shapes:
+            size = length * strips
+            whole = filled(rng, size)
+            other_last = whole[:-1] + bytes([whole[-1] % 255 + 1])
+            yield text_of(code, length, strips, [bytes(size - 1) + whole[-1:], whole, other_last])
+        yield text_of(code, 64, 64, [filled(rng, 4096) for _ in range(9)])
+
+
+def cut(text, places):
+    ends = [0, *sorted(places), len(text)]
+    return [text[start:end] for start, end in zip(ends, ends[1:])]
+
+
+def in_pieces(rng):
+    """Inputs that the program reads in pieces: the example cut everywhere, long lines cut around their ends, others anywhere."""
+    for place in range(1, len(EXAMPLE)):
+        yield cut(EXAMPLE, [place])
+    yield cut(EXAMPLE, range(1, len(EXAMPLE)))
+    start = len(text_of(3, 64, 64, []))
+    rows = text_of(3, 64, 64, [filled(rng, 4096) for _ in range(3)])
+    yield cut(rows, [start, start + 1, start + 8191])
+    yield cut(rows, [start + 19, start + 4096, start + 8192, start + 8193])
+    for _ in range(20):
+        for text in rows, well_formed(rng), broken(rng):
+            yield cut(text, [rng.randrange(len(text) + 1) for _ in range(4)])
+
+
+# ---- the program
+
+
+def unread(pipe):
+    return int.from_bytes(fcntl.ioctl(pipe, termios.FIONREAD, bytes(4)), sys.byteorder)
+
+
+def answer(program, pieces):
+    """Exit status, standard output and standard error. A piece is written once the one before is read, so that no read has bytes of two."""
+    with tempfile.TemporaryFile() as out, tempfile.TemporaryFile() as err:
+        source, pipe = os.pipe()
+        with subprocess.Popen([program], stdin=source, stdout=out, stderr=err) as process:
+            os.close(source)
+            limit = threading.Timer(60, process.kill)  # a program that never ends is at fault too
+            limit.start()
+            try:
+                for piece in pieces:
+                    while unread(pipe) and process.poll() is None:
+                        time.sleep(0.0002)
+                    os.write(pipe, piece)
+            except BrokenPipeError:
+                pass  # it stopped at a fault and left the rest
+            os.close(pipe)
+            process.wait()
+            limit.cancel()
+        out.seek(0)
+        err.seek(0)
+        return process.returncode, out.read(), err.read()
+
+
 def main():
     program, seed = sys.argv[1], int(sys.argv[2]) if len(sys.argv) > 2 else 20261115
     rng = random.Random(seed)
     if model(EXAMPLE) != EXAMPLE_OUT:
         print("run: the model does not give the paper's example")
         return 1
-    inputs = [*special(), *(well_formed(rng) for _ in range(60)), *(broken(rng) for _ in range(600))]
-    faults = 0
-    for number, text in enumerate(inputs):
+    whole = [*special(), *long_lines(rng), *(well_formed(rng) for _ in range(60)), *(broken(rng) for _ in range(600))]
+    inputs = [*([text] for text in whole), *in_pieces(rng)]
+    faults = spent = 0
+    for number, pieces in enumerate(inputs):
+        text = b"".join(pieces)
         expected = model(text)
         faults += b"refusal line\n" in expected
-        got = subprocess.run([program], input=text, stdout=subprocess.PIPE, check=False)
-        if got.returncode != 0 or got.stdout != expected:
-            print(f"run: input {number} of seed {seed}, exit {got.returncode}\n{text[:400]!r}\nexpected\n{expected[-400:]!r}\ngot\n{got.stdout[-400:]!r}")
+        spent += b" 7 0 " in expected
+        got = answer(program, pieces)
+        if got != (0, expected, b""):
+            print(f"run: input {number} of seed {seed}\n{text[:400]!r}\nin {len(pieces)} pieces; expected\n{expected[-400:]!r}")
+            print(f"got exit status {got[0]}\n{got[1][-400:]!r}\nand on standard error\n{got[2][-400:]!r}")
             return 1
-    if not 0 < faults < len(inputs):
-        print("run: the inputs were not of both kinds")
+    if not 0 < faults < len(inputs) or not spent:
+        print("run: the inputs were not of every kind")
         return 1
-    print(f"run: {len(inputs)} inputs agree with the model, {faults} of them at fault (seed {seed})")
+    print(f"run: {len(inputs)} inputs agree with the model, {faults} of them at fault, {spent} with a spent page (seed {seed})")
     return 0
 
 
-sys.exit(main())
+if __name__ == "__main__":
+    sys.exit(main())
