@@ -1,41 +1,71 @@
 #!/usr/bin/env python3
-"""Fails where a public function of a crate has no contract on its result, or an exported one or a call of `page` has a `requires`.
+"""Fails where the contract of a function says too little or asks too much.
 
-'Every public call has a contract on its result' (document 01); the public calls take every input.
+1. 'Every public call has a contract on its result' (document 01): every public function of a library has an `ensures`, and where it has a
+   result, one that names the result and speaks of it.
+2. Every function of a library says what becomes of each buffer that it is lent to change: an `ensures` speaks of it at exit. Where the
+   function returns a part of the buffer to be written, nothing can be said at exit (docs/DECISIONS.md).
+3. The public functions of the crates in TAKE_ALL, and what is exported to C, take every input: they have no `requires`.
 """
-import pathlib
 import re
-import sys
 
-ROOT = pathlib.Path(__file__).resolve().parent.parent
+import rattle
+from repository import ROOT, finish
 
-# The calls, and what C calls: they take every input.
-CALLS = {"read", "price", "write", "erase", "census"}
+# The cells, the judgement of the input, the calls and the C interface.
+TAKE_ALL = {"cells", "refusals", "page", "firmware"}
 
 
-def functions(text):
-    """Name and head (all before the body's brace) of each public function."""
-    for m in re.finditer(r"^ *pub (?:extern \"C\" )?fn (\w+)\(", text, re.M):
-        yield m[1], "extern" in m[0], text[m.start() : text.index("\n", text.find("\n{", m.start()) if m[0][0] == "p" else text.find("\n    {", m.start()))]
+def words(clause):
+    """The words of a clause's text, without the marks of a name that is also a keyword."""
+    return [word.strip("«»") for word in re.findall(r"[^\s(){}⌜⌝,;]+", clause)]
+
+
+def speaks_of_result(clause):
+    """Whether a clause `λ r. ..` names the result and uses the name."""
+    binder = re.match(r"\s*λ\s*\(?\s*([^\s().:]+)", clause)
+    return binder and binder[1] != "_" and binder[1] in words(clause[binder.end() :])
+
+
+def speaks_of_exit(clause, name):
+    said = words(clause)
+    return (name, ".exit") in zip(said, said[1:])
+
+
+def lent(function):
+    """The parameters that a function may change and of which its contract can speak: not those that it returns a part of, to be written."""
+    mutable = re.compile(r"&\s*('\w+)?\s*mut\b")
+    part = mutable.match(function.result)
+    kinds = ((name, mutable.match(kind)) for name, kind in function.parameters)
+    return [name for name, kind in kinds if kind and not (part and part[1] == kind[1])]
 
 
 def main():
     bad = []
-    seen = 0
-    for path in sorted(ROOT.glob("crates/*/src/**/*.rt")):
-        text = path.read_text(encoding="utf-8")
-        crate = path.relative_to(ROOT / "crates").parts[0]
-        for name, exported, head in functions(text):
-            seen += 1
-            where = f"{path.relative_to(ROOT)}: {name}"
-            if "ensures {" not in head:
-                bad.append(f"{where} has no contract on its result")
-            if (exported or (crate == "page" and name in CALLS)) and "requires {" in head:
-                bad.append(f"{where} does not take every input")
-    if not seen:
-        bad.append("no public function was found")
-    print("\n".join(bad) if bad else f"contracts: {seen} public functions, each with a contract on its result")
-    return 1 if bad else 0
+    libraries = {path.parent.parent.name for path in ROOT.glob("crates/*/src/lib.rt")}
+    everything = rattle.functions()
+    public = [f for f in everything if f.crate in libraries and f.public]
+    lenders = [f for f in everything if f.crate in libraries and lent(f)]
+    total = [f for f in everything if f.exported or (f.public and f.crate in TAKE_ALL)]
+    for f in public:
+        if not f.ensures:
+            bad.append(f"{f.where}: {f.name} is public and has no ensures (rule 1)")
+        elif f.result and not any(map(speaks_of_result, f.ensures)):
+            bad.append(f"{f.where}: {f.name} has a result of which no ensures speaks (rule 1)")
+    for f in lenders:
+        for name in lent(f):
+            if not any(speaks_of_exit(clause, name) for clause in f.ensures):
+                bad.append(f"{f.where}: {f.name} may change {name}, and no ensures speaks of ({name} .exit) (rule 2)")
+    for f in total:
+        if f.requires:
+            bad.append(f"{f.where}: {f.name} is to take every input and has a requires (rule 3)")
+    if not (public and lenders and total):
+        bad.append("a rule found no function that it is about")
+    finish(
+        bad,
+        f"contracts: {len(everything)} functions, {len(public)} public ones of a library, {len(lenders)} that are lent a buffer, "
+        f"{len(total)} that take every input",
+    )
 
 
-sys.exit(main())
+main()

@@ -1,8 +1,6 @@
 #!/usr/bin/env python3
-"""Prints, for each crate, lines of code, definitions, laws and function proofs (blank lines and comments left out), and its must-fail edits."""
-import pathlib
-
-ROOT = pathlib.Path(__file__).resolve().parent.parent
+"""Prints each crate's lines of code, definitions, laws and function proofs, without blank lines and comments, and its must-fail edits."""
+from repository import ROOT, crates
 
 
 def lines(paths, comment):
@@ -12,13 +10,6 @@ def lines(paths, comment):
         for line in path.read_text(encoding="utf-8").splitlines()
         if line.strip() and not line.strip().startswith(comment)
     )
-
-
-def crates():
-    for line in (ROOT / "crates.txt").read_text(encoding="utf-8").splitlines():
-        name = line.split("#")[0].split(":")[0].strip()
-        if name:
-            yield name
 
 
 def main():

@@ -1,0 +1,216 @@
+#!/usr/bin/env python3
+"""Plants faults in a copy of the repository, one at a time, and fails where the check that is to find one passes, or does not name it.
+
+The logs of the must-fail edits are made up, in the prover's forms, since the real ones are there only after rt ci; and what the gate runs
+beside the checks is a stand-in that passes.
+"""
+import os
+import pathlib
+import re
+import shutil
+import subprocess
+import sys
+import tempfile
+
+from edits import first_named, proof_of
+from repository import ROOT, edits, finish, floor, read
+
+# The edit that faults are planted in.
+CRATE, NAME = edits()[0]
+EDIT = f"crates/{CRATE}/must-fail/{NAME}.edit"
+LOG = f"target/must-fail/{CRATE}/{NAME}/.log"
+OLD = re.search(r"^old: (.*)$", read(EDIT), re.M)[1]
+
+# What rt ci is to count.
+PROVED = floor()["crates"] + floor()["edits"]
+
+
+# A fault gives each file that it is planted in as a function from its text to the planted one. None is the text of no file.
+def append(path, text):
+    return {path: lambda old: (old or "") + text}
+
+
+def change(path, pattern, text):
+    """Another text where the pattern first fits."""
+    return {path: lambda old: re.sub(pattern, lambda _: text, old, count=1, flags=re.M)}
+
+
+def delete(path):
+    return {path: lambda old: None}
+
+
+def function(crate, signature, *clauses):
+    """A function in front of one that has a contract. Without clauses its brace stands on the signature's line."""
+    head = "\n    ".join([signature, *clauses]) + ("\n{" if clauses else " {")
+    other = "pub fn after(n: u32) -> u32\n    ensures { λ r. ⌜ r ≡ n ⌝ }\n{\n    n\n}"
+    return append(f"crates/{crate}/src/lib.rt", f"\n{head}\n    0\n}}\n\n{other}\n")
+
+
+def row(cells):
+    """A row in a table of its own."""
+    return append("docs/TRACE.md", f"\n| sentence | contract | must-fail |\n|---|---|---|\n{cells}\n")
+
+
+def number(name, more):
+    return change("tests/floor.txt", rf"^{name} .*", f"{name} {floor()[name] + more}")
+
+
+def log(crate, name, *reports):
+    """The log of an edit that is refused. AT in a report is the folder in which it was tried."""
+    return "\n".join([*reports, "logic=not-proved", ""]).replace("AT/", f"/any/target/must-fail/{crate}/{name}/")
+
+
+def logged(*reports):
+    """Another log of the edit."""
+    return {LOG: lambda old: log(CRATE, NAME, *reports)}
+
+
+def named_log(crate, name):
+    """A log in which an edit fails first at the statement that it names, after what rests on it."""
+    statement, _, place = (first_named(crate, name) or "").partition(" of ")
+    file = proof_of(place).removeprefix(f"crates/{crate}/")
+    if (ROOT / "crates" / crate / file).is_file():
+        failed = f"AT/{file}:1:1: error: `{statement}`: expected type `P`\n  but this has type `Q`"
+    else:
+        failed = f"note: AT/src/lib.rt:1:1: it is not proved that P (`{statement}`)\nfn {place}: no proof: expected `planted-spec`"
+    return log(crate, name, "AT/proofs/Lib.antt:1:1: note: large solution", RESTS, failed)
+
+
+RESTS = "AT/proofs/Lib.antt:1:1: error: `rests`: `planted` was not admitted (it was rejected), so this cannot be checked"
+SEARCH = "`search`: no proof of `P`\n  was found. It stopped 2 lemmas deep, with lemmas still to try"
+SAID = f"note: what antt said of a `search` in the proof that rattle made: AT/src/lib.rt:1:1: `planted`: {SEARCH}"
+NOTE = "note: AT/src/lib.rt:1:1: it is not proved that P (`planted`)"
+PROOF = "AT/proofs/planted/Proof.antt:1:1:"
+ASKS = "requires { ⌜ ⊤ ⌝ }"
+
+# For each check, what it is to say, and the fault.
+FAULTS = {
+    "listed.py": [
+        ("crates/known is not listed", change("crates.txt", r"^known:.*\n", "")),
+    ],
+    "contracts.py": [
+        ("page::planted is public and has no ensures", function("page", "pub fn planted(n: u32) -> u32")),
+        ("page::planted is public and has no ensures", function("page", "pub fn planted<'a>(x: &'a [u8], y: &'a [u8]) -> u32")),
+        ("page::planted has a result of which", function("page", "pub fn planted(n: u32) -> u32", "ensures { λ _. ⌜ n ≡ _ ⌝ }")),
+        ("page::planted has a result of which", function("page", "pub fn planted(n: u32) -> u32", "ensures { λ r. ⌜ n ≡ n ⌝ }")),
+        ("may change x,", function("text", "fn planted(x: &mut [u8]) -> u32", "ensures { λ r. ⌜ r ≡ length (now (x .entry)) ⌝ }")),
+        ("page::planted is to take every input", function("page", "pub fn planted()", ASKS, "ensures { λ _. ⌜ ⊤ ⌝ }")),
+        ("text::planted is to take every input", function("text", 'extern "C" fn planted()', ASKS, "ensures { λ _. ⌜ ⊤ ⌝ }")),
+        ("fn planted is not understood", append("crates/text/src/lib.rt", "\nfn planted(n: u32) -> u32;\n")),
+        ("the word fn stands there", append("crates/text/src/lib.rt", "\nconst PLANTED: fn(u32) -> u32 = planted;\n")),
+        ("is not understood", append("crates/text/src/lib.rt", "\n/* fn planted() {} */\n")),
+    ],
+    "trace.py": [
+        ("there is no text/specs/Text:planted", row("| planted | `text/specs/Text:planted` | none: planted |")),
+        ("there is no page::write", row("| planted | `page::write` | none: it stands in the module writing |")),
+        ("there is no text/must-fail/planted", row("| planted | | `text/must-fail/planted` |")),
+        ("no must-fail edit, and no", row("| planted | | |")),
+        ("no must-fail edit, and no", row("| planted | | none: |")),
+        ("2 cells in a table of 3 columns", row("| planted | |")),
+        ("no row names text/must-fail/planted", append("crates/text/must-fail/planted.edit", "")),
+    ],
+    "edits.py": [
+        ("its old text stands 0 times", change(EDIT, r"^old: .*", "old: planted")),
+        ("it changes nothing", change(EDIT, r"^new: .*", f"new: {OLD}")),
+        ("proofs/Lib.antt is not below src/ or specs/", change(EDIT, r"^file: .*", "file: proofs/Lib.antt")),
+        ("there is no src/planted.rt", change(EDIT, r"^file: .*", "file: src/planted.rt")),
+        ("its comment has no line `# first:", change(EDIT, r"^# first: .*\n", "")),
+        ("has no returns of", change(EDIT, r"^# first: .*", f"# first: returns of {CRATE}::planted")),
+        ("has no planted of", change(EDIT, r"^# first: .*", f"# first: planted of {CRATE}/proofs/Lib")),
+        ("its comment does not say what must hold", change(EDIT, r"\A(?:# (?!first: ).*\n)+", "")),
+        ("it is not comment lines, then", append(EDIT, "# planted\n")),
+    ],
+    "edits.py --logs": [
+        ("there is no log", delete(LOG)),
+        ("the prover did not refuse it", change(LOG, r"^logic=not-proved$", "logic=proved")),
+        ("its log names no statement", logged(RESTS)),
+        ("no statement: specs/Planted.antt", logged("AT/specs/Planted.antt:1:1: error: `planted`: the numeral `1` is checked")),
+        ("no statement: src/lib.rt", logged("AT/src/lib.rt:1:1: error: `ensures-1`: expected type `Type 0`")),
+        ("no statement: proofs/planted/Proof.antt", logged(f"{PROOF} error: this line starts at column 1")),
+        ("first at planted of", logged("AT/proofs/Planted.antt:1:1: error: `planted`: the goal does not follow")),
+        ("first at planted of", logged(NOTE, "fn text::planted: no proof: Q")),
+        ("stopped at a limit", logged(NOTE, SAID, "fn text::planted: no proof: Q")),
+        ("a need or a name is missing", logged(f"{PROOF} error: `planted`: module `Tie` has no `Need-planted`")),
+        ("the proof no longer fits the code", logged(f"{PROOF} error: `planted`: record `Start` has no field `before`")),
+        ("does not answer the needs", logged(f"{PROOF} error: `planted-spec`: expected type `tie.Need-planted`")),
+        ("is not determined", logged(f"{PROOF} `planted` is not admitted: unsolved")),
+        ("stopped at a limit", logged(f"{PROOF} error: `planted`: {SEARCH}")),
+    ],
+    "floor.py": [
+        ("edits, and tests/floor.txt says", {**delete(EDIT), **change("docs/TRACE.md", rf"^.*`{CRATE}/must-fail/{NAME}`.*\n", "")}),
+        ("edits, and tests/floor.txt says", number("edits", -1)),
+        ("edits, and tests/floor.txt says", number("edits", 1)),
+        ("crates, and tests/floor.txt says", change("crates.txt", r"^known:.*\n", "")),
+        ("rows, and tests/floor.txt says", change("docs/TRACE.md", r"^\| .*\n(?=\| )", "")),
+        ("steps, and tests/floor.txt says", change("tests/gate", r'^step ".*\n', "")),
+        ("says None", change("tests/floor.txt", r"^rows .*\n", "")),
+    ],
+    f"floor.py {PROVED} crates edits": [
+        (f"{PROVED} passed, and tests/floor.txt says", number("edits", 1)),
+    ],
+    "gate": [
+        ("FAILED: every crate is listed", change("crates.txt", r"^known:.*\n", "")),
+        ("FAILED: the hint for a missing kit", change("README.md", r"^## The kit$", "## Planted")),
+        ("FAILED: rt ci\n", append("bin/rt", "exit 1\n")),
+        ("FAILED: rt ci ended in", change("bin/rt", "0 failed", "1 failed")),
+        ("FAILED: rt ci tried every crate and every edit", change("bin/rt", f"{PROVED} passed", f"{PROVED - 1} passed")),
+        ("FAILED: every must-fail edit is refused", delete(LOG)),
+        ("FAILED: the count", change("tests/gate", r"^    passed=.*", "    :")),
+    ],
+}
+
+STAND_INS = {
+    "bin/rt": '#!/bin/sh\nmkdir -p target/staticlib && : > target/staticlib/libfirmware.a\n'
+    f'[ "$1" = ci ] || exit 0\necho "{PROVED} passed, 0 failed"\n',
+    "tests/build": '#!/bin/sh\nmkdir -p target/tests && echo "#!/bin/sh" > "target/tests/$1" && chmod +x "target/tests/$1"\n',
+    "tests/install": "#!/bin/sh\n",
+    "tests/planted.py": "",
+    "tests/run.py": "",
+}
+
+
+def wrong(root, check, words):
+    """What is wrong where a check is to fail and say these words, or, with no words, to pass."""
+    script, *arguments = check.split()
+    command = ["bash" if script == "gate" else sys.executable, root / "tests" / script, *arguments]
+    path = {**os.environ, "PATH": f"{root / 'bin'}:{os.environ['PATH']}"}
+    done = subprocess.run(command, env=path, capture_output=True, encoding="utf-8")
+    said = done.stdout + done.stderr
+    if (done.returncode == 0) == (words is None) and (words or "") in said:
+        return []
+    wanted = f"to fail and say '{words}'" if words else "to pass, with nothing planted"
+    return [f"{check} is {wanted}; it ends with status {done.returncode}:", *said.splitlines()[-5:]]
+
+
+def put(path, text):
+    """Makes this a file's text."""
+    if text is None:
+        path.unlink()
+        return
+    path.parent.mkdir(parents=True, exist_ok=True)
+    path.write_text(text, encoding="utf-8")
+
+
+def main():
+    bad = []
+    with tempfile.TemporaryDirectory() as folder:
+        copy = pathlib.Path(folder, "copy")
+        shutil.copytree(ROOT, copy, ignore=shutil.ignore_patterns("target", ".git", "__pycache__"))
+        for crate, name in edits():
+            put(copy / "target" / "must-fail" / crate / name / ".log", named_log(crate, name))
+        for path, text in STAND_INS.items():
+            put(copy / path, text)
+        (copy / "bin" / "rt").chmod(0o755)
+        for check, faults in FAULTS.items():
+            bad += wrong(copy, check, None)
+            for words, fault in faults:
+                before = {path: (copy / path).read_text(encoding="utf-8") if (copy / path).is_file() else None for path in fault}
+                for path, planted in fault.items():
+                    put(copy / path, planted(before[path]))
+                bad += wrong(copy, check, words)
+                for path, text in before.items():
+                    put(copy / path, text)
+    finish(bad, f"planted: {sum(map(len, FAULTS.values()))} faults, each found by its check")
+
+
+main()
