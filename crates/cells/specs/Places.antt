@@ -4,13 +4,14 @@
 --   number n f   the number whose bit i is f i
 --   Each P l     every element of a list has the property P
 --   sameList     whether two lists are the same
---   Free a b     a buffer that was a and is b, of which nothing but the length is said
+--   Untouched    a buffer whose places from the n-th on are as they were
+--   Free         a buffer of which nothing but the length is said
 use mathlib.Core.Path.{_≡_}
 use mathlib.Core.Bool.{Bool, true, false, _&&_}
 use mathlib.Core.List.{List, [], _∷_}
-use Prim.Native.Nat.{ℕ, zero, suc, _+_, _*_}
+use Prim.Native.Nat.{ℕ, zero, suc, _+_, _*_, _≤_}
 use lib.Dec.{eqb}
-use lib.ListN.{length}
+use lib.ListN.{length, getD}
 
 -- f 0, f 1, .. f (n - 1)
 unfoldable pub listOf : {A : Type 0} → ℕ → (ℕ → A) → List A
@@ -38,6 +39,10 @@ sameList [] [] = true
 sameList [] (y ∷ b) = false
 sameList (x ∷ a) [] = false
 sameList (x ∷ a) (y ∷ b) = eqb x y && sameList a b
+
+-- from place n on a buffer is as it was
+pub record Untouched (n : ℕ) (before after : List ℕ) : Type 0 where
+  pub others : (k : ℕ) → n ≤ k → getD after k 0 ≡ getD before k 0
 
 -- a buffer that is lent as working storage: what it holds afterwards is free
 pub record Free (before after : List ℕ) : Type 0 where

@@ -12,7 +12,7 @@ ghost use Rattle.cells.specs.Raising.{startOf, zeroFrom, triple, raisedC
 ghost use Rattle.cells.specs.Climbs.{house, weightOf, climb};
 
 // The cost of the step from level 0 to 1, from 1 to 2 and from 2 to 3.
-pub const HOUSE_WEIGHTS: [u8; 3] = [16, 20, 28];
+const HOUSE_WEIGHTS: [u8; 3] = [16, 20, 28];
 
 // Byte i, and 0 past the end.
 fn byte(bytes: &[u8], i: usize) -> u32

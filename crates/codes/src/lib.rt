@@ -48,7 +48,7 @@ const CODE_TABLE: [CodeRow; 2] = [
 ];
 
 impl Code {
-    // The most memory that a code has.
+    // The most memory that a code has: that of the long one.
     pub const MAX_MEMORY: u32 = 6;
 
     pub fn short() -> Code
@@ -76,6 +76,7 @@ impl Code {
 
     pub fn memory(self) -> u32
         ensures { λ r. ⌜ (r ≡ generatorsOf self .memory) × (r ≤ 6) ⌝ }
+        ensures { λ _. do ⌜ (← ⟦Code::MAX_MEMORY⟧ .entry) ≡ long .memory ⌝ }
     {
         self.generators().memory
     }

@@ -9,7 +9,7 @@ ghost use Prim.Native.Nat.{ℕ, _+_, _-_, _*_, _^_, _<_, _≤_};
 ghost use lib.ListN.{length, getD};
 ghost use Rattle.codes.specs.Generators.{short, long};
 ghost use Rattle.codes.specs.Codes.{generatorsOf};
-ghost use Rattle.stages.specs.Stage.{top, mostCost, wordsOf};
+ghost use Rattle.stages.specs.Stage.{closed, top, mostCost, wordsOf};
 ghost use Rattle.stages.specs.Blocks.{markedOf, RunAsked, Ran, Settled, Kept};
 
 // The word of each state of the long code for the digit 0.
@@ -169,6 +169,7 @@ pub fn run(code: Code, costs: &mut [u32; 64], rows: &[u32; 128], picks: u64)
 pub fn settle(costs: &mut [u32; 64], states: usize)
     requires { ⌜ (states ≤ 64) × (length (now costs) ≡ 64) × ((i : ℕ) → getD (now costs) i 0 ≤ mostCost) ⌝ }
     ensures { λ _. ⌜ Settled states (now (costs .entry)) (now (costs .exit)) ⌝ }
+    ensures { λ _. do ⌜ (← ⟦CLOSED⟧ .entry) ≡ closed ⌝ }
 {
     let mut s: usize = 0;
     while s < states {

@@ -2,6 +2,7 @@
 ghost use mathlib.Core.Path.{_≡_};
 ghost use Prim.Native.Nat.{_+_, _^_, _<_, _≤_, min};
 ghost use lib.ListN.{getD};
+ghost use Rattle.cells.specs.Places.{Untouched};
 ghost use Rattle.stages.specs.Stage.{pick, StageAsked, HalfAsked, Staged};
 
 // The first for the digit 0, else the second.
@@ -40,6 +41,7 @@ fn half(
 )
     requires { ⌜ HalfAsked (now costs) (now after) (now words) prices others at ⌝ }
     ensures { λ _. ⌜ Staged (at + 32) (now (after .entry)) (now (words .entry)) prices (now (costs .exit)) ⌝ }
+    ensures { λ _. ⌜ Untouched (at + 32) (now (costs .entry)) (now (costs .exit)) ⌝ }
 {
     let mut i: usize = 0;
     while i < 32 {

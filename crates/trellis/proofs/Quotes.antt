@@ -153,12 +153,13 @@ module _ (bits labels i : ℕ) where
   row-less = omega (arith, row-most)
 
 -- eight rows packed are picked one by one
-pub picks-are : (bits labels i : ℕ) → i < 8 → pickAt (packedOf 8 (stageRow bits labels) 8) i ≡ stageRow bits labels i
+pub picks-are : (bits labels picks : ℕ) → picks ≡ packedOf 8 (stageRow bits labels) 8 → (i : ℕ) → i < 8
+    → pickAt picks i ≡ stageRow bits labels i
 unfolding pickAt
-picks-are bits labels i h =
+picks-are bits labels picks p i h =
     let z : 8 * i + 0 ≡ 8 * i = omega arith in
     let e = packed-bits 8 (stageRow bits labels) (row-less bits labels) 8 i 0 5 h (omega arith) in
-    rw z at e ∙ omega (arith, row-most bits labels i)
+    rw p (rw z at e ∙ omega (arith, row-most bits labels i))
 
 -- THE BITS. 48 bits are six bytes
 six-bytes : (f : ℕ → ℕ) → number 48 f

@@ -75,13 +75,13 @@ pub record Shaped (rows strip content : List ℕ) : Type 0 where
   pub size : length strip ≡ byteCount oneBit (length content)
   pub most : length content ≤ 64
 
--- the history of n blocks: the trail of each state before block q that has a cost
+-- the history of n blocks: the trail of each state before block q that has a cost. What stands there for another state is free
 pub record Traced (G : Generators) (W strip content history : List ℕ) : Type 0 where
   pub kept : (q : ℕ) → q < length content → (s : ℕ) → s < 2 ^ G .memory
       → (costsFor G W (blocksFor G strip content (length content) q) s ≡ none → ⊥)
       → getD history (64 * q + s) 0 ≡ trailFor G W 8 (blocksFor G strip content (length content) q) s
 
--- the bits that the first cells of n blocks show; the other places are free
+-- the bits that the first cells of n blocks show
 pub record Lows (strip : List ℕ) (n : ℕ) (lows : List ℕ) : Type 0 where
   pub shown : (q : ℕ) → q < n → getD lows q 0 ≡ windowOf 8 (firstBit (level strip)) (8 * (q + 1))
 

@@ -12,6 +12,7 @@ ghost use mathlib.Core.Path.{_≡_};
 ghost use mathlib.Core.List.{List};
 ghost use Prim.Native.Nat.{ℕ, _+_, _*_, _<_, _≤_};
 ghost use lib.ListN.{length};
+ghost use Rattle.cells.specs.Places.{Untouched};
 ghost use Rattle.cells.specs.Bytes.{bitOf};
 ghost use Rattle.codes.specs.Codes.{generatorsOf};
 ghost use Rattle.codes.specs.Taps.{windowOf};
@@ -88,7 +89,8 @@ pub fn price_strip(code: Code, rows: &[u32; 128], strip: &[u8], data: &[u8]) -> 
     outcome(costs[0] / 256)
 }
 
-// The same, with what the states keep of their ways, and the bits that the first cells show, eight stages a byte.
+// The same, with what the states keep of their ways, and the bits that the first cells show, eight stages a byte. What stands in the history
+// for a state without a cost, or beyond the code's states, is free.
 pub fn decide(
     code: Code,
     rows: &[u32; 128],
@@ -103,7 +105,9 @@ pub fn decide(
         → r ≡ solutionOutcome (writeOf (generatorsOf code) W (now (strip .entry)) (now («data» .entry)))) ⌝ }
     ensures { λ _. ⌜ ((W : List ℕ) → Priced W (now (rows .entry))
         → Traced (generatorsOf code) W (now (strip .entry)) (now («data» .entry)) (now (history .exit))) ⌝ }
+    ensures { λ _. ⌜ Untouched (64 * length (now («data» .entry))) (now (history .entry)) (now (history .exit)) ⌝ }
     ensures { λ _. ⌜ Lows (now (strip .entry)) (length (now («data» .entry))) (now (lows .exit)) ⌝ }
+    ensures { λ _. ⌜ Untouched (length (now («data» .entry))) (now (lows .entry)) (now (lows .exit)) ⌝ }
 {
     let states = code.states();
     let mut labels = last_labels(code, data);

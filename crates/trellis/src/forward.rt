@@ -6,6 +6,7 @@ ghost use mathlib.Core.Path.{_≡_};
 ghost use mathlib.Core.List.{List};
 ghost use Prim.Native.Nat.{ℕ, _+_, _*_, _<_, _≤_};
 ghost use lib.ListN.{length, getD};
+ghost use Rattle.cells.specs.Places.{Free};
 ghost use Rattle.codes.specs.Codes.{generatorsOf};
 ghost use Rattle.codes.specs.Taps.{windowOf};
 ghost use Rattle.trellis.specs.Rows.{Priced};
@@ -21,10 +22,10 @@ fn wide(x: u8) -> u32
 }
 
 // Follows the way that the states keep, from state 0: the trail of eight stages and the bits that the first cells show give the first code
-// bits, and these, divided by the first generator, the digits.
+// bits, and these, divided by the first generator, the digits. Where no digits are followed, what is put there is free.
 fn follow(code: Code, lows: &[u8; 64], history: &[u8; 4096], digits: &mut [u8])
     requires { ⌜ length (now digits) ≤ 64 ⌝ }
-    ensures { λ _. ⌜ length (now (digits .exit)) ≡ length (now (digits .entry)) ⌝ }
+    ensures { λ _. ⌜ Free (now (digits .entry)) (now (digits .exit)) ⌝ }
     ensures { λ _. ⌜ ((u : ℕ → ℕ) → Followed (generatorsOf code) (now (lows .entry)) (now (history .entry)) (length (now (digits .entry))) u
         → (q : ℕ) → q < length (now (digits .entry)) → getD (now (digits .exit)) q 0 ≡ windowOf 8 u (8 * (q + 1))) ⌝ }
 {
@@ -40,7 +41,7 @@ fn follow(code: Code, lows: &[u8; 64], history: &[u8; 4096], digits: &mut [u8])
     }
 }
 
-// What the data of a strip costs, and the digits of the cheapest way, one bit a stage.
+// What the data of a strip costs, and the digits of the cheapest way, one bit a stage. Where there is none, what is put there is free.
 pub fn plan_strip(
     code: Code,
     rows: &[u32; 128],
@@ -52,7 +53,7 @@ pub fn plan_strip(
     requires { ⌜ length (now digits) ≡ length (now «data») ⌝ }
     ensures { λ r. ⌜ ((W : List ℕ) → Priced W (now (rows .entry))
         → r ≡ solutionOutcome (writeOf (generatorsOf code) W (now (strip .entry)) (now («data» .entry)))) ⌝ }
-    ensures { λ _. ⌜ length (now (digits .exit)) ≡ length (now («data» .entry)) ⌝ }
+    ensures { λ _. ⌜ Free (now (digits .entry)) (now (digits .exit)) ⌝ }
     ensures { λ _. ⌜ ((W : List ℕ) → Priced W (now (rows .entry))
         → Plans (generatorsOf code) W (now (strip .entry)) (now («data» .entry)) (now (digits .exit))) ⌝ }
 {

@@ -7,8 +7,7 @@ ghost use mathlib.Core.Path.{_≡_};
 ghost use Prim.Native.Nat.{ℕ, _+_, _*_, _<_, _≤_};
 ghost use lib.ListN.{length, getD};
 ghost use Rattle.stages.specs.Stage.{closed, top};
-ghost use Rattle.stages.specs.Blocks.{pickAt};
-ghost use Rattle.trellis.specs.Rows.{stepList, priceFor, Table, stageRow, bitsAt};
+ghost use Rattle.trellis.specs.Rows.{stepList, priceFor, Table, stageRow, packedOf, bitsAt};
 
 // The levels of two cells by their six bits: the ones of the first three, and four times those of the other three.
 const PAIRS: [u8; 64] = [
@@ -144,7 +143,7 @@ pub fn bits_of(strip: &[u8], q: usize) -> u64
 
 // The rows of eight stages, by the 48 bits of their cells and their labels, as the bytes of one number.
 pub fn picks_of(bits: u64, labels: u32) -> u64
-    ensures { λ r. ⌜ ((i : ℕ) → i < 8 → pickAt r i ≡ stageRow bits labels i) ⌝ }
+    ensures { λ r. ⌜ r ≡ packedOf 8 (stageRow bits labels) 8 ⌝ }
 {
     let pairs = PAIRS;
     let mut picks: u64 = 0;

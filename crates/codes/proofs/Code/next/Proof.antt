@@ -36,7 +36,7 @@ cast-result-2 c =
     rw (one-shl m 64 (omega arith)) (omega (arith, pow-mono h, mod-lt (2 * c .before .args .s + c .before .args .d % 2) (pow-pos m)))
 
 returns : tie.Need-returns
-returns c = rw (one-shl (c .memory .result) 64 (omega arith), c .memory .ensures .0)
+returns c = rw (one-shl (c .memory .result) 64 (omega arith), c .memory .ensures .0 .0)
 
 pub next-spec : {M : Type 1} → statement M
 next-spec =

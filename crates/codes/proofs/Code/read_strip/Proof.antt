@@ -1,5 +1,5 @@
 -- The invariant: q bytes are read, the windows hold the cell bits before byte q, and the slice is as long as it came.
-use mathlib.Core.Path.{_≡_, refl}
+use mathlib.Core.Path.{_≡_, refl, sym}
 use Prim.Native.Nat.{ℕ, _≤_, _<_, _+_, _*_, _-_}
 use native.Mathlib.Omega.{arith}
 use native.Mathlib.Nat.{not-suc-le-zero}
@@ -11,6 +11,7 @@ use Rattle.codes.specs.Codes.{generatorsOf, WindowsBefore}
 use Rattle.codes.specs.Taps.{windowOf, tappedBit}
 use Rattle.cells.proofs.Places.{store-more}
 use Rattle.codes.proofs.Codes.{memory-bounds}
+use Rattle.codes.proofs.Layouts.{oneBit-cells, oneBit-bytes}
 use Rattle.codes.proofs.Taps.{read-bytes}
 use Rattle.codes.proofs.Code.read_strip.Statement.{statement}
 use Rattle.codes.proofs.Code.read_strip.Tie as tie
@@ -69,8 +70,11 @@ returns c =
     let l = c .before .loop in
     let m = memory-bounds (a .self .name) .1 in
     let e : l .q ≡ length (a .«data» .now) = omega arith in
-    read-bytes (generatorsOf (a .self)) _ (a .strip .now) (l .«data») m (l .inv .0)
-    (λ k h. rw (s .before .g1-taps .ensures .0, s .g2-taps .ensures .0) at (l .inv .3 k (omega arith)))
+    (
+      read-bytes (generatorsOf (a .self)) _ (a .strip .now) (l .«data») m (l .inv .0)
+      (λ k h. rw (s .before .g1-taps .ensures .0, s .g2-taps .ensures .0) at (l .inv .3 k (omega arith))),
+      (sym (oneBit-bytes 1), sym (oneBit-cells 1)),
+    )
 
 pub read-strip-spec : {M : Type 1} → statement M
 read-strip-spec =

@@ -22,7 +22,7 @@ returns c =
     let m = c .memory .result in
     let h : m ≤ 6 = omega arith in
     let e : (1 * 2 ^ m) % 2 ^ 64 ≡ 2 ^ m = one-shl m 64 (omega arith) in
-    (e ∙ ap (λ (k : ℕ). 2 ^ k) (c .memory .ensures .0), omega (arith, pow-mono h))
+    (e ∙ ap (λ (k : ℕ). 2 ^ k) (c .memory .ensures .0 .0), omega (arith, pow-mono h))
 
 pub states-spec : {M : Type 1} → statement M
 states-spec = tie.close (tie.spec memory-requires cast-result shl-result returns)

@@ -16,12 +16,12 @@ run-long-requires c κs = search needs
 
 returns : tie.Need-returns
 returns c =
-    let memory = c .before .before .before .memory .ensures .0 in
+    let memory = c .before .before .before .memory .ensures .0 .0 in
     rw (short-when (c .before .before .before .before .args .code) (sym memory ∙ c .before .before .if1 .taken)) (c .run-short .ensures)
 
 returns-2 : tie.Need-returns-2
 returns-2 c =
-    let memory = c .before .before .before .memory .ensures .0 in
+    let memory = c .before .before .before .memory .ensures .0 .0 in
     rw (long-unless (c .before .before .before .before .args .code) (λ e. c .before .before .if1 .left (memory ∙ e))) (c .run-long .ensures)
 
 pub run-spec : {M : Type 1} → statement M

@@ -70,7 +70,7 @@ loop-again c =
 returns : tie.Need-returns Inv-loop μ-loop
 returns c =
     let l = c .before .loop in
-    record { long = l .inv .1; states = λ k h. l .inv .2 k (omega arith); others = λ k h. l .inv .3 k (omega arith) }
+    (record { long = l .inv .1; states = λ k h. l .inv .2 k (omega arith); others = λ k h. l .inv .3 k (omega arith) }, refl)
 
 pub settle-spec : {M : Type 1} → statement M
 settle-spec =

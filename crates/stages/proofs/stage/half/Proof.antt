@@ -1,8 +1,9 @@
--- A turn does one state. The invariant: the states before at + i have their numbers.
-use mathlib.Core.Path.{_≡_, _∙_, ap}
+-- A turn does one state. The invariant: the states before at + i have their numbers, and the others are as they were.
+use mathlib.Core.Path.{_≡_, refl, _∙_, ap}
 use Prim.Native.Nat.{ℕ, _+_, _-_, _*_, _≤_, _<_}
 use native.Mathlib.Omega.{arith}
 use lib.ListN.{length, getD, length-set}
+use lib.Seq.{getD-set-other}
 use borrow.Author.Needs.{needs}
 use Rattle.cells.proofs.Places.{store-more}
 use Rattle.stages.specs.Stage.{stagedAt}
@@ -15,12 +16,13 @@ Inv-loop costs₀ after words at prices others i₀ costs i =
     (i ≤ 32)
     × (length costs ≡ 64)
     × ((k : ℕ) → k < at + i → getD costs k 0 ≡ stagedAt after words prices k)
+    × ((k : ℕ) → at + i ≤ k → getD costs k 0 ≡ getD costs₀ k 0)
 
 abbrev μ-loop : tie.MeasureT-loop
 μ-loop costs₀ after words at prices others i₀ costs i = 32 - i
 
 loop-holds : tie.Need-loop-holds Inv-loop μ-loop
-loop-holds c = (search needs, c .pre .long, λ k h. c .pre .before k (omega arith))
+loop-holds c = (search needs, c .pre .long, (λ k h. c .pre .before k (omega arith)), λ k h. refl)
 
 add-j : tie.Need-add-j Inv-loop μ-loop
 add-j c = search needs
@@ -115,12 +117,13 @@ loop-again c =
       search needs,
       simp length-set (omega arith),
       λ k h. store-more (l .costs) (a .at + l .i) (c .least .result) _ (omega arith) number (l .inv .2) k (omega arith),
+      λ k h. getD-set-other (l .costs) (a .at + l .i) k (c .least .result) 0 (λ z. omega arith) ∙ l .inv .3 k (omega arith),
     )
 
 returns : tie.Need-returns Inv-loop μ-loop
 returns c =
     let l = c .before .loop in
-    record { long = l .inv .1; states = λ k h. l .inv .2 k (omega arith) }
+    (record { long = l .inv .1; states = λ k h. l .inv .2 k (omega arith) }, record { others = λ k h. l .inv .3 k (omega arith) })
 
 pub half-spec : {M : Type 1} → statement M
 half-spec =

@@ -38,7 +38,7 @@ half-requires-2 : tie.Need-half-requires-2
 half-requires-2 c κs =
     let s = c .before .before .before .before .before .before in
     let p = s .pre .prices-le in
-    let h = c .before .before .half .ensures in
+    let h = c .before .before .half .ensures .0 in
     record {
       long = h .long;
       whole = search needs;

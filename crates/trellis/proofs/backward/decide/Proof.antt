@@ -1,9 +1,11 @@
 -- The invariant: before block q the numbers tell what the states cost from there on (BlocksTold), and the blocks from q on are kept.
-use mathlib.Core.Path.{_≡_, _∙_}
+use mathlib.Core.Path.{_≡_, refl, _∙_}
 use Prim.Native.Nat.{ℕ, _<_, _≤_, _+_, _*_, _-_, _/_, _%_, _^_}
 use native.Mathlib.Omega.{arith}
 use lib.ListN.{length, getD, length-set}
+use lib.Seq.{getD-set-other}
 use borrow.Author.Needs.{needs}
+use Rattle.cells.specs.Places.{Untouched}
 use Rattle.cells.specs.Levels.{level}
 use Rattle.codes.specs.Codes.{generatorsOf}
 use Rattle.codes.specs.Taps.{windowOf, firstBit}
@@ -11,6 +13,7 @@ use Rattle.codes.proofs.Codes.{proper}
 use Rattle.codes.proofs.Layouts.{oneBit-bytes}
 use Rattle.codes.proofs.Taps.{window-less}
 use Rattle.stages.proofs.Runs.{ran-le}
+use Rattle.trellis.proofs.Quotes.{picks-are}
 use Rattle.trellis.proofs.Ways.{suits, BlocksTold, blocks-last, block-told, blocks-more, blocks-first, block-quoted, TracedFrom, traced-more, block-lows, store-back}
 use Rattle.trellis.proofs.backward.decide.Statement.{statement}
 use Rattle.trellis.proofs.backward.decide.Tie as tie
@@ -21,6 +24,8 @@ Inv-loop code rows strip «data» history₀ lows₀ states labels₀ costs₀ q
     × (TracedFrom (generatorsOf code) rows strip «data» history q)
     × (length lows ≡ 64)
     × ((k : ℕ) → q ≤ k → k < length «data» → getD lows k 0 ≡ windowOf 8 (firstBit (level strip)) (8 * (k + 1)))
+    × Untouched (64 * length «data») history₀ history
+    × Untouched (length «data») lows₀ lows
 
 abbrev μ-loop : tie.MeasureT-loop
 μ-loop code rows strip «data» history₀ lows₀ states labels₀ costs₀ q₀ history lows labels costs q = q
@@ -38,7 +43,9 @@ loop-holds c =
       blocks-last (generatorsOf (a .code)) (a .rows .now) (a .strip .now) (a .«data» .now) (c .last-labels .ensures .0),
       record { long = s .pre .1 .0; kept = λ W P k h l. absurd (let z : ⊥ = omega arith in z) },
       s .pre .1 .1,
-      λ k h l. absurd (let z : ⊥ = omega arith in z),
+      (λ k h l. absurd (let z : ⊥ = omega arith in z)),
+      record { others = λ k h. refl },
+      record { others = λ k h. refl },
     )
 
 sub-q : tie.Need-sub-q Inv-loop μ-loop
@@ -124,17 +131,21 @@ loop-again c =
     let octets : (i : ℕ) → getD (a .strip .now) i 0 < 256 = λ i. omega (arith, k .shared-slice-known .given i) in
     let bits = c .before .before .before .before .before .before .before .before .before .before .bits-of .ensures in
     let picks = c .before .before .before .before .before .before .before .before .before .picks-of .ensures in
-    let quoted = block-quoted G q _ octets h bits picks in
+    let rows = picks-are _ _ _ picks in
+    let quoted = block-quoted G q _ octets h bits rows in
+    let kept = c .before .before .before .keep .ensures in
     let ran = c .before .before .before .before .before .before .run .ensures in
-    let low = block-lows (a .strip .now) q _ (l .labels) octets bits picks
+    let low = block-lows (a .strip .now) q _ (l .labels) octets bits rows
     (c .before .before .before .before .before .before .before .before .window .ensures) in (
       blocks-more G (a .rows .now) (a .strip .now) (a .«data» .now) (proper (a .code)) q _ (s .pre .0 .most) near h quoted ran
-          (c .labels-before .ensures .0) (rw (fits .0) at (c .before .settle .ensures)),
-      traced-more G q (omega arith) (rw e (l .inv .1)) (rw (fits .0) at (c .before .before .before .keep .ensures))
+          (c .labels-before .ensures .0) (rw (fits .0) at (c .before .settle .ensures .0)),
+      traced-more G q (omega arith) (rw e (l .inv .1)) (rw (fits .0) at kept)
           (block-told G (a .rows .now) (a .strip .now) (a .«data» .now) (proper (a .code)) q _ (s .pre .0 .most) near h quoted ran),
       simp length-set (l .inv .2),
       store-back (l .lows) (length (a .«data» .now)) q _ (λ k. windowOf 8 (firstBit (level (a .strip .now))) (8 * (k + 1)))
           (omega (arith, l .inv .2, s .pre .0 .most)) low (λ k m n. l .inv .3 k (omega arith) n),
+      record { others = λ k m. kept .after k (omega (arith, fits .1)) ∙ l .inv .4 .others k m },
+      record { others = λ k m. getD-set-other (l .lows) q k _ 0 (λ z. omega arith) ∙ l .inv .5 .others k m },
     )
 
 array-read-outcome : tie.Need-array-read-outcome Inv-loop μ-loop
@@ -149,7 +160,10 @@ returns c =
     let s = c .before .before .before .before .before .before .before in
     let z : l .q ≡ 0 = omega arith in (
       λ W P. c .outcome .ensures ∙ blocks-first (s .pre .0 .most) (rw z at (l .inv .0)) W (suits (s .args .code) W (P .three) (P .bytes)) P,
-      (λ W P. record { kept = λ k h. l .inv .1 .kept W P k (omega arith) h }, record { shown = λ k h. l .inv .3 k (omega arith) h }),
+      (
+        λ W P. record { kept = λ k h. l .inv .1 .kept W P k (omega arith) h },
+        (l .inv .4, (record { shown = λ k h. l .inv .3 k (omega arith) h }, l .inv .5)),
+      ),
     )
 
 pub decide-spec : {M : Type 1} → statement M

@@ -8,6 +8,7 @@ use Rattle.codes.specs.Codes.{generatorsOf}
 use Rattle.codes.proofs.Codes.{proper}
 use Rattle.codes.proofs.Layouts.{oneBit-bytes}
 use Rattle.stages.proofs.Runs.{ran-le}
+use Rattle.trellis.proofs.Quotes.{picks-are}
 use Rattle.trellis.proofs.Ways.{suits, BlocksTold, blocks-last, blocks-more, blocks-first, block-quoted}
 use Rattle.trellis.proofs.backward.price_strip.Statement.{statement}
 use Rattle.trellis.proofs.backward.price_strip.Tie as tie
@@ -82,10 +83,10 @@ loop-again c =
     blocks-more (generatorsOf (a .code)) (a .rows .now) (a .strip .now) (a .«data» .now) (proper (a .code)) q _ (s .pre .most) (omega
     (arith, l .inv .within)) h
     (block-quoted (generatorsOf (a .code)) q _ octets h (c .before .before .before .before .before .before .bits-of .ensures)
-    (c .before .before .before .before .before .picks-of .ensures))
+    (picks-are _ _ _ (c .before .before .before .before .before .picks-of .ensures)))
     (c .before .before .before .run .ensures)
     (c .labels-before .ensures .0)
-    (rw (t .before .before .before .states .ensures .0) at (c .before .settle .ensures))
+    (rw (t .before .before .before .states .ensures .0) at (c .before .settle .ensures .0))
 
 array-read-outcome : tie.Need-array-read-outcome Inv-loop μ-loop
 array-read-outcome c = search needs

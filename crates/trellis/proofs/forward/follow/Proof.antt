@@ -125,7 +125,7 @@ returns c =
       l .inv .1,
       c .loop-test .left,
     ) in
-    (l .inv .1, λ u f k h. l .inv .4 u f k (omega arith))
+    (record { long = l .inv .1 }, λ u f k h. l .inv .4 u f k (omega arith))
 
 pub follow-spec : {M : Type 1} → statement M
 follow-spec =

@@ -1,5 +1,4 @@
 -- What is followed is the plan.
-use mathlib.Core.Path.{_∙_}
 use borrow.Author.Needs.{needs}
 use Rattle.trellis.proofs.Ways.{suits}
 use Rattle.trellis.proofs.Plans.{followed-plans}
@@ -22,7 +21,7 @@ returns c =
     let s = c .before .before .before .before .before .before .before .before .before .before .before .before in
     let e = s .pre .1 in (
       d .0,
-      (f .0 ∙ e, λ W P. followed-plans (suits (s .args .code) W (P .three) (P .bytes)) (P .dear) (d .1 .0 W P) (d .1 .1) (rw e at (f .1))),
+      (f .0, λ W P. followed-plans (suits (s .args .code) W (P .three) (P .bytes)) (P .dear) (d .1 .0 W P) (d .1 .1 .1 .0) (rw e at (f .1))),
     )
 
 pub plan-strip-spec : {M : Type 1} → statement M

@@ -1,12 +1,11 @@
 -- The loop's invariant: the rows of the stages before i are packed, a byte each. The measure is what is left of eight stages.
-use mathlib.Core.Path.{_≡_, refl, _∙_, ap}
+use mathlib.Core.Path.{_≡_, refl}
 use Prim.Native.Nat.{ℕ, _+_, _-_, _*_, _/_, _^_, _≤_, _<_}
 use native.Mathlib.Omega.{arith}
 use borrow.Author.Needs.{needs}
-use Rattle.stages.specs.Blocks.{pickAt}
 use Rattle.trellis.specs.Rows.{stageRow, packedOf}
 use Rattle.trellis.proofs.Digits.{packed-fits, packed-more}
-use Rattle.trellis.proofs.Quotes.{pairs-le, row-added, row-less, picks-are}
+use Rattle.trellis.proofs.Quotes.{pairs-le, row-added, row-less}
 use Rattle.trellis.proofs.rows.picks_of.Statement.{statement}
 use Rattle.trellis.proofs.rows.picks_of.Tie as tie
 
@@ -84,11 +83,9 @@ add-picks-2 c =
 
 returns : tie.Need-returns Inv-loop μ-loop
 returns c =
-    let a = c .before .before .args in
     let l = c .before .loop in
     let e : l .i ≡ 8 = omega arith in
-    let p : l .picks ≡ packedOf 8 (stageRow (a .bits) (a .labels)) 8 = rw e at (l .inv .1) in
-    λ i h. ap (λ (x : ℕ). pickAt x i) p ∙ picks-are (a .bits) (a .labels) i h
+    rw e at (l .inv .1)
 
 pub picks-of-spec : {M : Type 1} → statement M
 picks-of-spec =
