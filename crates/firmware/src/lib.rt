@@ -4,12 +4,12 @@ use page::Answer;
 use page::Completion;
 use page::answers;
 ghost use mathlib.Core.Path.{_≡_};
-ghost use Prim.Native.Nat.{_+_, _*_};
+ghost use Prim.Native.Nat.{_+_, _*_, _%_, _≤_};
 ghost use lib.ListN.{length, replicate};
 ghost use Rattle.cells.specs.Climbs.{house};
 ghost use Rattle.page.specs.Reading.{readPage};
 ghost use Rattle.refusals.specs.Refusals.{shapeGround, eraseGround, first-of, ground, numbered, completionOf};
-ghost use Rattle.page.specs.Answers.{kept, answerOf, pageOf};
+ghost use Rattle.page.specs.Answers.{kept, answerOf, pageOf, largestCost};
 ghost use Rattle.page.specs.Promise.{Wrote};
 ghost use Rattle.firmware.specs.Words.{answerWord, completionWord};
 
@@ -60,6 +60,7 @@ pub extern "C" fn segrunov_price(
 ) -> u64
     ensures { λ r. ⌜ r ≡ answerWord (answerOf house code bytes strips (now (page .entry)) (now («data» .entry))) ⌝ }
     ensures { λ _. ⌜ Wrote house code bytes strips (now (page .entry)) (now («data» .entry)) (pageOf house code bytes strips (now (page .entry)) (now («data» .entry))) (answerOf house code bytes strips (now (page .entry)) (now («data» .entry))) ⌝ }
+    ensures { λ r. ⌜ r % 4294967296 ≤ largestCost ⌝ }
 {
     answer_word(page::writing::price(code, bytes, strips, page, data))
 }
@@ -76,6 +77,7 @@ pub extern "C" fn segrunov_write(
     ensures { λ r. ⌜ r ≡ answerWord (answerOf house code bytes strips (now (page .entry)) (now («data» .entry))) ⌝ }
     ensures { λ _. ⌜ now (page .exit) ≡ pageOf house code bytes strips (now (page .entry)) (now («data» .entry)) ⌝ }
     ensures { λ _. ⌜ Wrote house code bytes strips (now (page .entry)) (now («data» .entry)) (now (page .exit)) (answerOf house code bytes strips (now (page .entry)) (now («data» .entry))) ⌝ }
+    ensures { λ r. ⌜ r % 4294967296 ≤ largestCost ⌝ }
 {
     answer_word(page::writing::write(code, bytes, strips, page, data))
 }

@@ -2,6 +2,7 @@
 // this runs what the compiler made of it.
 use codes::Code;
 use libc::STDOUT_FILENO;
+use page::Row;
 
 // The bytes in hexadecimal, in a row.
 fn print_bytes(bytes: &[u8]) {
@@ -50,37 +51,54 @@ fn print_answer(name: &[u8], answer: u64) {
     io::write_all(STDOUT_FILENO, b"\n");
 }
 
-// A read, a price and a write of one byte, and the page after them.
-fn show_call(name: &[u8], code: u32, bytes: u32, strips: u32, page: &mut [u8]) {
-    let mut data = [0x80u8; 1];
+// A price and a write of the data, a read into them, and what page and data are then.
+fn show_calls_on(
+    name: &[u8],
+    code: u32,
+    bytes: u32,
+    strips: u32,
+    page: &mut [u8],
+    data: &mut [u8],
+) {
     io::write_all(STDOUT_FILENO, name);
     io::write_all(STDOUT_FILENO, b"\n");
     print_answer(
         b"  price",
-        firmware::segrunov_price(code, bytes, strips, page, &data),
+        firmware::segrunov_price(code, bytes, strips, page, data),
     );
     print_answer(
         b"  write",
-        firmware::segrunov_write(code, bytes, strips, page, &data),
+        firmware::segrunov_write(code, bytes, strips, page, data),
     );
     print_answer(
         b"  read",
-        firmware::segrunov_read(code, bytes, strips, page, &mut data),
+        firmware::segrunov_read(code, bytes, strips, page, data),
     );
     io::write_all(STDOUT_FILENO, b"  page ");
     print_bytes(page);
     io::write_all(STDOUT_FILENO, b" data ");
-    print_bytes(&data);
+    print_bytes(data);
     io::write_all(STDOUT_FILENO, b"\n");
 }
 
+// The same with one byte of data.
+fn show_call(name: &[u8], code: u32, bytes: u32, strips: u32, page: &mut [u8]) {
+    let mut data = [0x80u8; 1];
+    show_calls_on(name, code, bytes, strips, page, &mut data);
+}
+
 // An erase, and the page after it.
+fn show_erase_of(name: &[u8], bytes: u32, strips: u32, page: &mut [u8], tenths: i16) {
+    print_answer(name, firmware::segrunov_erase(bytes, strips, page, tenths));
+    io::write_all(STDOUT_FILENO, b"  page ");
+    print_bytes(page);
+    io::write_all(STDOUT_FILENO, b"\n");
+}
+
+// The same of a page of one strip.
 fn show_erase(name: &[u8], tenths: i16) {
     let mut page = [0x5au8; 6];
-    print_answer(name, firmware::segrunov_erase(1, 1, &mut page, tenths));
-    io::write_all(STDOUT_FILENO, b"  page ");
-    print_bytes(&page);
-    io::write_all(STDOUT_FILENO, b"\n");
+    show_erase_of(name, 1, 1, &mut page, tenths);
 }
 
 // A count, after a space.
@@ -89,16 +107,66 @@ fn print_count(n: u32) {
     io::print_decimal(STDOUT_FILENO, n as u64);
 }
 
-// The number of cells of strip 0 at each level.
-fn show_census(strip: [u8; 6]) {
-    let counted = page::counting::census(1, 1, &strip);
-    let row = counted.rows[0];
-    io::write_all(STDOUT_FILENO, b"census");
+// A row of a census.
+fn print_row(row: Row) {
+    io::write_all(STDOUT_FILENO, b" ");
     print_count(row.counts[0]);
     print_count(row.counts[1]);
     print_count(row.counts[2]);
     print_count(row.counts[3]);
     io::write_all(STDOUT_FILENO, b"\n");
+}
+
+// The answer of a census, and the first four of its rows.
+fn show_census(bytes: u32, strips: u32, page: &[u8]) {
+    let counted = page::counting::census(bytes, strips, page);
+    let answer = counted.answer;
+    io::write_all(STDOUT_FILENO, b"census");
+    print_count(refusals::completion_number(answer));
+    io::write_all(STDOUT_FILENO, b"\n");
+    print_row(counted.rows[0]);
+    print_row(counted.rows[1]);
+    print_row(counted.rows[2]);
+    print_row(counted.rows[3]);
+}
+
+// Sets the first byte of strip k, as a part to be written; the answer is how long the part is.
+fn mark_strip(page: &mut [u8], bytes: usize, k: usize) -> usize {
+    let part = page::shape::strip_mut(page, bytes, k);
+    if part.len() > 0 {
+        part[0] = 0xee;
+    }
+    part.len()
+}
+
+// A page of 36 bytes with strip k marked: every other byte is as it was.
+fn show_strip(bytes: usize, k: usize) {
+    let mut page = [0x11u8; 36];
+    let size = mark_strip(&mut page, bytes, k);
+    io::write_all(STDOUT_FILENO, b"strip of ");
+    io::print_decimal(STDOUT_FILENO, size as u64);
+    io::write_all(STDOUT_FILENO, b" bytes, page ");
+    print_bytes(&page);
+    io::write_all(STDOUT_FILENO, b"\n");
+}
+
+// Every call where L is not S, so that one taken for the other shows.
+fn show_shapes() {
+    let mut page = [0u8; 36];
+    let mut data = [0x80, 0x01, 0xc3, 0x40, 0x5a, 0xff];
+    show_calls_on(b"L = 2, S = 3, code 3", 3, 2, 3, &mut page, &mut data);
+    show_census(2, 3, &page);
+    show_census(3, 2, &page);
+    show_calls_on(b"L = 3, S = 2, code 7", 7, 3, 2, &mut page, &mut data);
+    show_census(3, 2, &page);
+    show_erase_of(b"erase, L = 65, S = 1", 65, 1, &mut page, 200);
+    show_erase_of(b"erase, L = 1, S = 65", 1, 65, &mut page, 200);
+    show_census(65, 1, &page);
+    show_census(1, 65, &page);
+    show_erase_of(b"erase, L = 3, S = 2", 3, 2, &mut page, 200);
+    show_strip(2, 1);
+    show_strip(1, 2);
+    show_strip(2, 3);
 }
 
 // The calls that the paper says are refused, and those beside them that are done.
@@ -118,8 +186,9 @@ fn show_calls() {
     show_erase(b"erase at 401", 401);
     show_erase(b"erase at -1", -1);
     show_erase(b"erase at -32768", -32768);
-    show_census([0x41, 0x02, 0, 0, 0, 0]);
-    show_census([0xff, 0xff, 0xff, 0xff, 0xff, 0xff]);
+    show_census(1, 1, &[0x41, 0x02, 0, 0, 0, 0]);
+    show_census(1, 1, &[0xff, 0xff, 0xff, 0xff, 0xff, 0xff]);
+    show_shapes();
 }
 
 fn main() {

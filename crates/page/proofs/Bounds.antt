@@ -4,7 +4,8 @@
 --   write-most      the cost is at most the dearest step for each cell
 --   write-largest   so at most 65,536 times that
 --   house-largest   which is 1,835,008 with the house's weights
-use mathlib.Core.Path.{_≡_, refl}
+--   value-most      and no answer has a greater value
+use mathlib.Core.Path.{_≡_, refl, sym}
 use mathlib.Core.List.{List}
 use mathlib.Core.Option.{Option, none, some}
 use Prim.Native.Nat.{ℕ, zero, suc, _<_, _≤_, _*_, _-_}
@@ -27,9 +28,10 @@ use Rattle.demand.specs.Demand.{jobCost}
 use Rattle.demand.specs.Computed.{pageWrite}
 use Rattle.demand.proofs.Demand.{solution-raised}
 use Rattle.refusals.specs.Refusals.{ground, numbered}
-use Rattle.page.specs.Answers.{callPage, jobPage, jobOf, pageOf, answerOf}
-use Rattle.page.specs.Promise.{Wrote, done}
+use Rattle.page.specs.Answers.{callPage, jobPage, jobOf, pageOf, answerOf, valueOf, largestCost}
+use Rattle.page.specs.Promise.{Wrote, done, spent}
 use Rattle.refusals.specs.declared.Refusal.{Refusal}
+use Rattle.page.specs.declared.Answer.{Answer}
 use Rattle.page.specs.declared.Answer.the-variants as A
 use Rattle.refusals.proofs.Refusals.{in-order, one-to-64}
 use Rattle.page.proofs.Promise.{numbered-suits, job-in-order, wrote}
@@ -111,5 +113,16 @@ house-weights = record { three = refl; bytes = λ i. omega (arith, house-most i)
 
 -- 'One write of the largest page costs at most 1,835,008.'
 pub house-largest : (code L S : ℕ) (before content : List ℕ) → Octets content → (cost : ℕ)
-    → answerOf house code L S before content ≡ A.Done cost → cost ≤ 1835008
+    → answerOf house code L S before content ≡ A.Done cost → cost ≤ largestCost
 house-largest code L S before content b cost e = write-largest house house-weights code L S before content b 28 house-most cost e
+
+-- NO ANSWER OF A CALL HAS A GREATER VALUE: the cost is at most that, and the number of a spent strip is below 64
+pub value-most : (code L S : ℕ) (before content : List ℕ) → Octets content → {r : Answer}
+    → r ≡ answerOf house code L S before content → valueOf r ≤ largestCost
+value-most code L S before content b {r} e = go r (sym e) (rw (sym e) at (wrote house code L S before content b))
+  where
+    go : (a : Answer) → answerOf house code L S before content ≡ a → Wrote house code L S before content (pageOf house code L S before content) a
+        → valueOf a ≤ largestCost
+    go (A.Done cost) f p = house-largest code L S before content b cost f
+    go (A.Spent k) f (spent g p h) = omega (arith, p .inside, one-to-64 S (in-order code L S (length before) (length content) g .1) .1)
+    go (A.Refused r) f p = omega arith

@@ -7,17 +7,17 @@ use mathlib.Core.Path.{_≡_, refl, sym, _∙_, ap, subst₂, fun-ext}
 use mathlib.Core.Bool.{Bool, true, false, _&&_, false≢true}
 use mathlib.Core.List.{List, [], _∷_}
 use mathlib.Core.Option.{Option}
-use Prim.Native.Nat.{ℕ}
+use Prim.Native.Nat.{ℕ, _*_, _-_, _<_, _≤_}
 use native.Mathlib.Omega.{arith}
 use lib.Dec.{eqb}
-use lib.ListN.{length}
+use lib.ListN.{length, getD}
 use borrow.Author.Tests.{eqb-true}
 use Rattle.cells.specs.Places.{listOf, sumOf, number, Each, no-more, and-each, sameList}
-use Rattle.cells.proofs.Places.{and-both, sameList-eq}
+use Rattle.cells.proofs.Places.{and-both, sameList-eq, listOf-at}
 use Rattle.cells.specs.Bytes.{bitOf, bytesOf}
 use Rattle.cells.specs.Levels.{level}
 use Rattle.cells.specs.Raising.{startOf, startIn, zeroFrom, raise, raisedTimes, triple, raisedTo}
-use Rattle.cells.specs.Climbs.{house, weightOf}
+use Rattle.cells.specs.Climbs.{climb, costOf, house, weightOf}
 use Rattle.codes.specs.Generators.{digit}
 use Rattle.codes.specs.Layouts.{oneBit, stageCount, cellCount, byteCount}
 use Rattle.codes.specs.Reading.{ago, sumBit, codeBit, dataBit}
@@ -37,11 +37,12 @@ use Rattle.search.proofs.Table.{write-by-table}
 use Rattle.search.proofs.Layouts.{oneBit-write}
 use Rattle.demand.specs.Jobs.{part}
 use Rattle.demand.specs.Reading.{stripLevels, readBy}
+use Rattle.demand.specs.Demand.{jobCost}
 use Rattle.demand.specs.Computed.{stripBytes, stripWrite, pageWrite, spentStrip}
 use Rattle.refusals.specs.Refusals.{oneTo64, codeGround, bytesGround, stripsGround, limitsGround, sizesGround, pageGround, dataGround, ground, numbered}
 use Rattle.page.specs.Reading.{readPage}
 use Rattle.page.specs.Answers.{callAnswer, callPage, jobAnswer, jobPage, jobOf, answerOf, pageOf}
-use Rattle.page.specs.Known.{Case, Expected, reads, done, spent, Expects, Says, cases}
+use Rattle.page.specs.Known.{Case, Expected, reads, done, also, spent, Expects, Says, cases}
 use Rattle.page.specs.declared.Answer.{Answer}
 use Rattle.page.specs.declared.Answer.the-variants as A
 use Rattle.page.proofs.Promise.{numbered-sound}
@@ -116,15 +117,38 @@ passes c reads = sameList (readPage (numbered (c .code)) (c .L) (c .S) (c .page)
 passes c (done cost after) =
     isDone (answerTabled (c .code) (c .L) (c .S) (c .page) (c .content)) cost && sameList
     (pageTabled (c .code) (c .L) (c .S) (c .page) (c .content)) after
+passes c (also cost other) =
+    let n = cellCount oneBit (c .L) * c .S in
+    eqb (length other) (length (c .page)) && (sameList (readPage (numbered (c .code)) (c .L) (c .S) other) (c .content) &&
+    (sameList (listOf n (λ i. level (c .page) i - level other i)) (listOf n (λ i. 0)) && eqb (costOf (weightOf house) n (c .page) other) cost))
 passes c (spent k) =
     isSpent (answerTabled (c .code) (c .L) (c .S) (c .page) (c .content)) k && sameList
     (pageTabled (c .code) (c .L) (c .S) (c .page) (c .content)) (c .page)
 
+-- no level is lower where none falls
+none-lower : (n : ℕ) (a b : ℕ → ℕ) → sameList (listOf n (λ i. a i - b i)) (listOf n (λ i. 0)) ≡ true → (i : ℕ) → i < n → a i ≤ b i
+none-lower n a b e i h =
+    let f = ap (λ (l : List ℕ). getD l i 0) (sameList-eq _ _ e) in
+    omega (arith, sym (listOf-at n (λ i. a i - b i) i 0 h) ∙ f ∙ listOf-at n (λ i. 0) i 0 h)
+
 -- a row that passes says what it says
 says : (c : Case) (x : Expected) → passes c x ≡ true → Expects answerTabled pageTabled c x
-unfolding passes
+unfolding passes readPage jobCost
 says c reads e = sameList-eq _ _ e
 says c (done cost after) e = let p = and-both _ _ e in (is-done _ cost (p .0), sameList-eq _ _ (p .1))
+says c (also cost other) e =
+    let n = cellCount oneBit (c .L) * c .S in
+    let p = and-both _ _ e in
+    let q = and-both _ _ (p .1) in
+    let r = and-both _ _ (q .1) in (
+      record {
+        size = eqb-true _ _ (p .0);
+        reads = sameList-eq _ _ (q .0);
+        no-lower = none-lower n (level (c .page)) (level other) (r .0);
+        marked-stay = λ i h m. absurd (false≢true m);
+      },
+      eqb-true _ cost (r .1),
+    )
 says c (spent k) e = let p = and-both _ _ e in (is-spent _ k (p .0), sameList-eq _ _ (p .1))
 
 -- of all rows
@@ -143,7 +167,7 @@ unfolding allPass passes isDone isSpent sameList answerTabled pageTabled stripTa
     quotient register push dot branch next wanted sums joined better beats before lexltb parity-choice keep-or-raise odd weightOf
     cellsOf encoderOf digit listOf bitOf level dataBits stripCells stageCount cellCount byteCount part all first-none numbered ground
     codeGround limitsGround sizesGround bytesGround stripsGround pageGround dataGround oneTo64 startIn startOf raisedTo bytesOf number
-    raisedTimes raise zeroFrom triple levelAt readPage readBy stripLevels dataBit sumBit codeBit sumOf ago
+    raisedTimes raise zeroFrom triple levelAt readPage readBy stripLevels dataBit sumBit codeBit sumOf ago costOf climb
 table-passes = refl
 
 -- THE THEOREM: the table holds of the answer and the page of a write with the house's weights

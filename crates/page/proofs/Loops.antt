@@ -111,12 +111,12 @@ module _ {L S : ℕ} {page content : List ℕ} (Z : Sized oneBit L S page conten
 
   -- with its digits the strips before it and it are planned
   pub planned-more : {G : Generators} {W digits ys : List ℕ} → PlannedTo G W L S page content digits k
-      → (length ys ≡ length (take (L * k + L - L * k) (drop (L * k) content)))
+      → (length ys ≡ length (take (L * k + L - L * k) (drop (L * k) digits)))
       × Plans G W x (take (L * k + L - L * k) (drop (L * k) content)) ys
       → PlannedTo G W L S page content (take (L * k) digits ++ (ys ++ drop (L * k + L - L * k) (drop (L * k) digits))) (k + 1)
   planned-more {G} {W} {digits} {ys} p e =
       let fits : L * k + L ≤ length digits = omega (arith, p .size, within L k S h) in
-      let long : length ys ≡ L = e .0 ∙ data-length in
+      let long : length ys ≡ L = e .0 ∙ lent-length L k digits fits in
       let own : Plans G W (stripPart L k page) (part L k content) ys = rw (lent L k content, strip-is) at (e .1) in
       record {
         size = stored-length L k digits ys fits long ∙ p .size;

@@ -1,6 +1,6 @@
 -- A strip within the page: which strips lie in a page, and parts that are stored one by one.
 --   part-ends                               where a part of a list ends
---   strip-outside, strip-beyond, strip-inside, strip-there   which strips lie in a page
+--   outside, beyond, strip-none, strip-inside, strip-there   which strips lie in a page
 --   lent-length, stored-length, part-more   parts that a loop lends and stores
 use mathlib.Core.Path.{_≡_, sym, _∙_, ap, subst⁻¹}
 use mathlib.Core.Bool.{true, false}
@@ -33,18 +33,23 @@ part-beyond n k size p h =
     omega (arith, lt-mul-div-succ size p)
 
 module _ (L k : ℕ) (page : List ℕ) where
-  -- no strip where L is outside its limits
-  pub strip-outside : oneTo64 L ≡ false → stripOf L k page ≡ []
-  unfolding stripOf inPage
-  strip-outside e = simp e
+  -- none does where L is outside its limits
+  pub outside : oneTo64 L ≡ false → inPage L k page ≡ false
+  unfolding inPage
+  outside e = simp e
 
-  -- none where it ends beyond the page's end
-  pub strip-beyond : oneTo64 L ≡ true → length page / (byteCount oneBit L) ≤ k → stripOf L k page ≡ []
-  unfolding stripOf inPage
-  strip-beyond e h =
+  -- nor where it ends beyond the page's end
+  pub beyond : oneTo64 L ≡ true → length page / (byteCount oneBit L) ≤ k → inPage L k page ≡ false
+  unfolding inPage
+  beyond e h =
       let l : length page < byteCount oneBit L * suc k =
       omega (arith, part-beyond (byteCount oneBit L) k (length page) (omega (arith, one-to-64 L e, oneBit-bytes L)) h) in
       simp (e, lt-leb _ _ l)
+
+  -- and then the part is empty
+  pub strip-none : inPage L k page ≡ false → stripOf L k page ≡ []
+  unfolding stripOf
+  strip-none e = rw e
 
   -- the strip where it ends within the page
   pub strip-inside : oneTo64 L ≡ true → byteCount oneBit L * k + byteCount oneBit L ≤ length page

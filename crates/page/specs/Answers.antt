@@ -2,6 +2,8 @@
 --   jobAnswer, jobPage   the answer of a job and the page after it, by the ground of a refusal
 --   answerOf, pageOf     a write's answer, and the page after it
 --   numberOf, valueOf    an answer's number and value in the paper
+--   answerCost           an answer's cost
+--   largestCost          the most that one write costs with the house's weights
 --   kept                 what a refusal leaves as it was
 use mathlib.Core.List.{List}
 use mathlib.Core.Option.{Option, none, some}
@@ -80,8 +82,18 @@ numberOf (A.Done cost) = 0
 numberOf (A.Spent strip) = 7
 numberOf (A.Refused r) = refusalNumber r
 
--- its value: the cost, or the strip's number where the page is spent; 'with any refusal the cost is 0'
+-- its value: the cost, the strip's number where the page is spent, or 0
 abbrev pub valueOf : Answer → ℕ
 valueOf (A.Done cost) = cost
 valueOf (A.Spent strip) = strip
 valueOf (A.Refused r) = 0
+
+-- 'With any refusal the cost is 0', also with 7
+abbrev pub answerCost : Answer → ℕ
+answerCost (A.Done cost) = cost
+answerCost (A.Spent strip) = 0
+answerCost (A.Refused r) = 0
+
+-- 'One write of the largest page costs at most 1,835,008.'
+abbrev pub largestCost : ℕ
+largestCost = 1835008

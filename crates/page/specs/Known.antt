@@ -1,12 +1,15 @@
 -- THE TABLE of the cases marked P in the paper: one row a case, the sequence of seven writes a row each.
---   Expected   reads as the data; done with this cost and page; spent with this strip
+--   Expected   reads as the data; done with this cost and page; another page that could be, at this cost; spent with this strip
 --   Case       code, L, S, page, data, and what is expected
 --   Says       what a case says of the answers and pages of a write, and of the reading
 --   cases      the table
 use mathlib.Core.Path.{_≡_}
 use mathlib.Core.List.{List, [], _∷_, _++_}
 use Prim.Native.Nat.{ℕ}
+use Rattle.cells.specs.Climbs.{house}
+use Rattle.demand.specs.Demand.{Could, jobCost}
 use Rattle.page.specs.Reading.{readPage}
+use Rattle.page.specs.Answers.{jobOf}
 use Rattle.refusals.specs.Refusals.{numbered}
 use Rattle.page.specs.declared.Answer.{Answer}
 use Rattle.page.specs.declared.Answer.the-variants as A
@@ -15,6 +18,7 @@ use Rattle.page.specs.declared.Answer.the-variants as A
 pub data Expected : Type 0 where
   reads : Expected
   done : ℕ → List ℕ → Expected
+  also : ℕ → List ℕ → Expected
   spent : ℕ → Expected
 
 -- a case
@@ -33,6 +37,9 @@ module _ (answers : ℕ → ℕ → ℕ → List ℕ → List ℕ → Answer) (p
   Expects c (done cost after) =
       (answers (c .code) (c .L) (c .S) (c .page) (c .content) ≡ A.Done cost)
       × (pages (c .code) (c .L) (c .S) (c .page) (c .content) ≡ after)
+  Expects c (also cost other) =
+      Could (jobOf house (c .code) (c .L) (c .S) (c .page) (c .content)) other
+      × (jobCost (jobOf house (c .code) (c .L) (c .S) (c .page) (c .content)) other ≡ cost)
   Expects c (spent k) =
       (answers (c .code) (c .L) (c .S) (c .page) (c .content) ≡ A.Spent k)
       × (pages (c .code) (c .L) (c .S) (c .page) (c .content) ≡ c .page)
@@ -64,8 +71,10 @@ cases =
     ∷ on 3 1 erased (0x01 ∷ []) (done 48 (six 0x41 0x02 0 0 0 0))
     -- 'erased, write 40: cost 16, page 00 00 00 00 10 00'
     ∷ on 3 1 erased (0x40 ∷ []) (done 16 (six 0 0 0 0 0x10 0))
-    -- 'erased, write 80: cost 16, page 00 00 00 00 00 20. Raising cell 14 costs as much; cell 15 wins the tie.'
+    -- 'erased, write 80: cost 16, page 00 00 00 00 00 20.'
     ∷ on 3 1 erased (0x80 ∷ []) (done 16 (six 0 0 0 0 0 0x20))
+    -- 'Raising cell 14 costs as much; cell 15 wins the tie.'
+    ∷ on 3 1 erased (0x80 ∷ []) (also 16 (six 0 0 0 0 0 0x04))
     -- 'the same write with code 7: same cost and page'
     ∷ on 7 1 erased (0x80 ∷ []) (done 16 (six 0 0 0 0 0 0x20))
     -- 'writes 80, 00, 80, 00, 80, 00, 80 from erased cost 16, 16, 20, 20, 28, 28, 32'

@@ -1,9 +1,6 @@
 // The strips of a page, as parts of the caller's page.
 ghost use mathlib.Core.Path.{_≡_};
-ghost use mathlib.Core.List.{List};
-ghost use Prim.Native.Nat.{ℕ, _-_, _≤_};
-ghost use lib.ListN.{length, take, drop};
-ghost use Rattle.page.specs.Shape.{stripOf};
+ghost use Rattle.page.specs.Shape.{stripOf, Lies, Found};
 
 // Where a strip stands in its page.
 struct Place {
@@ -13,8 +10,7 @@ struct Place {
 
 // Where strip k stands in a page of this many bytes: from 0 to 0 where L is not from 1 to 64 or the strip lies beyond the page's end.
 fn find(size: usize, bytes: usize, k: usize) -> Place
-    ensures { λ r. ⌜ (r .start ≤ r .end) × (r .end ≤ size) ⌝ }
-    ensures { λ r. ⌜ ((page : List ℕ) → length page ≡ size → take (r .end - r .start) (drop (r .start) page) ≡ stripOf bytes k page) ⌝ }
+    ensures { λ r. ⌜ Found bytes k size r ⌝ }
 {
     if bytes < 1 {
         return Place { start: 0, end: 0 };
@@ -37,6 +33,7 @@ fn find(size: usize, bytes: usize, k: usize) -> Place
 // Strip k of the caller's page, as that part; the empty part where L is not from 1 to 64 or the strip lies beyond the page's end.
 pub fn strip(page: &[u8], bytes: usize, k: usize) -> &[u8]
     ensures { λ r. ⌜ now r ≡ stripOf bytes k (now (page .entry)) ⌝ }
+    ensures { λ r. ⌜ Lies bytes k (now (page .entry)) (page .entry .ptr) (r .ptr) ⌝ }
 {
     let p = find(page.len(), bytes, k);
     let start = p.start;
@@ -47,6 +44,7 @@ pub fn strip(page: &[u8], bytes: usize, k: usize) -> &[u8]
 // The same, to be written.
 pub fn strip_mut(page: &mut [u8], bytes: usize, k: usize) -> &mut [u8]
     ensures { λ r. ⌜ now r ≡ stripOf bytes k (now (page .entry)) ⌝ }
+    ensures { λ r. ⌜ Lies bytes k (now (page .entry)) (page .entry .ptr) (r .ptr) ⌝ }
 {
     let p = find(page.len(), bytes, k);
     let start = p.start;

@@ -11,14 +11,14 @@ use trellis::forward::plan_strip;
 use trellis::rows::rows_of;
 ghost use mathlib.Core.Path.{_≡_};
 ghost use mathlib.Core.Option.{none};
-ghost use Prim.Native.Nat.{_*_};
+ghost use Prim.Native.Nat.{_*_, _≤_};
 ghost use lib.ListN.{length};
 ghost use Rattle.cells.specs.Climbs.{house};
 ghost use Rattle.codes.specs.Codes.{generatorsOf};
 ghost use Rattle.codes.specs.Layouts.{oneBit};
 ghost use Rattle.search.specs.Strip.{Dear, stepsOf};
 ghost use Rattle.page.specs.Shape.{Sized};
-ghost use Rattle.page.specs.Answers.{plainJob, jobAnswer, jobPage, answerOf, pageOf};
+ghost use Rattle.page.specs.Answers.{plainJob, jobAnswer, jobPage, answerOf, pageOf, valueOf, largestCost};
 ghost use Rattle.page.specs.Promise.{Wrote};
 ghost use Rattle.page.specs.Plans.{Planned, Carried};
 
@@ -163,6 +163,7 @@ fn write_strips(
 pub fn price(code: u32, bytes: u32, strips: u32, page: &[u8], data: &[u8]) -> Answer
     ensures { λ r. ⌜ r ≡ answerOf house code bytes strips (now (page .entry)) (now («data» .entry)) ⌝ }
     ensures { λ r. ⌜ Wrote house code bytes strips (now (page .entry)) (now («data» .entry)) (pageOf house code bytes strips (now (page .entry)) (now («data» .entry))) r ⌝ }
+    ensures { λ r. ⌜ valueOf r ≤ largestCost ⌝ }
 {
     let judged = refusals::judge(code, bytes, strips, page.len(), data.len());
     match judged {
@@ -183,6 +184,7 @@ pub fn write(code: u32, bytes: u32, strips: u32, page: &mut [u8], data: &[u8]) -
     ensures { λ r. ⌜ r ≡ answerOf house code bytes strips (now (page .entry)) (now («data» .entry)) ⌝ }
     ensures { λ r. ⌜ now (page .exit) ≡ pageOf house code bytes strips (now (page .entry)) (now («data» .entry)) ⌝ }
     ensures { λ r. ⌜ Wrote house code bytes strips (now (page .entry)) (now («data» .entry)) (now (page .exit)) r ⌝ }
+    ensures { λ r. ⌜ valueOf r ≤ largestCost ⌝ }
 {
     let judged = refusals::judge(code, bytes, strips, page.len(), data.len());
     match judged {

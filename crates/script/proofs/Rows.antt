@@ -13,11 +13,11 @@ use Rattle.codes.proofs.Layouts.{oneBit-cells}
 use Rattle.page.specs.declared.Answer.{Answer}
 use Rattle.refusals.specs.declared.Refusal.{Refusal}
 use Rattle.refusals.specs.Refusals.{sizesGround}
-use Rattle.page.specs.Answers.{numberOf}
+use Rattle.page.specs.Answers.{numberOf, answerCost}
 use Rattle.refusals.proofs.Refusals.{limits-most, sizes-limits}
 use Rattle.text.specs.declared.Values.{Values}
 use Rattle.text.specs.Text.{rowText}
-use Rattle.script.specs.Rows.{sizeOf, valuesAnswer, valuesPage, answerCost, rowAfter, writeRow}
+use Rattle.script.specs.Rows.{sizeOf, valuesAnswer, valuesPage, rowAfter, writeRow}
 
 module _ (v : Values) where
   -- L·S is at most 4096

@@ -32,22 +32,22 @@ six last = 0 ∷ 0 ∷ 0 ∷ 0 ∷ 0 ∷ last ∷ []
 writes : List ℕ → List ℕ → ℕ → List ℕ → Type 0
 writes before content cost after = (valuesAnswer v before content ≡ A.Done cost) × (valuesPage v before content ≡ after)
 
--- the rows of a table from row 5 on
-from-5 : {G : Type 0} {P : G → Type 0} {a b c d e : G} {gs : List G} → Each P (a ∷ b ∷ c ∷ d ∷ e ∷ gs) → Each P gs
-from-5 t = each-rest (each-rest (each-rest (each-rest (each-rest t))))
+-- the rows of a table from row 6 on
+from-6 : {G : Type 0} {P : G → Type 0} {a b c d e f : G} {gs : List G} → Each P (a ∷ b ∷ c ∷ d ∷ e ∷ f ∷ gs) → Each P gs
+from-6 t = each-rest (each-rest (each-rest (each-rest (each-rest (each-rest t)))))
 
--- the three writes, which the paper's table has as rows 5 to 7
+-- the three writes, which the paper's table has as rows 6 to 8
 first : writes (six 0) (128 ∷ []) 16 (six 32)
 unfolding writes six v
-first = each-first (from-5 cases-hold)
+first = each-first (from-6 cases-hold)
 
 second : writes (six 32) (0 ∷ []) 16 (six 36)
 unfolding writes six v
-second = each-first (each-rest (from-5 cases-hold))
+second = each-first (each-rest (from-6 cases-hold))
 
 third : writes (six 36) (128 ∷ []) 20 (six 100)
 unfolding writes six v
-third = each-first (each-rest (each-rest (from-5 cases-hold)))
+third = each-first (each-rest (each-rest (from-6 cases-hold)))
 
 -- the row of a write that writes this
 row-of : (n : ℕ) (before content : List ℕ) (cost : ℕ) (after : List ℕ) → writes before content cost after

@@ -1,7 +1,6 @@
 -- The row of a write.
 --   sizeOf                     the bytes of a page's data
 --   valuesAnswer, valuesPage   a write's answer and the page after it, by the values of line 2
---   answerCost                 an answer's cost
 --   writeRow                   the row
 use mathlib.Core.List.{List}
 use Prim.Native.Nat.{ℕ, _*_}
@@ -9,9 +8,8 @@ use Rattle.cells.specs.Levels.{raisesOf}
 use Rattle.cells.specs.Climbs.{house}
 use Rattle.codes.specs.Layouts.{oneBit, cellCount}
 use Rattle.page.specs.declared.Answer.{Answer}
-use Rattle.page.specs.declared.Answer.the-variants as A
 use Rattle.refusals.specs.Refusals.{sizesGround}
-use Rattle.page.specs.Answers.{kept, answerOf, pageOf, numberOf}
+use Rattle.page.specs.Answers.{kept, answerOf, pageOf, numberOf, answerCost}
 use Rattle.text.specs.declared.Values.{Values}
 use Rattle.text.specs.Text.{rowText}
 
@@ -25,12 +23,6 @@ valuesAnswer v before content = answerOf house (v .code) (v .bytes) (v .strips) 
 
 abbrev pub valuesPage : Values → List ℕ → List ℕ → List ℕ
 valuesPage v before content = pageOf house (v .code) (v .bytes) (v .strips) before content
-
--- 'With any refusal the cost is 0'
-abbrev pub answerCost : Answer → ℕ
-answerCost (A.Done cost) = cost
-answerCost (A.Spent strip) = 0
-answerCost (A.Refused r) = 0
 
 -- the row of a write's number, answer and page after it, which has 16·L·S cells
 unfoldable pub rowAfter : ℕ → Values → Answer → List ℕ → List ℕ

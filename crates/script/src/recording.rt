@@ -8,8 +8,9 @@ use text::printing;
 ghost use mathlib.Core.Path.{_≡_};
 ghost use Prim.Native.Nat.{_≤_};
 ghost use lib.ListN.{length};
+ghost use Rattle.page.specs.Answers.{answerCost};
 ghost use Rattle.text.specs.Text.{Tail};
-ghost use Rattle.script.specs.Rows.{sizeOf, answerCost, valuesPage, writeRow};
+ghost use Rattle.script.specs.Rows.{sizeOf, valuesPage, writeRow};
 
 // The bytes of a page's data, L·S; 0 where the values are refused.
 pub fn size(v: Values) -> usize

@@ -1,5 +1,6 @@
 -- The answer is the call's, in one word.
 use borrow.Author.Needs.{needs}
+use Rattle.firmware.proofs.Words.{lower-half}
 use Rattle.firmware.proofs.segrunov_write.Statement.{statement}
 use Rattle.firmware.proofs.segrunov_write.Tie as tie
 
@@ -15,7 +16,7 @@ same-length c = search needs
 returns : tie.Need-returns
 returns c =
     let w = c .before .before .before .write .ensures in
-    (rw (w .0) at (c .answer-word .ensures), (w .1 .0, rw (w .0) at (w .1 .1)))
+    (rw (w .0) at (c .answer-word .ensures), (w .1 .0, (rw (w .0) at (w .1 .1 .0), lower-half _ (w .1 .1 .1) (c .answer-word .ensures))))
 
 pub segrunov-write-spec : {M : Type 1} → statement M
 segrunov-write-spec = tie.close (tie.spec write-requires answer-word-requires same-length returns)

@@ -69,10 +69,9 @@ returns c =
     let a = s .before .before .before .before .args in
     let l = c .before .loop in
     let m = memory-bounds (a .self .name) .1 in
-    let e : l .q ≡ length (a .«data» .now) = omega arith in
-    (
+    let e : l .q ≡ length (a .«data» .now) = omega arith in (
       read-bytes (generatorsOf (a .self)) _ (a .strip .now) (l .«data») m (l .inv .0)
-      (λ k h. rw (s .before .g1-taps .ensures .0, s .g2-taps .ensures .0) at (l .inv .3 k (omega arith))),
+          (λ k h. rw (s .before .g1-taps .ensures .0, s .g2-taps .ensures .0) at (l .inv .3 k (omega arith))),
       (sym (oneBit-bytes 1), sym (oneBit-cells 1)),
     )
 

@@ -78,8 +78,8 @@ loop-again c =
     let m = lent-length (a .bytes) (l .k) (l .«data») (fit t) in
     let n = r .kept .1 .1 .0 ∙ m in
     let y : r .last .1 .1 .0 ≡ readStrip oneBit (generatorsOf (a .code)) (a .bytes) (stripPart (a .bytes) (l .k) (a .page .now)) =
-    r .ensures
-    ∙ ap₂ (readStrip oneBit (generatorsOf (a .code))) m (c .before .before .before .before .strip .ensures
+    r .ensures .0
+    ∙ ap₂ (readStrip oneBit (generatorsOf (a .code))) m (c .before .before .before .before .strip .ensures .0
     ∙ strip-there (a .bytes) (a .strips) (l .k) (a .page .now) (s .pre .bytes-in) (s .pre .page-is) (t .loop-test .taken)) in (
       stored-length (a .bytes) (l .k) (l .«data») (r .last .1 .1 .0) (fit t) n ∙ l .inv .0,
       omega arith,

@@ -1,5 +1,6 @@
 -- The part lies in the page, and is the strip.
 use mathlib.Core.Path.{refl}
+use native.Mathlib.Omega.{arith}
 use borrow.Author.Needs.{needs}
 use Rattle.page.proofs.shape.strip.Statement.{statement}
 use Rattle.page.proofs.shape.strip.Tie as tie
@@ -17,7 +18,9 @@ part-result-end : tie.Need-part-result-end
 part-result-end c = search needs
 
 returns : tie.Need-returns
-returns c = c .before .find .ensures .1 _ refl
+returns c =
+    let f = c .before .find .ensures in
+    (f .is-strip _ refl, record { block = λ i. refl; offset = λ i. omega (arith, f .starts _ refl i) })
 
 pub strip-spec : {M : Type 1} → statement M
 strip-spec = tie.close (tie.spec find-requires sub-result part-result-start part-result-end returns)

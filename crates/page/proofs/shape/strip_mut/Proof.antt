@@ -1,5 +1,6 @@
 -- The part lies in the page, and is the strip.
 use mathlib.Core.Path.{refl}
+use native.Mathlib.Omega.{arith}
 use borrow.Author.Needs.{needs}
 use Rattle.page.proofs.shape.strip_mut.Statement.{statement}
 use Rattle.page.proofs.shape.strip_mut.Tie as tie
@@ -17,7 +18,9 @@ part-page-end : tie.Need-part-page-end
 part-page-end c = search needs
 
 returns : tie.Need-returns
-returns c = c .before .find .ensures .1 _ refl
+returns c =
+    let f = c .before .find .ensures in
+    (f .is-strip _ refl, record { block = λ i. refl; offset = λ i. omega (arith, f .starts _ refl i) })
 
 pub strip-mut-spec : {M : Type 1} → statement M
 strip-mut-spec = tie.close (tie.spec find-requires sub-result part-page-start part-page-end returns)

@@ -57,7 +57,7 @@ one-more : (c : tie.After-add Inv-loop μ-loop) → let l = c .before .before .b
 one-more c W P =
     let t = c .before .before .before .before .before .before .before .before in
     let s = t .before .before .before .before .before .before .before in
-    let is = c .before .before .before .before .before .before .strip .ensures in
+    let is = c .before .before .before .before .before .before .strip .ensures .0 in
     reached-more (t .before .loop .inv .1 W P) (t .loop-test .taken)
     (turn-outcome (s .pre .0) (t .loop-test .taken) is (suits (s .args .code) W (P .three) (P .bytes)) (P .dear)
     (c .before .before .before .plan-strip .ensures .0 W P))
@@ -114,7 +114,7 @@ plan-strip-requires c κs =
     let s = n .before .before .before .before in
     let a = s .args in
     let l = t .before .loop in (
-      turn-shaped (s .pre .0) (t .loop-test .taken) (c .before .before .strip .ensures) (n .rows-of .ensures),
+      turn-shaped (s .pre .0) (t .loop-test .taken) (c .before .before .strip .ensures .0) (n .rows-of .ensures),
       lent-length (a .bytes) (l .k) (l .digits) (fit-digits t) ∙ sym (lent-length (a .bytes) (l .k) (a .«data» .now) (fit t)),
     )
 
@@ -144,12 +144,12 @@ loop-again : tie.Need-loop-again Inv-loop μ-loop
 loop-again c =
     let t = c .before .before .before .before .before .before .before .before .before in
     let s = t .before .before .before .before .before .before .before in
-    let is = c .before .before .before .before .before .before .before .strip .ensures in
+    let is = c .before .before .before .before .before .before .before .strip .ensures .0 in
     let p = c .before .before .before .before .plan-strip .ensures in
     let P = priced (t .before .before .before) in (
-      planned-more (s .pre .0) (t .loop-test .taken) is (t .before .loop .inv .2 _ P) (p .1 .0, p .1 .1 _ P) .size,
+      planned-more (s .pre .0) (t .loop-test .taken) is (t .before .loop .inv .2 _ P) (p .1 .0 .long, p .1 .1 _ P) .size,
       one-more (c .before),
-      λ W Q. planned-more (s .pre .0) (t .loop-test .taken) is (t .before .loop .inv .2 W Q) (p .1 .0, p .1 .1 W Q),
+      λ W Q. planned-more (s .pre .0) (t .loop-test .taken) is (t .before .loop .inv .2 W Q) (p .1 .0 .long, p .1 .1 W Q),
     )
 
 answer-requires-2 : tie.Need-answer-requires-2 Inv-loop μ-loop

@@ -4,6 +4,7 @@ use native.Mathlib.Omega.{arith}
 use borrow.Author.Needs.{needs}
 use Rattle.cells.specs.Bytes.{Octets}
 use Rattle.search.proofs.Parity.{house-dear}
+use Rattle.page.proofs.Bounds.{value-most}
 use Rattle.page.proofs.Loops.{Judged, sized-by, in-order-answer, refused-answer, kept-by}
 use Rattle.page.proofs.writing.price.Statement.{statement}
 use Rattle.page.proofs.writing.price.Tie as tie
@@ -43,13 +44,13 @@ returns c =
     let j = n .before .before in
     let e = in-order-answer (judged j) (n .enum-told .given .1) (c .before .before .code-of .ensures) (c .before .house-weights .ensures)
     (c .price-strips .ensures) in
-    (e, kept-by _ _ _ _ _ (octets (j .before)) refl e)
+    (e, (kept-by _ _ _ _ _ (octets (j .before)) refl e, value-most _ _ _ _ _ (octets (j .before)) e))
 
 returns-2 : tie.Need-returns-2
 returns-2 c =
     let j = c .before .before .before in
     let e = refused-answer (judged j) (c .before .judged .given .1) in
-    (e, kept-by _ _ _ _ _ (octets (j .before)) refl e)
+    (e, (kept-by _ _ _ _ _ (octets (j .before)) refl e, value-most _ _ _ _ _ (octets (j .before)) e))
 
 pub price-spec : {M : Type 1} → statement M
 price-spec =

@@ -45,7 +45,7 @@ one-more c W P =
     let t = c .before .before .before .before .before in
     let s = t .before .before .before .before .before .before in
     reached-more (t .before .loop .inv W P) (t .loop-test .taken)
-    (turn-outcome (s .pre .0) (t .loop-test .taken) (c .before .before .before .strip .ensures)
+    (turn-outcome (s .pre .0) (t .loop-test .taken) (c .before .before .before .strip .ensures .0)
     (suits (s .args .code) W (P .three) (P .bytes)) (P .dear) (c .before .price-strip .ensures W P)) (c .add .ensures)
 
 rows-of-requires : tie.Need-rows-of-requires Inv-loop μ-loop
@@ -82,7 +82,7 @@ price-strip-requires c κs =
     let t = c .before .before .before in
     let n = t .before .before .before in
     let s = n .before .before .before in
-    turn-shaped (s .pre .0) (t .loop-test .taken) (c .before .strip .ensures) (n .rows-of .ensures)
+    turn-shaped (s .pre .0) (t .loop-test .taken) (c .before .strip .ensures .0) (n .rows-of .ensures)
 
 add-requires : tie.Need-add-requires Inv-loop μ-loop
 add-requires c κs = search needs

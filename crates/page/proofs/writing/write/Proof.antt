@@ -3,6 +3,7 @@ use native.Mathlib.Omega.{arith}
 use borrow.Author.Needs.{needs}
 use Rattle.cells.specs.Bytes.{Octets}
 use Rattle.search.proofs.Parity.{house-dear}
+use Rattle.page.proofs.Bounds.{value-most}
 use Rattle.page.proofs.Loops.{Judged, sized-by, in-order-answer, in-order-page, refused-answer, refused-page, kept-by}
 use Rattle.page.proofs.writing.write.Statement.{statement}
 use Rattle.page.proofs.writing.write.Tie as tie
@@ -47,14 +48,14 @@ returns c =
     let h = w .before .before .house-weights .ensures in
     let e = in-order-answer (judged j) (n .enum-told .given .1) g h (w .write-strips .ensures .0) in
     let p = in-order-page (judged j) (n .enum-told .given .1) g h (w .write-strips .ensures .1) in
-    (e, (p, kept-by _ _ _ _ _ (octets (j .before)) p e))
+    (e, (p, (kept-by _ _ _ _ _ (octets (j .before)) p e, value-most _ _ _ _ _ (octets (j .before)) e)))
 
 returns-2 : tie.Need-returns-2
 returns-2 c =
     let j = c .before .before .before in
     let e = refused-answer (judged j) (c .before .judged .given .1) in
     let p = refused-page (judged j) (c .before .judged .given .1) in
-    (e, (p, kept-by _ _ _ _ _ (octets (j .before)) p e))
+    (e, (p, (kept-by _ _ _ _ _ (octets (j .before)) p e, value-most _ _ _ _ _ (octets (j .before)) e)))
 
 pub write-spec : {M : Type 1} → statement M
 write-spec =

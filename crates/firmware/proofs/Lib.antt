@@ -1,0 +1,2 @@
+-- The law of an answer's one number.
+pub mod Words
