@@ -49,12 +49,14 @@ digits8 : (x : ℕ) → ones (x % 8) ≡ x % 2 + (x / 2) % 2 + (x / 4) % 2
 digits8 x = ones3 (x % 8) (omega arith) ∙ sum3 (omega arith) (omega arith) (omega arith)
 
 -- the ones of three digits of two bytes, from place k mod 8 of the first, are the three bits from bit k on
-pub three-bits : (s : List ℕ) (k : ℕ) → getD s (k / 8) 0 < 256 → getD s (k / 8 + 1) 0 < 256
-    → ones (((getD s (k / 8) 0 + getD s (k / 8 + 1) 0 * 256) / 2 ^ (k % 8)) % 8) ≡ bitOf s k + bitOf s (k + 1) + bitOf s (k + 2)
-three-bits s k l h =
+pub three-bits : (s : List ℕ) (k : ℕ) {a b : ℕ} → (a ≡ getD s (k / 8) 0) × (a < 256) → (b ≡ getD s (k / 8 + 1) 0) × (b < 256)
+    → ones (((a + b * 256) / 2 ^ (k % 8)) % 8) ≡ bitOf s k + bitOf s (k + 1) + bitOf s (k + 2)
+three-bits s k p q =
     let w = getD s (k / 8) 0 + getD s (k / 8 + 1) 0 * 256 in
+    let l = rw (p .0) at (p .1) in
+    let h = rw (q .0) at (q .1) in
     let r : k % 8 < 8 = mod-lt k (zero-lt-suc 7) in
-    digits8 (w / 2 ^ (k % 8))
+    rw (p .0, q .0) (digits8 (w / 2 ^ (k % 8))
     ∙ sum3 (word-bit s (k / 8) l h (k % 8) (omega arith) ∙ ap (bitOf s) (omega arith))
     (ap (λ (x : ℕ). x % 2) (shr-shr w (k % 8) 1) ∙ word-bit s (k / 8) l h (k % 8 + 1) (omega arith) ∙ ap (bitOf s) (omega arith))
-    (ap (λ (x : ℕ). x % 2) (shr-shr w (k % 8) 2) ∙ word-bit s (k / 8) l h (k % 8 + 2) (omega arith) ∙ ap (bitOf s) (omega arith))
+    (ap (λ (x : ℕ). x % 2) (shr-shr w (k % 8) 2) ∙ word-bit s (k / 8) l h (k % 8 + 2) (omega arith) ∙ ap (bitOf s) (omega arith)))

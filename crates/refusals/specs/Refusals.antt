@@ -1,9 +1,10 @@
 -- When a call is refused, and by which number.
---   oneTo64                     the limits of L and of S
+--   oneTo64, isCode             the limits of L and of S; the codes' numbers
 --   first-of                    of two grounds, the one that is tested first
 --   limitsGround, sizesGround   the grounds of L and S; of the code, L and S
 --   shapeGround, ground         the grounds of erase and census; of read, price and write
---   eraseGround                 from the state: an erase outside 50 to 400
+--   tooCold, tooWarm            an erase outside 50 to 400
+--   eraseGround                 from the state: such an erase
 --   refusalNumber               the paper's number of a refusal
 --   textNumber                  the number of the refusal that no call has
 --   completionOf                done, or the refusal; completionNumber, the paper's number of it
@@ -24,6 +25,10 @@ use Rattle.refusals.specs.declared.Completion.the-variants as C
 unfoldable pub oneTo64 : ℕ → Bool
 oneTo64 n = leb 1 n && leb n 64
 
+-- a code is 3 or 7
+unfoldable pub isCode : ℕ → Bool
+isCode n = eqb n 3 || eqb n 7
+
 -- 'Tested in this order': the first ground that applies
 abbrev pub first-of : Option Refusal → Option Refusal → Option Refusal
 first-of (some r) later = some r
@@ -31,7 +36,7 @@ first-of none later = later
 
 -- '1: the code is neither 3 nor 7'
 unfoldable pub codeGround : ℕ → Option Refusal
-codeGround code = cond (eqb code 3 || eqb code 7) none (some CodeUnknown)
+codeGround code = cond (isCode code) none (some CodeUnknown)
 
 -- '2: L is not from 1 to 64'
 unfoldable pub bytesGround : ℕ → Option Refusal
@@ -65,9 +70,16 @@ shapeGround L S page = first-of (limitsGround L S) (pageGround oneBit L S page)
 unfoldable pub ground : ℕ → ℕ → ℕ → ℕ → ℕ → Option Refusal
 ground code L S page content = first-of (sizesGround code L S) (first-of (pageGround oneBit L S page) (dataGround L S content))
 
+-- 'From 50 to 400, both included', in tenths of a degree Celsius
+unfoldable pub tooCold : ℤ → Bool
+tooCold tenths = ltZ tenths (pos 50)
+
+unfoldable pub tooWarm : ℤ → Bool
+tooWarm tenths = ltZ (pos 400) tenths
+
 -- '8: an erase outside 50 to 400', 'tested after those of the input'
 unfoldable pub eraseGround : ℤ → Option Refusal
-eraseGround tenths = cond (ltZ tenths (pos 50) || ltZ (pos 400) tenths) (some EraseTemperature) none
+eraseGround tenths = cond (tooCold tenths || tooWarm tenths) (some EraseTemperature) none
 
 -- the paper's number of each refusal
 abbrev pub refusalNumber : Refusal → ℕ

@@ -4,7 +4,7 @@ ghost use mathlib.Core.Path.{_≡_};
 ghost use mathlib.Core.Option.{none};
 ghost use Rattle.codes.specs.Layouts.{oneBit};
 ghost use Rattle.codes.specs.Codes.{generatorsOf};
-ghost use Rattle.refusals.specs.Refusals.{oneTo64, limitsGround, sizesGround, pageGround, dataGround, shapeGround, ground, eraseGround, first-of, numbered, refusalNumber, completionOf, completionNumber};
+ghost use Rattle.refusals.specs.Refusals.{oneTo64, isCode, tooCold, tooWarm, limitsGround, sizesGround, pageGround, dataGround, shapeGround, ground, eraseGround, first-of, numbered, refusalNumber, completionOf, completionNumber};
 
 // Why a call is refused, in the order of the tests; the paper's numbers are 1 to 5 and 8.
 pub enum Refusal {
@@ -45,14 +45,22 @@ fn judge_limits(bytes: u32, strips: u32) -> Completion
     Completion::Done
 }
 
+// Whether n is the number of a code.
+fn is_code(n: u32) -> bool
+    ensures { λ r. ⌜ r ≡ isCode n ⌝ }
+{
+    if n == 3 {
+        return true;
+    }
+    n == 7
+}
+
 // Judges the code, then L and S.
 pub fn judge_sizes(code: u32, bytes: u32, strips: u32) -> Completion
     ensures { λ r. ⌜ r ≡ completionOf (sizesGround code bytes strips) ⌝ }
 {
-    if code != 3 {
-        if code != 7 {
-            return Completion::Refused(Refusal::CodeUnknown);
-        }
+    if !is_code(code) {
+        return Completion::Refused(Refusal::CodeUnknown);
     }
     judge_limits(bytes, strips)
 }
@@ -116,7 +124,21 @@ pub fn code_of(code: u32) -> Code
     }
 }
 
-// Judges the shape, then the temperature in tenths of a degree Celsius.
+// Whether it is too cold for an erase, in tenths of a degree Celsius.
+fn too_cold(tenths: i16) -> bool
+    ensures { λ r. ⌜ r ≡ tooCold tenths ⌝ }
+{
+    tenths < 50
+}
+
+// And too warm.
+fn too_warm(tenths: i16) -> bool
+    ensures { λ r. ⌜ r ≡ tooWarm tenths ⌝ }
+{
+    tenths > 400
+}
+
+// Judges the shape, then the temperature.
 pub fn judge_erase(bytes: u32, strips: u32, page: usize, tenths: i16) -> Completion
     ensures { λ r. ⌜ r ≡ completionOf (first-of (shapeGround bytes strips page) (eraseGround tenths)) ⌝ }
 {
@@ -124,10 +146,10 @@ pub fn judge_erase(bytes: u32, strips: u32, page: usize, tenths: i16) -> Complet
     let Completion::Done = judged else {
         return judged;
     };
-    if tenths < 50 {
+    if too_cold(tenths) {
         return Completion::Refused(Refusal::EraseTemperature);
     }
-    if tenths > 400 {
+    if too_warm(tenths) {
         return Completion::Refused(Refusal::EraseTemperature);
     }
     Completion::Done

@@ -9,7 +9,7 @@ use Rattle.cells.proofs.Places.{each-first, each-rest}
 use Rattle.cells.specs.Bytes.{bitOf}
 use Rattle.cells.specs.Levels.{level, raisesOf}
 use Rattle.codes.specs.Layouts.{stageCount, cellCount, byteCount}
-use Rattle.refusals.specs.Refusals.{oneTo64, codeGround, bytesGround, stripsGround, limitsGround, sizesGround}
+use Rattle.refusals.specs.Refusals.{oneTo64, isCode, codeGround, bytesGround, stripsGround, limitsGround, sizesGround}
 use Rattle.page.specs.declared.Answer.the-variants as A
 use Rattle.page.proofs.Known.{cases-hold}
 use Rattle.text.specs.declared.Values.{Values}
@@ -61,7 +61,7 @@ rows one two = headText ++ (writeRow 1 v (six 0) (128 ∷ []) ++ (writeRow 2 v o
 
 listed : runOf exampleInput ≡ rows (valuesPage v (six 0) (128 ∷ [])) (valuesPage v (valuesPage v (six 0) (128 ∷ [])) (0 ∷ []))
 unfolding exampleInput runOf linesOf linesFrom runFrom lineTurn namesTurn valuesTurn dataTurn writeTurn sameList valuesOf checked
-    scanOf stepOf fiveDigits valuesText decimal onto sizesGround limitsGround codeGround bytesGround stripsGround oneTo64 sizeOf
+    scanOf stepOf fiveDigits valuesText decimal onto sizesGround limitsGround isCode codeGround bytesGround stripsGround oneTo64 sizeOf
     isData allHex isHex pairs nibble six v rows byteCount cellCount stageCount
 listed = refl
 
@@ -70,7 +70,7 @@ row : ℕ → ℕ → ℕ → List ℕ
 row n cost last = rowAfter n v (A.Done cost) (six last)
 
 printed : headText ++ (row 1 16 32 ++ (row 2 16 36 ++ (row 3 20 100 ++ []))) ≡ exampleOutput
-unfolding rowAfter rowText decimal onto raisesOf sumOf level bitOf sizeOf sizesGround limitsGround codeGround bytesGround
+unfolding rowAfter rowText decimal onto raisesOf sumOf level bitOf sizeOf sizesGround limitsGround isCode codeGround bytesGround
     stripsGround oneTo64 headText exampleOutput six v row cellCount stageCount
 printed = refl
 
@@ -88,6 +88,6 @@ pub faults-hold : (runOf [] ≡ faultText 6 1)
     × (runOf (namesText ++ 10 ∷ 51 ∷ 32 ∷ 49 ∷ 32 ∷ 49 ∷ 10 ∷ 100 ∷ 97 ∷ 116 ∷ 97 ∷ []) ≡ faultText 6 3)
     × (runOf (namesText ++ 10 ∷ 51 ∷ 32 ∷ 49 ∷ 32 ∷ 49 ∷ 10 ∷ 100 ∷ 97 ∷ 116 ∷ 97 ∷ 10 ∷ 56 ∷ 65 ∷ 10 ∷ []) ≡ headText ++ faultText 6 4)
 unfolding runOf linesOf linesFrom runFrom lineTurn namesTurn valuesTurn dataTurn writeTurn sameList valuesOf checked scanOf stepOf
-    fiveDigits valuesText decimal onto sizesGround limitsGround codeGround bytesGround stripsGround oneTo64 sizeOf isData allHex
+    fiveDigits valuesText decimal onto sizesGround limitsGround isCode codeGround bytesGround stripsGround oneTo64 sizeOf isData allHex
     isHex pairs nibble faultText faultHead
 faults-hold = (refl, refl, refl, refl, refl)

@@ -102,6 +102,11 @@ answers-0-or-7 p text b t =
     (zero-or-seven (pageWrite (jobOf house (v .code) (v .bytes) (v .strips) (p .page) (pairs text)))
     (spentStrip (jobOf house (v .code) (v .bytes) (v .strips) (p .page) (pairs text))))
 
+-- data that are kept are kept whatever a test says
+pub kept-either : (t : Bool) {after decoded before : List ℕ} → after ≡ decoded → decoded ≡ before → after ≡ cond t decoded before
+kept-either true e f = e
+kept-either false e f = e ∙ f
+
 -- the text of values has at most 17 bytes
 short-values : (v : Values) → v .code < 100000 → v .bytes < 100000 → v .strips < 100000 → length (valuesText v) ≤ 17
 unfolding valuesText

@@ -73,6 +73,7 @@ pub fn values_turn(v: Values, line: &[u8], buffer: &mut [u8]) -> Turn
     };
     let judged = refusals::judge_sizes(w.code, w.bytes, w.strips);
     match judged {
+        Completion::Refused(r) => stop(v, refusals::refusal_number(r) as u64, 2, buffer),
         Completion::Done => Turn {
             run: Run {
                 values: w,
@@ -82,7 +83,6 @@ pub fn values_turn(v: Values, line: &[u8], buffer: &mut [u8]) -> Turn
             },
             at: 96,
         },
-        Completion::Refused(r) => stop(v, refusals::refusal_number(r) as u64, 2, buffer),
     }
 }
 

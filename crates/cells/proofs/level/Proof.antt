@@ -45,10 +45,10 @@ returns c =
     let s = c .before .before .before .args .bytes .now in
     let k = 3 * c .before .before .before .args .cell in
     let t = (c .before .byte .result + c .byte2 .result * 256) / 2 ^ (k % 8) in
-    let p = c .before .byte .ensures in
-    let q = c .byte2 .ensures in
-    let e = three-bits s k (rw (p .0) at (p .1)) (rw (q .0) at (q .1)) in
-    (rw (and-mask t 3, p .0, q .0) e, rw (and-mask t 3) (ones-le 3 (t % 8) (mod-lt t (zero-lt-suc 7))))
+    (
+      rw (and-mask t 3) (three-bits s k (c .before .byte .ensures) (c .byte2 .ensures)),
+      rw (and-mask t 3) (ones-le 3 (t % 8) (mod-lt t (zero-lt-suc 7))),
+    )
 
 pub level-spec : {M : Type 1} → statement M
 level-spec = tie.close (tie.spec mul-k byte-requires add-byte byte-requires-2 mul-x add-x cast-result shr-result cast-result-2 returns)

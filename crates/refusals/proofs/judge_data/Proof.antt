@@ -1,4 +1,5 @@
 -- The test is that of the ground; L·S fits, as L and S are within their limits.
+use Prim.Native.Nat.{_*_}
 use native.Mathlib.Omega.{arith}
 use native.Mathlib.Nat.{mul-le-mul}
 use borrow.Author.Tests.{eq-eqb, ne-eqb}
@@ -15,7 +16,9 @@ mul-if1 c =
 
 returns : tie.Need-returns
 unfolding dataGround
-returns c = simp (ne-eqb _ _ (c .if1 .taken))
+returns c =
+    let a = c .before .args in
+    simp (ne-eqb (a .«data») (a .bytes * a .strips) (λ e. let z : ⊥ = omega arith in z))
 
 returns-2 : tie.Need-returns-2
 unfolding dataGround

@@ -4,10 +4,8 @@ use mathlib.Core.Bool.{false}
 use mathlib.Core.Option.{none}
 use mir.Syntax.{w16}
 use mir.ValLaws.{toZ-ofZ}
-use lib.IntN.{pos}
-use lib.Signed.{ltZ}
 use borrow.Author.Needs.{needs}
-use Rattle.refusals.specs.Refusals.{shapeGround, eraseGround}
+use Rattle.refusals.specs.Refusals.{shapeGround, eraseGround, tooCold}
 use Rattle.refusals.proofs.Refusals.{done-none, refused-first}
 use Rattle.refusals.proofs.judge_erase.Statement.{statement}
 use Rattle.refusals.proofs.judge_erase.Tie as tie
@@ -17,10 +15,10 @@ shape-none : (c : tie.After-enum-told) → let a = c .before .before .before .ar
 shape-none c = done-none _ (sym (c .before .before .judge-shape .ensures) ∙ c .enum-told .given .1)
 
 -- past the next test it is not too cold
-not-cold : (c : tie.Else1) → ltZ (c .before .before .before .before .args .tenths) (pos 50) ≡ false
+not-cold : (c : tie.Else1) → tooCold (c .before .before .before .before .before .args .tenths) ≡ false
 not-cold c =
-    let s = c .before .before .before .before in
-    rw (toZ-ofZ w16 (s .args .tenths) (s .fits .tenths)) at (c .if1 .left)
+    let s = c .before .before .before .before .before in
+    sym (rw (toZ-ofZ w16 (s .args .tenths) (s .fits .tenths)) at (c .before .too-cold .ensures)) ∙ c .if1 .left
 
 judge-shape-requires : tie.Need-judge-shape-requires
 judge-shape-requires c κs = search needs
@@ -38,23 +36,43 @@ returns c =
     refused-first (shapeGround (a .bytes) (a .strips) (a .page)) (eraseGround (a .tenths)) (j .judge-shape .result)
     (j .judge-shape .ensures) (c .enum-told2 .given .1)
 
+too-cold-requires : tie.Need-too-cold-requires
+too-cold-requires c κs = search needs
+
 returns-2 : tie.Need-returns-2
 unfolding eraseGround
 returns-2 c =
-    let s = c .before .before .before .before in
-    simp (shape-none (c .before), rw (toZ-ofZ w16 (s .args .tenths) (s .fits .tenths)) at (c .if1 .taken))
+    let s = c .before .before .before .before .before in
+    let cold = rw (toZ-ofZ w16 (s .args .tenths) (s .fits .tenths)) at (c .before .too-cold .ensures) in
+    simp (shape-none (c .before .before), sym cold ∙ c .if1 .taken)
+
+too-warm-requires : tie.Need-too-warm-requires
+too-warm-requires c κs = search needs
 
 returns-3 : tie.Need-returns-3
 unfolding eraseGround
 returns-3 c =
-    let s = c .before .before .before .before .before in
-    simp (shape-none (c .before .before), not-cold (c .before), rw (toZ-ofZ w16 (s .args .tenths) (s .fits .tenths)) at (c .if2 .taken))
+    let s = c .before .before .before .before .before .before .before in
+    let warm = rw (toZ-ofZ w16 (s .args .tenths) (s .fits .tenths)) at (c .before .too-warm .ensures) in
+    simp (shape-none (c .before .before .before .before), not-cold (c .before .before), sym warm ∙ c .if2 .taken)
 
 returns-4 : tie.Need-returns-4
 unfolding eraseGround
 returns-4 c =
-    let s = c .before .before .before .before .before in
-    simp (shape-none (c .before .before), not-cold (c .before), rw (toZ-ofZ w16 (s .args .tenths) (s .fits .tenths)) at (c .if2 .left))
+    let s = c .before .before .before .before .before .before .before in
+    let warm = rw (toZ-ofZ w16 (s .args .tenths) (s .fits .tenths)) at (c .before .too-warm .ensures) in
+    simp (shape-none (c .before .before .before .before), not-cold (c .before .before), sym warm ∙ c .if2 .left)
 
 pub judge-erase-spec : {M : Type 1} → statement M
-judge-erase-spec = tie.close (tie.spec judge-shape-requires enum-told enum-told-2 returns returns-2 returns-3 returns-4)
+judge-erase-spec =
+    tie.close
+    (tie.spec
+    judge-shape-requires
+    enum-told
+    enum-told-2
+    returns
+    too-cold-requires
+    returns-2
+    too-warm-requires
+    returns-3
+    returns-4)

@@ -21,7 +21,9 @@ mul-if1-2 c =
 
 returns : tie.Need-returns
 unfolding pageGround
-returns c = simp (oneBit-bytes (c .before .args .bytes), ne-eqb _ _ (c .if1 .taken))
+returns c =
+    let a = c .before .args in
+    simp (oneBit-bytes (a .bytes), ne-eqb (a .page) (6 * a .bytes * a .strips) (λ e. let z : ⊥ = omega arith in z))
 
 returns-2 : tie.Need-returns-2
 unfolding pageGround

@@ -34,9 +34,6 @@ returns c =
 judge-sizes-requires : tie.Need-judge-sizes-requires
 judge-sizes-requires c κs = search needs
 
-enum-told-2 : tie.Need-enum-told-2
-enum-told-2 c = search needs
-
 enum-known-judged : tie.Need-enum-known-judged
 enum-known-judged c = search needs
 
@@ -49,22 +46,14 @@ cast-stop c = search needs
 stop-requires : tie.Need-stop-requires
 stop-requires c κs = search needs
 
-returns-2 : tie.Need-returns-2
-returns-2 c =
-    let j = c .before .before in
-    let f = j .before .before in
-    let a = f .before .before .before .before .before .args in
-    let e =
-    values-given (atLine 2 (a .v) []) (a .line .now) (f .before .before .values-of .ensures) (f .form .given .1) (j .judge-sizes .ensures)
-    (c .enum-told2 .given .1) in
-    rw e
-    (record { text-is = nothing-put (a .buffer .now) (omega arith); run-is = refl })
+enum-told-2 : tie.Need-enum-told-2
+enum-told-2 c = search needs
 
 same-length-2 : tie.Need-same-length-2
 same-length-2 c = search needs
 
-returns-3 : tie.Need-returns-3
-returns-3 c =
+returns-2 : tie.Need-returns-2
+returns-2 c =
     let k = c .before .before .before .before .before .before in
     let j = k .before .before in
     let f = j .before .before in
@@ -73,6 +62,17 @@ returns-3 c =
     values-refused (atLine 2 (a .v) []) (a .line .now) (f .before .before .values-of .ensures) (f .form .given .1) (j .judge-sizes .ensures)
     (k .judged .given .1) in
     rw (e, ← c .before .before .before .before .refusal-number .ensures) (c .before .before .stop .ensures)
+
+returns-3 : tie.Need-returns-3
+returns-3 c =
+    let j = c .before .before in
+    let f = j .before .before in
+    let a = f .before .before .before .before .before .args in
+    let e =
+    values-given (atLine 2 (a .v) []) (a .line .now) (f .before .before .values-of .ensures) (f .form .given .1) (j .judge-sizes .ensures)
+    (c .enum-told2 .given .1) in
+    rw e
+    (record { text-is = nothing-put (a .buffer .now) (omega arith); run-is = refl })
 
 pub values-turn-spec : {M : Type 1} → statement M
 values-turn-spec =
@@ -85,11 +85,11 @@ values-turn-spec =
     same-length
     returns
     judge-sizes-requires
-    enum-told-2
     enum-known-judged
     refusal-number-requires
     cast-stop
     stop-requires
-    returns-2
+    enum-told-2
     same-length-2
+    returns-2
     returns-3)

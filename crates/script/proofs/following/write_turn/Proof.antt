@@ -1,9 +1,13 @@
 -- The line is past the last one, not in form, or a write.
 use mathlib.Core.Path.{refl, sym, _∙_}
+use mathlib.Core.Bool.{and-false}
+use Prim.Native.Nat.{_<_}
+use native.Mathlib.Omega.{arith}
 use borrow.Author.Needs.{needs}
 use borrow.Author.Tests.{not-true, not-false, le-leb, lt-leb}
-use Rattle.text.proofs.Hex.{data-decoded}
+use Rattle.text.proofs.Hex.{data-kept, data-decoded}
 use Rattle.script.specs.Turns.{writeTurn}
+use Rattle.script.proofs.Turns.{kept-either}
 use Rattle.script.proofs.following.write_turn.Statement.{statement}
 use Rattle.script.proofs.following.write_turn.Tie as tie
 
@@ -16,8 +20,9 @@ same-length c = search needs
 returns : tie.Need-returns
 unfolding writeTurn
 returns c =
-    rw (lt-leb _ 1003 (c .before .before .before .before .if1 .taken))
-    (record { told = c .before .before .stop-form .ensures; page-is = refl }, refl)
+    let i = c .before .before .before .before in
+    let h : 1003 < i .before .before .before .before .before .args .number = omega arith in
+    rw (lt-leb _ 1003 h) (record { told = c .before .before .stop-form .ensures; page-is = refl }, refl)
 
 decode-requires : tie.Need-decode-requires
 decode-requires c κs = search needs
@@ -35,9 +40,11 @@ returns-2 : tie.Need-returns-2
 unfolding writeTurn
 returns-2 c =
     let i = c .before .before .before .before in
-    let e = sym (i .before .before .before .decode .ensures .0) ∙ not-true _ (i .if2 .taken) in
-    let l = le-leb _ 1003 (i .before .before .before .before .before .if1 .left) in
-    (rw (l, e) (record { told = c .before .before .stop-form2 .ensures; page-is = refl }), rw l (i .before .before .before .decode .ensures .1))
+    let d = i .before .before .before .decode .ensures in
+    let e = sym (d .0) ∙ not-true _ (i .if2 .taken) in (
+      rw (e, and-false) (record { told = c .before .before .stop-form2 .ensures; page-is = refl }),
+      kept-either _ (d .1) (sym (data-kept _ _ e .1)),
+    )
 
 sub-write-row : tie.Need-sub-write-row
 sub-write-row c = search needs

@@ -16,7 +16,9 @@ returns-2 c = simp (le-leb 48 _ (c .before .if1 .left), lt-ltb _ 58 (c .if2 .tak
 
 returns-3 : tie.Need-returns-3
 unfolding isHex
-returns-3 c = simp (le-ltb _ 58 (c .before .if2 .left), lt-leb 97 _ (c .if3 .taken), le-leb 48 _ (c .before .before .if1 .left))
+returns-3 c =
+    let h : c .before .before .before .args .c < 97 = omega arith in
+    simp (le-ltb _ 58 (c .before .if2 .left), lt-leb 97 _ h, le-leb 48 _ (c .before .before .if1 .left))
 
 returns-4 : tie.Need-returns-4
 unfolding isHex
