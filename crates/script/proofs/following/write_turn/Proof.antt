@@ -3,6 +3,7 @@ use mathlib.Core.Path.{refl, sym, _∙_}
 use mathlib.Core.Bool.{and-false}
 use Prim.Native.Nat.{_<_}
 use native.Mathlib.Omega.{arith}
+use lib.Dec.{leb}
 use borrow.Author.Needs.{needs}
 use borrow.Author.Tests.{not-true, not-false, le-leb, lt-leb}
 use Rattle.text.proofs.Hex.{data-kept, data-decoded}
@@ -40,10 +41,11 @@ returns-2 : tie.Need-returns-2
 unfolding writeTurn
 returns-2 c =
     let i = c .before .before .before .before in
+    let s = i .before .before .before .before .before .before .before .before .before .before in
     let d = i .before .before .before .decode .ensures in
     let e = sym (d .0) ∙ not-true _ (i .if2 .taken) in (
       rw (e, and-false) (record { told = c .before .before .stop-form2 .ensures; page-is = refl }),
-      kept-either _ (d .1) (sym (data-kept _ _ e .1)),
+      kept-either (leb (s .args .number) 1003) (d .1) (sym (data-kept _ _ e .1)),
     )
 
 sub-write-row : tie.Need-sub-write-row
