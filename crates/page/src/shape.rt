@@ -8,7 +8,8 @@ struct Place {
     end: usize,
 }
 
-// Where strip k stands in a page of this many bytes: from 0 to 0 where L is not from 1 to 64 or the strip lies beyond the page's end.
+// Where strip k stands in a page of this many bytes: nowhere, from a place to the same, where L is not from 1 to 64 or the strip lies beyond
+// the page's end.
 fn find(size: usize, bytes: usize, k: usize) -> Place
     ensures { λ r. ⌜ Found bytes k size r ⌝ }
 {
@@ -21,7 +22,10 @@ fn find(size: usize, bytes: usize, k: usize) -> Place
     let n = codes::STRIP_BYTES * bytes;
     let whole = size / n;
     if k >= whole {
-        return Place { start: 0, end: 0 };
+        return Place {
+            start: size,
+            end: size,
+        };
     }
     let a = n * k;
     Place {

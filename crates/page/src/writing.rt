@@ -40,13 +40,13 @@ fn price_strips(
     let mut k: usize = 0;
     while k < strips {
         let a = bytes * k;
-        let outcome = price_strip(
+        let price = price_strip(
             code,
             &rows,
             shape::strip(page, bytes, k),
             &data[a..a + bytes],
         );
-        total = total.add(outcome);
+        total = total.add(price);
         if total.spent {
             return total.answer();
         }

@@ -44,8 +44,7 @@ unfolding level
 returns c =
     let s = c .before .before .before .args .bytes .now in
     let k = 3 * c .before .before .before .args .cell in
-    let t = (c .before .byte .result + c .byte2 .result * 256) / 2 ^ (k % 8) in
-    (
+    let t = (c .before .byte .result + c .byte2 .result * 256) / 2 ^ (k % 8) in (
       rw (and-mask t 3) (three-bits s k (c .before .byte .ensures) (c .byte2 .ensures)),
       rw (and-mask t 3) (ones-le 3 (t % 8) (mod-lt t (zero-lt-suc 7))),
     )

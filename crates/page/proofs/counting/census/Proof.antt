@@ -24,7 +24,7 @@ abbrev Inv-loop : tie.InvT-loop
 Inv-loop bytes strips page rows₀ judged k₀ rows k = (k ≤ strips) × (rows ≡ listOf 64 (rowAt oneBit bytes k page))
 
 abbrev μ-loop : tie.MeasureT-loop
-μ-loop bytes strips page rows₀ judged k₀ rows k = strips - k
+μ-loop bytes strips page rows₀ judged k₀ rows k = 64 - k
 
 -- past the match the shape is in order
 shape-none : (c : tie.After-enum-told Inv-loop μ-loop)
@@ -78,7 +78,7 @@ add-k : tie.Need-add-k Inv-loop μ-loop
 add-k c = omega (arith, small (c .before .before .before .before))
 
 loop-less : tie.Need-loop-less Inv-loop μ-loop
-loop-less c = search needs
+loop-less c = omega (arith, small (c .before .before .before .before))
 
 loop-again : tie.Need-loop-again Inv-loop μ-loop
 loop-again c =

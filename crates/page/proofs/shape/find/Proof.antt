@@ -2,7 +2,7 @@
 use mathlib.Core.Path.{_≡_, refl, sym, _∙_}
 use mathlib.Core.Bool.{true, false, false≢true}
 use mathlib.Core.List.{List}
-use Prim.Native.Nat.{ℕ, _+_, _*_, _≤_}
+use Prim.Native.Nat.{ℕ, _+_, _*_, _-_, _≤_}
 use native.Mathlib.Omega.{arith}
 use native.Mathlib.Nat.{add-sub-cancel-left}
 use lib.ListN.{length}
@@ -16,12 +16,13 @@ use Rattle.page.proofs.Strips.{part-ends, outside, beyond, strip-none, 
 use Rattle.page.proofs.shape.find.Statement.{statement}
 use Rattle.page.proofs.shape.find.Tie as tie
 
--- where the strip does not lie in the page, the place is empty
-empty : (L k size : ℕ) → ((page : List ℕ) → length page ≡ size → inPage L k page ≡ false) → Found L k size (record { start = 0; end = 0 })
-empty L k size e = record {
+-- where the strip does not lie in the page, the place is empty, wherever it is
+empty : (L k size at : ℕ) → at ≤ size → ((page : List ℕ) → length page ≡ size → inPage L k page ≡ false)
+    → Found L k size (record { start = at; end = at })
+empty L k size at h e = record {
   order = omega arith;
-  inside = omega arith;
-  is-strip = λ page l. sym (strip-none L k page (e page l));
+  inside = h;
+  is-strip = λ page l. let z : at - at ≡ 0 = omega arith in rw z (sym (strip-none L k page (e page l)));
   starts = λ page l i. absurd (false≢true (sym (e page l) ∙ i));
 }
 
@@ -34,10 +35,10 @@ fit : (c : tie.Else3) → let a = c .before .before .before .args in 6 * a .byte
 fit c = part-ends _ _ _ (c .if3 .left)
 
 returns : tie.Need-returns
-returns c = empty _ _ _ (λ page e. outside _ _ page (limits-below _ (c .if1 .taken)))
+returns c = empty _ _ _ 0 (omega arith) (λ page e. outside _ _ page (limits-below _ (c .if1 .taken)))
 
 returns-2 : tie.Need-returns-2
-returns-2 c = empty _ _ _ (λ page e. outside _ _ page (limits-above _ (c .if2 .taken)))
+returns-2 c = empty _ _ _ 0 (omega arith) (λ page e. outside _ _ page (limits-above _ (c .if2 .taken)))
 
 mul-n : tie.Need-mul-n
 mul-n c = search needs
@@ -46,7 +47,7 @@ div-whole : tie.Need-div-whole
 div-whole c = search needs
 
 returns-3 : tie.Need-returns-3
-returns-3 c = empty _ _ _
+returns-3 c = empty _ _ _ _ (omega arith)
     (λ page e. beyond _ _ page (bytes-in (c .before)) (rw (e, oneBit-bytes (c .before .before .before .args .bytes)) (c .if3 .taken)))
 
 mul-a : tie.Need-mul-a

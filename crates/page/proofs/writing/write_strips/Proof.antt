@@ -1,6 +1,7 @@
 -- The plans answer for the page. Where they are done, carrying them out leaves the page of the write; else nothing is touched.
 use mathlib.Core.Path.{_≡_, _∙_}
 use mathlib.Core.List.{List, _++_}
+use mathlib.Core.Option.{none}
 use Prim.Native.Nat.{ℕ, _*_, _-_}
 use native.Mathlib.Omega.{arith}
 use lib.ListN.{length, drop, replicate}
@@ -8,6 +9,7 @@ use mir.Syntax.{w8}
 use borrow.Author.Needs.{needs, elem-fits}
 use Rattle.codes.specs.Codes.{generatorsOf}
 use Rattle.trellis.proofs.Ways.{Suits, suits}
+use Rattle.page.specs.Answers.{plainJob, jobAnswer, jobPage}
 use Rattle.page.proofs.Loops.{whole-most, front-length, front-fits, front-back, done-page, spent-page, not-refused}
 use Rattle.page.proofs.writing.write_strips.Statement.{statement}
 use Rattle.page.proofs.writing.write_strips.Tie as tie
@@ -30,6 +32,17 @@ digits-length : (c : tie.After-plan-strips) → let a = c .before .before .befor
     ≡ a .bytes * a .strips
 digits-length c =
     c .plan-strips .kept .1 .1 .1 .1 .1 .1 .0 ∙ front-length _ _ (whole-most (c .before .before .before .before .before .pre .0))
+
+-- a spent page is as it was, and that is the page of the write
+spent-kept : (c : tie.After-enum-told3) →
+    let p = c .before .before .before in
+    let a = p .before .before .before .before .before .args in
+    let J = plainJob (generatorsOf (a .code)) (a .weights) (a .bytes) (a .strips) (a .page .now) (a .«data» .now) in
+    (p .plan-strips .result ≡ jobAnswer none J) × (a .page .now ≡ jobPage none J)
+spent-kept c =
+    let p = c .before .before .before in
+    let s = p .before .before .before .before .before in
+    (p .plan-strips .ensures .0, spent-page (suited s) (s .pre .1) (s .pre .0) (p .plan-strips .ensures .0) (c .enum-told3 .given .1))
 
 mul-whole : tie.Need-mul-whole
 mul-whole c = search needs
@@ -103,10 +116,7 @@ same-length-3 : tie.Need-same-length-3
 same-length-3 c = search needs
 
 returns-3 : tie.Need-returns-3
-returns-3 c =
-    let p = c .before .before .before in
-    let s = p .before .before .before .before .before in
-    (p .plan-strips .ensures .0, spent-page (suited s) (s .pre .1) (s .pre .0) (p .plan-strips .ensures .0) (c .enum-told3 .given .1))
+returns-3 c = spent-kept c
 
 pub write-strips-spec : {M : Type 1} → statement M
 write-strips-spec =
