@@ -113,6 +113,9 @@ int main(void)
             break;
         }
         stored++;
+        if (stored > 8 * sizeof page) {
+            return 1; /* each new image raises a bit, and a bit rises once */
+        }
     }
     if (stored == 0) {
         return 1; /* an erased page takes every image */

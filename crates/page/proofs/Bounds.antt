@@ -121,8 +121,8 @@ pub value-most : (code L S : ℕ) (before content : List ℕ) → Octets content
     → r ≡ answerOf house code L S before content → valueOf r ≤ largestCost
 value-most code L S before content b {r} e = go r (sym e) (rw (sym e) at (wrote house code L S before content b))
   where
-    go : (a : Answer) → answerOf house code L S before content ≡ a → Wrote house code L S before content (pageOf house code L S before content) a
-        → valueOf a ≤ largestCost
+    go : (a : Answer) → answerOf house code L S before content ≡ a
+        → Wrote house code L S before content (pageOf house code L S before content) a → valueOf a ≤ largestCost
     go (A.Done cost) f p = house-largest code L S before content b cost f
     go (A.Spent k) f (spent g p h) = omega (arith, p .inside, one-to-64 S (in-order code L S (length before) (length content) g .1) .1)
     go (A.Refused r) f p = omega arith

@@ -120,7 +120,8 @@ passes c (done cost after) =
 passes c (also cost other) =
     let n = cellCount oneBit (c .L) * c .S in
     eqb (length other) (length (c .page)) && (sameList (readPage (numbered (c .code)) (c .L) (c .S) other) (c .content) &&
-    (sameList (listOf n (λ i. level (c .page) i - level other i)) (listOf n (λ i. 0)) && eqb (costOf (weightOf house) n (c .page) other) cost))
+    (sameList (listOf n (λ i. level (c .page) i - level other i)) (listOf n (λ i. 0)) &&
+    eqb (costOf (weightOf house) n (c .page) other) cost))
 passes c (spent k) =
     isSpent (answerTabled (c .code) (c .L) (c .S) (c .page) (c .content)) k && sameList
     (pageTabled (c .code) (c .L) (c .S) (c .page) (c .content)) (c .page)

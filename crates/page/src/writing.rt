@@ -13,6 +13,7 @@ ghost use mathlib.Core.Path.{_≡_};
 ghost use mathlib.Core.Option.{none};
 ghost use Prim.Native.Nat.{_*_, _≤_};
 ghost use lib.ListN.{length};
+ghost use Rattle.cells.specs.Places.{Free};
 ghost use Rattle.cells.specs.Climbs.{house};
 ghost use Rattle.codes.specs.Codes.{generatorsOf};
 ghost use Rattle.codes.specs.Layouts.{oneBit};
@@ -55,7 +56,7 @@ fn price_strips(
     total.answer()
 }
 
-// The same, with the digits of the cheapest way: a bit a stage, each strip's in its own part.
+// The same, with the digits of the cheapest way: a bit a stage, each strip's in its own part. Of a page that is spent they are free.
 fn plan_strips(
     code: Code,
     weights: [u8; 3],
@@ -70,6 +71,7 @@ fn plan_strips(
     requires { ⌜ length (now digits) ≡ bytes * strips ⌝ }
     ensures { λ r. ⌜ r ≡ jobAnswer none (plainJob (generatorsOf code) weights bytes strips (now (page .entry)) (now («data» .entry))) ⌝ }
     ensures { λ r. ⌜ Planned (generatorsOf code) weights bytes strips (now (page .entry)) (now («data» .entry)) (now (digits .exit)) ⌝ }
+    ensures { λ _. ⌜ Free (now (digits .entry)) (now (digits .exit)) ⌝ }
 {
     let rows = rows_of(weights);
     let mut total = Total::new();

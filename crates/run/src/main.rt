@@ -1,10 +1,11 @@
-// The run program: it reads standard input, hands the bytes on to `script`, and prints what that says, in this order and nothing else. Input
-// and output have no model in the kit: that this loop reads, hands on and prints so, and libc, are what must be believed.
+// The run program: it reads standard input, hands the bytes on to `script`, and prints what that says, in this order and nothing else.
+// Input and output have no model in the kit: that this loop reads and prints so, and libc, are what must be believed.
 use libc::STDIN_FILENO;
 use libc::STDOUT_FILENO;
 use script::Run;
 use script::running;
-ghost use Rattle.script.specs.Positions.{Leads, positionOf, Ready, Blank};
+ghost use Rattle.script.specs.Positions.{Leads};
+ghost use Rattle.script.specs.Buffers.{positionOf, Ready, Blank};
 
 // Hands the bytes of one read on, and prints what they lead to.
 fn hand_on(run: Run, bytes: &[u8], line: &mut [u8], page: &mut [u8], data: &mut [u8]) -> Run

@@ -33,7 +33,8 @@ begun-starts : (v : Values) → sizesGround (v .code) (v .bytes) (v .strips) ≡
 begun-starts v e = record { late = omega arith; judged = e; sized = length-replicate (byteCount oneBit (sizeOf v)) 0 }
 
 -- and a write keeps the page's size
-begun-goes : (p : Progress) (content : List ℕ) → Begun p → Begun (atLine (p .number + 1) (p .values) (valuesPage (p .values) (p .page) content))
+begun-goes : (p : Progress) (content : List ℕ) → Begun p
+    → Begun (atLine (p .number + 1) (p .values) (valuesPage (p .values) (p .page) content))
 begun-goes p content b =
     let v = p .values in
     record {
@@ -59,7 +60,8 @@ rows-from (some line ∷ rest) p k b e =
         let d = and-both (leb (p .number) 1003) (isData (sizeOf (p .values)) line) f in
         rw (lt-ltb 3 (p .number) (b .late), f, n)
         (row _ _ _ (answers-0-or-7 p line b (d .1))
-        (ih (atLine (p .number + 1) (p .values) (valuesPage (p .values) (p .page) (pairs line))) (begun-goes p (pairs line) b) (omega arith)))
+        (ih (atLine (p .number + 1) (p .values) (valuesPage (p .values) (p .page) (pairs line))) (begun-goes p (pairs line) b)
+        (omega arith)))
     by false f ih = rw (lt-ltb 3 (p .number) (b .late), f, append-nil, e) fault
 
 -- the text of a turn that halts is the last

@@ -12,7 +12,8 @@ ghost use lib.ListN.{length, take};
 ghost use Rattle.cells.specs.Places.{Free};
 ghost use Rattle.text.specs.Text.{Tail};
 ghost use Rattle.script.specs.Turns.{atLine, lineTurn, Told};
-ghost use Rattle.script.specs.Positions.{start, printsFrom, pageSize, Holds, positionOf, Ready, LineEnd, KeptPart, LineAsked, Stepped};
+ghost use Rattle.script.specs.Positions.{start, printsFrom};
+ghost use Rattle.script.specs.Buffers.{pageSize, Holds, positionOf, Ready, LineEnd, KeptPart, LineAsked, Stepped};
 
 // The bytes of a line so far, and how many bytes were looked at.
 struct Part {

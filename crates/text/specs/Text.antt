@@ -52,8 +52,8 @@ faultHead = 114 ∷ 101 ∷ 102 ∷ 117 ∷ 115 ∷ 97 ∷ 108 ∷ 32 ∷ 108 �
 unfoldable pub faultText : ℕ → ℕ → List ℕ
 faultText refusal line = faultHead ++ (decimal refusal ++ 32 ∷ (decimal line ++ 10 ∷ []))
 
--- the buffer has a text from `at` on, of which at most so many bytes are new: what stood from `end` on is the rest of it; the bytes in front
--- of it are as they were
+-- the buffer has a text from `at` on, of which at most so many bytes are new: what stood from `end` on is the rest of it; the bytes in
+-- front of it are as they were
 pub record Put (most : ℕ) (text : List ℕ) (end at : ℕ) (before buffer : List ℕ) : Type 0 where
   pub near : end ≤ at + most
   pub front : at ≤ end

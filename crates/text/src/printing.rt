@@ -56,7 +56,8 @@ pub fn put_row(buffer: &mut [u8], number: u64, answer: u64, cost: u64, levels: u
 // A text.
 fn put_text(buffer: &mut [u8], end: usize, text: &[u8]) -> usize
     requires { ⌜ (length (now text) ≤ end) × (end ≤ length (now buffer)) ⌝ }
-    ensures { λ r. ⌜ Put (length (now (text .entry))) (now (text .entry) ++ drop end (now (buffer .entry))) end r (now (buffer .entry)) (now (buffer .exit)) ⌝ }
+    ensures { λ r. ⌜ Put (length (now (text .entry))) (now (text .entry) ++ drop end (now (buffer .entry)))
+        end r (now (buffer .entry)) (now (buffer .exit)) ⌝ }
 {
     let mut i = text.len();
     let mut at = end;

@@ -89,8 +89,8 @@ pub fn price_strip(code: Code, rows: &[u32; 128], strip: &[u8], data: &[u8]) -> 
     outcome(costs[0] / 256)
 }
 
-// The same, with what the states keep of their ways, and the bits that the first cells show, eight stages a byte. What stands in the history
-// for a state without a cost, or beyond the code's states, is free.
+// The same, with what the states keep of their ways, and the bits that the first cells show, eight stages a byte. What stands in the
+// history for a state without a cost, or beyond the code's states, is free.
 pub fn decide(
     code: Code,
     rows: &[u32; 128],

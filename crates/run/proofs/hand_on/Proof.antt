@@ -6,7 +6,8 @@ use native.Mathlib.Omega.{arith}
 use lib.ListN.{length, take, drop, length-drop}
 use lib.Seq.{take-all, take-length}
 use borrow.Author.Needs.{needs}
-use Rattle.script.specs.Positions.{Leads, positionOf, Ready}
+use Rattle.script.specs.Positions.{Leads}
+use Rattle.script.specs.Buffers.{positionOf, Ready}
 use Rattle.script.proofs.Positions.{leads-none, leads-more}
 use Rattle.run.proofs.hand_on.Statement.{statement}
 use Rattle.run.proofs.hand_on.Tie as tie
@@ -73,7 +74,11 @@ write-all-requires : tie.Need-write-all-requires Inv-loop μ-loop
 write-all-requires c κs = search needs
 
 add-i : tie.Need-add-i Inv-loop μ-loop
-add-i c = let s = stepped c in let g = c .before .before .before .before .before .before .before .before .before .before .before .before .before .before .before .before .before .before .before .before .before .before .before .before .good .1 .0 .0 in omega arith
+add-i c =
+    let s = stepped c in
+    let t = c .before .before .before .before .before .before .before .before .before .before .before .before in
+    let g = t .before .before .before .before .before .before .before .before .before .before .before .before .good .1 .0 .0 in
+    omega arith
 
 loop-less : tie.Need-loop-less Inv-loop μ-loop
 loop-less c = let s = stepped c in omega arith
@@ -83,7 +88,8 @@ loop-again c =
     let s = stepped c in
     let t = c .before .before .before .before .before .before .before .before .before .before .before .before in
     let k = t .take-bytes in
-    (omega arith, t .before .before .before .before .before .before .before .loop .inv .1 ∙ sym (k .kept .1 .1 .1 .1 .1 .0), k .ensures .1, s .2)
+    let i = t .before .before .before .before .before .before .before .loop .inv in
+    (omega arith, i .1 ∙ sym (k .kept .1 .1 .1 .1 .1 .0), k .ensures .1, s .2)
 
 same-length : tie.Need-same-length Inv-loop μ-loop
 same-length c = c .before .loop .inv .2 .line-long ∙ sym (c .before .before .before .before .before .before .pre .line-long)

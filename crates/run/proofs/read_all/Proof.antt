@@ -2,8 +2,8 @@
 use mathlib.Core.Path.{_≡_, refl, _∙_}
 use lib.ListN.{length}
 use borrow.Author.Needs.{needs}
-use Rattle.script.specs.Positions.{Ready}
-use Rattle.script.proofs.Positions.{blank-ready}
+use Rattle.script.specs.Buffers.{Ready}
+use Rattle.script.proofs.Steps.{blank-ready}
 use Rattle.run.proofs.read_all.Statement.{statement}
 use Rattle.run.proofs.read_all.Tie as tie
 
@@ -71,7 +71,9 @@ slice-aggregate-hand-on : tie.Need-slice-aggregate-hand-on Inv-loop μ-loop
 slice-aggregate-hand-on c = search needs
 
 hand-on-requires : tie.Need-hand-on-requires Inv-loop μ-loop
-hand-on-requires c κs = c .before .before .before .before .before .before .before .before .before .before .before .before .before .before .loop .inv .3
+hand-on-requires c κs =
+    let n = c .before .before .before .before .before .before .before in
+    n .before .before .before .before .before .before .before .loop .inv .3
 
 sub-reads-left : tie.Need-sub-reads-left Inv-loop μ-loop
 sub-reads-left c = search needs
@@ -81,8 +83,9 @@ loop-less c = search needs
 
 loop-again : tie.Need-loop-again Inv-loop μ-loop
 loop-again c =
-    let h = c .before .before .before .before .before .before .hand-on in
-    let i = c .before .before .before .before .before .before .before .before .before .before .before .before .before .before .before .before .before .before .before .before .before .loop .inv in
+    let n = c .before .before .before .before .before .before in
+    let h = n .hand-on in
+    let i = n .before .before .before .before .before .before .before .before .before .before .before .before .before .before .before .loop .inv in
     (h .kept .1 .1 .0 ∙ i .0, h .kept .1 .1 .1 .0 ∙ i .1, h .kept .1 .1 .1 .1 .0 ∙ i .2, h .ensures .0)
 
 same-length-7 : tie.Need-same-length-7 Inv-loop μ-loop

@@ -132,7 +132,7 @@ returns c =
     let r = c .before .before .before .before .before .before .before .before .before .before .before .before .before in
     let g = one-more (c .before .before) _ (priced r) in
     let e = c .before .if1 .taken in
-    (reached-spent g e (c .answer .ensures), record { planned = λ a f. absurd (spent-none g e a f) })
+    (reached-spent g e (c .answer .ensures), (record { planned = λ a f. absurd (spent-none g e a f) }, record { long = same-length c }))
 
 add-k : tie.Need-add-k Inv-loop μ-loop
 add-k c = search needs
@@ -163,7 +163,10 @@ returns-2 c =
     let l = c .before .before .loop in
     let P = priced (c .before .before .before .before) in (
       reached-all (l .inv .1 _ P) (c .before .loop-test .left) (c .answer2 .ensures),
-      record { planned = λ a e j h. l .inv .2 _ P .so-far j (omega (arith, c .before .loop-test .left)) },
+      (
+        record { planned = λ a e j h. l .inv .2 _ P .so-far j (omega (arith, c .before .loop-test .left)) },
+        record { long = same-length-2 c },
+      ),
     )
 
 pub plan-strips-spec : {M : Type 1} → statement M

@@ -109,7 +109,7 @@ returns-2 c =
     let carried = rw (front-back _ (planned p) (behind p) (digits-length p)) at (c .before .before .carry-strips .ensures) in (
       e,
       done-page (suited s) (s .pre .1) (s .pre .0) e (c .before .before .before .before .before .before .enum-told2 .given .1)
-          (p .plan-strips .ensures .1) carried,
+          (p .plan-strips .ensures .1 .0) carried,
     )
 
 same-length-3 : tie.Need-same-length-3

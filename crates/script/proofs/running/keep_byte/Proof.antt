@@ -1,6 +1,6 @@
 -- There is room for the byte, or there is none.
 use borrow.Author.Needs.{needs}
-use Rattle.script.proofs.Positions.{kept-room, kept-full}
+use Rattle.script.proofs.Kept.{kept-room, kept-full}
 use Rattle.script.proofs.running.keep_byte.Statement.{statement}
 use Rattle.script.proofs.running.keep_byte.Tie as tie
 

@@ -6,8 +6,8 @@ use native.Mathlib.Omega.{arith}
 use lib.ListN.{length, take, getD}
 use borrow.Author.Needs.{needs}
 use borrow.Author.Count.{below-more}
-use Rattle.script.specs.Positions.{KeptPart}
-use Rattle.script.proofs.Positions.{kept-none, kept-next}
+use Rattle.script.specs.Buffers.{KeptPart}
+use Rattle.script.proofs.Kept.{kept-none, kept-next}
 use Rattle.script.proofs.running.keep_part.Statement.{statement}
 use Rattle.script.proofs.running.keep_part.Tie as tie
 

@@ -3,7 +3,7 @@ use Prim.Native.Nat.{_*_}
 use native.Mathlib.Omega.{arith}
 use lib.Seq.{length-take-le}
 use borrow.Author.Needs.{needs}
-use Rattle.script.proofs.Positions.{write-told, write-holds, names-told, values-told, data-told}
+use Rattle.script.proofs.Held.{write-told, write-holds, names-told, values-told, data-told}
 use Rattle.script.proofs.running.line_turn.Statement.{statement}
 use Rattle.script.proofs.running.line_turn.Tie as tie
 use Rattle.script.proofs.running.line_turn.Reads as reads
@@ -90,7 +90,8 @@ returns-2 : tie.Need-returns-2
 returns-2 c =
     let w = c .before .before in
     let s = w .before .before .before .before .before .before .before .before in
-    let t = data-told (s .args .number) (s .args .values) (s .args .line .now) (s .args .page .now) (s .pre .holds) (w .before .before .if2 .taken)
+    let a = s .args in
+    let t = data-told (a .number) (a .values) (a .line .now) (a .page .now) (s .pre .holds) (w .before .before .if2 .taken)
     (w .data-turn .ensures) in
     (t .0, (t .1, record { long = refl }))
 
@@ -107,7 +108,8 @@ returns-3 : tie.Need-returns-3
 returns-3 c =
     let w = c .before .before in
     let s = w .before .before .before .before .before .before .before .before .before in
-    let t = values-told (s .args .number) (s .args .values) (s .args .line .now) (s .args .page .now) (s .pre .holds) (w .before .before .if3 .taken)
+    let a = s .args in
+    let t = values-told (a .number) (a .values) (a .line .now) (a .page .now) (s .pre .holds) (w .before .before .if3 .taken)
     (w .values-turn .ensures) in
     (t .0, (t .1, record { long = refl }))
 
@@ -124,8 +126,8 @@ returns-4 : tie.Need-returns-4
 returns-4 c =
     let w = c .before .before in
     let s = w .before .before .before .before .before .before .before .before .before in
-    let t = names-told (s .args .number) (s .args .values) (s .args .line .now) (s .args .page .now) (s .pre .holds) (omega arith)
-    (w .names-turn .ensures) in
+    let a = s .args in
+    let t = names-told (a .number) (a .values) (a .line .now) (a .page .now) (s .pre .holds) (omega arith) (w .names-turn .ensures) in
     (t .0, (t .1, record { long = refl }))
 
 pub line-turn-spec : {M : Type 1} → statement M

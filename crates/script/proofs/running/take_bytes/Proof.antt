@@ -5,7 +5,7 @@ use lib.ListN.{length}
 use lib.Seq.{length-take-le}
 use borrow.Author.Needs.{needs}
 use borrow.Author.Tests.{not-true, not-false}
-use Rattle.script.proofs.Positions.{stopped-step, part-step, line-step, line-ready}
+use Rattle.script.proofs.Steps.{stopped-step, part-step, line-step, line-ready}
 use Rattle.script.proofs.running.take_bytes.Statement.{statement}
 use Rattle.script.proofs.running.take_bytes.Tie as tie
 
@@ -44,10 +44,12 @@ line-turn-requires c κs = search needs
 
 add-t19 : tie.Need-add-t19
 add-t19 c =
-    let k = c .before .before .before .before .before .before .before .before .before .before .before .before .before .before .before in
+    let e = c .before .before .before .before .before .before .before .before .before .before .before .before in
+    let k = e .before .before .before in
+    let s = k .before .before .before .before .before .before .before .before .before .before in
     let l = k .keep-part .ensures .1 .inside in
-    let m : k .keep-part .result .end ≡ length (k .before .before .before .before .before .before .before .before .before .before .args .bytes .now) → ⊥ = c .before .before .before .before .before .before .before .before .before .before .before .before .if2 .left in
-    omega (arith, k .before .before .before .before .before .before .before .before .before .before .good .1 .0 .0)
+    let m : k .keep-part .result .end ≡ length (s .args .bytes .now) → ⊥ = e .if2 .left in
+    omega (arith, s .good .1 .0 .0)
 
 same-length-2 : tie.Need-same-length-2
 same-length-2 c = search needs

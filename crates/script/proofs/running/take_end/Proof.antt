@@ -4,7 +4,7 @@ use native.Mathlib.Omega.{arith}
 use borrow.Author.Needs.{needs}
 use borrow.Author.Tests.{not-true, not-false}
 use Rattle.text.proofs.Text.{nothing-put, tail-same}
-use Rattle.script.proofs.Positions.{end-stopped, end-whole, end-missing, end-open}
+use Rattle.script.proofs.Steps.{end-stopped, end-whole, end-missing, end-open}
 use Rattle.script.proofs.running.take_end.Statement.{statement}
 use Rattle.script.proofs.running.take_end.Tie as tie
 
