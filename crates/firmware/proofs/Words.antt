@@ -3,7 +3,7 @@
 use mathlib.Core.Path.{_≡_}
 use Prim.Native.Nat.{ℕ, _%_, _≤_}
 use native.Mathlib.Omega.{arith}
-use Rattle.page.specs.Answers.{numberOf, valueOf, largestCost}
+use Rattle.page.specs.Answers.{valueOf, largestCost}
 use Rattle.page.specs.declared.Answer.{Answer}
 use Rattle.firmware.specs.Words.{answerWord}
 

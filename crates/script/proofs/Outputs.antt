@@ -2,14 +2,14 @@
 --   begun-starts, begun-goes   the values are in order and the page has their size, from line 4 on
 --   rows-from                  each data line prints a row whose answer is 0 or 7, or is at fault
 --   run-output                 THE OUTPUT of any input
-use mathlib.Core.Path.{_≡_, refl, sym, _∙_}
+use mathlib.Core.Path.{_≡_, refl, _∙_}
 use mathlib.Core.Bool.{Bool, true, false, cond, _&&_}
 use mathlib.Core.List.{List, [], _∷_, _++_, append-nil}
 use mathlib.Core.Option.{Option, none, some}
-use Prim.Native.Nat.{ℕ, _+_, _-_, _<_, _≤_}
+use Prim.Native.Nat.{ℕ, _+_, _-_}
 use native.Mathlib.Omega.{arith}
 use lib.Dec.{leb}
-use lib.ListN.{length, replicate, length-replicate}
+use lib.ListN.{replicate, length-replicate}
 use borrow.Author.Tests.{lt-ltb}
 use Rattle.cells.proofs.Places.{and-both}
 use Rattle.cells.specs.Climbs.{house}
@@ -19,7 +19,7 @@ use Rattle.refusals.specs.declared.Refusal.{Refusal}
 use Rattle.refusals.specs.Refusals.{sizesGround, refusalNumber, textNumber}
 use Rattle.page.proofs.Promise.{page-length}
 use Rattle.text.specs.declared.Values.{Values}
-use Rattle.text.specs.Text.{namesText, dataText, headText, faultText}
+use Rattle.text.specs.Text.{namesText, dataText, headText}
 use Rattle.text.specs.Lines.{noValues, valuesOf}
 use Rattle.text.specs.Hex.{pairs, isData}
 use Rattle.script.specs.Rows.{sizeOf, valuesPage, rowAfter, writeRow}

@@ -6,7 +6,7 @@ use mathlib.Core.Path.{_≡_, refl, sym, _∙_, ap, subst}
 use mathlib.Core.Bool.{Bool, true, false, cond, _&&_}
 use mathlib.Core.List.{List, [], _∷_, _++_}
 use mathlib.Core.Option.{Option, none, some}
-use Prim.Native.Nat.{ℕ, _+_, _-_, _<_, _≤_}
+use Prim.Native.Nat.{ℕ, _+_, _<_, _≤_}
 use native.Mathlib.Omega.{arith}
 use native.Mathlib.Numerals.{add-one}
 use lib.Dec.{ltb, leb, eqb}
@@ -26,7 +26,7 @@ use Rattle.script.specs.Runs.{linesFrom, runFrom}
 use Rattle.script.specs.declared.Run.{Run}
 use Rattle.script.specs.declared.Turn.{Turn}
 use Rattle.text.proofs.Text.{nothing-put}
-use Rattle.script.specs.Positions.{Position, start, printsFrom, ended, stopped, taken}
+use Rattle.script.specs.Positions.{Position, printsFrom, taken}
 use Rattle.script.specs.Buffers.{keptBytes, mostPage, Holds, positionOf, Ready, Blank, LineEnd, KeptPart, Stepped}
 use Rattle.script.proofs.Positions.{stopped-silent, stopped-takes, part-takes, line-takes}
 use Rattle.script.proofs.Held.{page-none, holds-none}

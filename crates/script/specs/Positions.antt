@@ -6,7 +6,7 @@
 use mathlib.Core.Path.{_≡_}
 use mathlib.Core.Bool.{Bool, true, false, cond}
 use mathlib.Core.List.{List, [], _∷_, _++_}
-use Prim.Native.Nat.{ℕ, _-_}
+use Prim.Native.Nat.{ℕ}
 use Rattle.text.specs.Lines.{noValues}
 use Rattle.script.specs.Turns.{Progress, atLine}
 use Rattle.script.specs.Runs.{linesFrom, runFrom}

@@ -1,6 +1,6 @@
 -- The loop's invariant: the rows of the stages before i are packed, a byte each. The measure is what is left of eight stages.
 use mathlib.Core.Path.{_≡_, refl}
-use Prim.Native.Nat.{ℕ, _+_, _-_, _*_, _/_, _^_, _≤_, _<_}
+use Prim.Native.Nat.{_+_, _-_, _*_, _/_, _^_, _≤_, _<_}
 use native.Mathlib.Omega.{arith}
 use borrow.Author.Needs.{needs}
 use Rattle.trellis.specs.Rows.{stageRow, packedOf}
