@@ -8,8 +8,8 @@ struct Place {
     end: usize,
 }
 
-// Where strip k stands in a page of this many bytes: nowhere, from a place to the same, where L is not from 1 to 64 or the strip lies beyond
-// the page's end.
+// Where strip k stands in a page of this many bytes: nowhere, from a place to the same, where L is not from 1 to 64 or the strip lies
+// beyond the page's end.
 fn find(size: usize, bytes: usize, k: usize) -> Place
     ensures { λ r. ⌜ Found bytes k size r ⌝ }
 {

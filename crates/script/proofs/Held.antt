@@ -104,8 +104,8 @@ unfolding dataTurn
 data-after v line page z = by (sameList line dataText)
   where
     by : (t : Bool)
-        → Holds (cond t (goes (atLine 3 v []) headText v (replicate (byteCount oneBit (sizeOf v)) 0)) (halt textNumber (atLine 3 v [])) .after)
-        page
+        → Holds (cond t (goes (atLine 3 v []) headText v (replicate (byteCount oneBit (sizeOf v)) 0))
+        (halt textNumber (atLine 3 v [])) .after) page
     by true = holds-erased page z v
     by false = holds-none page z (atLine 3 v []) (omega arith) refl
 

@@ -16,7 +16,7 @@ use lib.Seq.{take-all, length-take-le, take-add}
 use borrow.Author.Tests.{leb-true, leb-false, ne-eqb}
 use Rattle.script.specs.Turns.{Progress, lineTurn}
 use Rattle.script.specs.Runs.{linesFrom, linesOf, runFrom, runOf}
-use Rattle.script.specs.Positions.{Position, start, printsFrom, Takes, Leads, InParts, ended, stopped, taken, joined}
+use Rattle.script.specs.Positions.{Position, start, printsFrom, Takes, Leads, InParts, ended, stopped, taken, wholeOf}
 use Rattle.script.specs.Buffers.{keptBytes}
 use Rattle.script.proofs.Turns.{long-line}
 
@@ -31,15 +31,15 @@ unfolding printsFrom
 stopped-silent s input e = rw e
 
 -- HOWEVER THE INPUT IS CUT into parts, what is printed of them one after the other is what is printed of the whole
-pub parts-whole : {s : Position} {parts : List (List ℕ)} {text : List ℕ} → InParts s parts text → text ≡ printsFrom s (joined parts)
-unfolding joined
+pub parts-whole : {s : Position} {parts : List (List ℕ)} {text : List ℕ} → InParts s parts text → text ≡ printsFrom s (wholeOf parts)
+unfolding wholeOf
 parts-whole (ended e) = e
-parts-whole {s} {parts} (stopped e) = sym (stopped-silent s (joined parts) e)
-parts-whole (taken {text = text} {parts = parts} t r) = ap (λ (l : List ℕ). text ++ l) (parts-whole r) ∙ sym (t .whole (joined parts))
+parts-whole {s} {parts} (stopped e) = sym (stopped-silent s (wholeOf parts) e)
+parts-whole (taken {text = text} {parts = parts} t r) = ap (λ (l : List ℕ). text ++ l) (parts-whole r) ∙ sym (t .whole (wholeOf parts))
 
 -- so from the start it is THE RUN of the whole input
-pub run-whole : {parts : List (List ℕ)} {text : List ℕ} → InParts start parts text → text ≡ runOf (joined parts)
-run-whole {parts} r = parts-whole r ∙ run-starts (joined parts)
+pub run-whole : {parts : List (List ℕ)} {text : List ℕ} → InParts start parts text → text ≡ runOf (wholeOf parts)
+run-whole {parts} r = parts-whole r ∙ run-starts (wholeOf parts)
 
 -- bytes, and then others
 pub leads-none : (s : Position) → Leads s [] s

@@ -2,7 +2,7 @@
 --   Position, start   how far the run is, the bytes of the line so far, and whether it goes on; the first one
 --   printsFrom        WHAT THE RUN PRINTS from a position on the rest of the input
 --   Takes, Leads      bytes of the input lead from a position to another, and print a text; or some text
---   InParts, joined   an input that comes in parts, and what is printed of it; the whole of it
+--   InParts, wholeOf  an input that comes in parts, and what is printed of it; the whole of it
 use mathlib.Core.Path.{_≡_}
 use mathlib.Core.Bool.{Bool, true, false, cond}
 use mathlib.Core.List.{List, [], _∷_, _++_}
@@ -42,6 +42,6 @@ pub data InParts : Position → List (List ℕ) → List ℕ → Type 0 where
       → InParts s (bytes ∷ parts) (text ++ rest)
 
 -- an input that comes in parts, as a whole
-unfoldable pub joined : List (List ℕ) → List ℕ
-joined [] = []
-joined (bytes ∷ parts) = bytes ++ joined parts
+unfoldable pub wholeOf : List (List ℕ) → List ℕ
+wholeOf [] = []
+wholeOf (bytes ∷ parts) = bytes ++ wholeOf parts

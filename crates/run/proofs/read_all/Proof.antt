@@ -85,7 +85,8 @@ loop-again : tie.Need-loop-again Inv-loop μ-loop
 loop-again c =
     let n = c .before .before .before .before .before .before in
     let h = n .hand-on in
-    let i = n .before .before .before .before .before .before .before .before .before .before .before .before .before .before .before .loop .inv in
+    let g = n .before .before .before .before .before .before .before .before in
+    let i = g .before .before .before .before .before .before .before .loop .inv in
     (h .kept .1 .1 .0 ∙ i .0, h .kept .1 .1 .1 .0 ∙ i .1, h .kept .1 .1 .1 .1 .0 ∙ i .2, h .ensures .0)
 
 same-length-7 : tie.Need-same-length-7 Inv-loop μ-loop
