@@ -109,6 +109,13 @@ FAULTS = {
         ("2 cells in a table of 3 columns", row("| planted | |")),
         ("no row names text/must-fail/planted", append("crates/text/must-fail/planted.edit", "")),
     ],
+    "header.py": [
+        ("SEGRUNOV_MAX_COST is 1835007,", change("include/segrunov.h", "1835008", "1835007")),
+        ("SEGRUNOV_MAX_COST is 1835008,", change("crates/page/specs/Answers.antt", r"^largestCost = .*", "largestCost = 1835009")),
+        ("SEGRUNOV_SHORT is 7,", change("include/segrunov.h", r"SEGRUNOV_SHORT UINT32_C\(3\)", "SEGRUNOV_SHORT UINT32_C(7)")),
+        ("SEGRUNOV_PLANTED has no definition", append("include/segrunov.h", "#define SEGRUNOV_PLANTED UINT32_C(1)\n")),
+        ("does not define SEGRUNOV_SPENT", change("include/segrunov.h", "SEGRUNOV_SPENT UINT32_C", "SEGRUNOV_SPENT UINT64_C")),
+    ],
     "edits.py": [
         ("its old text stands 0 times", change(EDIT, r"^old: .*", "old: planted")),
         ("it changes nothing", change(EDIT, r"^new: .*", f"new: {OLD}")),

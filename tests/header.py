@@ -1,0 +1,44 @@
+#!/usr/bin/env python3
+"""Fails where a number that include/segrunov.h defines is another one than in the definitions, or stands in none of them.
+
+The stack is no number of the definitions: tests/measure.c holds it against the calls.
+"""
+import re
+
+from repository import finish, read
+
+REFUSALS = "crates/refusals/specs/Refusals.antt"
+ANSWERS = "crates/page/specs/Answers.antt"
+
+# For each number, the definition that has it.
+DEFINED = {
+    "SHORT": (REFUSALS, "numbered code = cond (eqb code {}) short long"),
+    "LONG": (REFUSALS, "isCode n = eqb n 3 || eqb n {}"),
+    "DONE": (ANSWERS, "numberOf (A.Done cost) = {}"),
+    "CODE": (REFUSALS, "refusalNumber CodeUnknown = {}"),
+    "BYTES": (REFUSALS, "refusalNumber BytesOutside = {}"),
+    "STRIPS": (REFUSALS, "refusalNumber StripsOutside = {}"),
+    "PAGE_LENGTH": (REFUSALS, "refusalNumber PageLength = {}"),
+    "DATA_LENGTH": (REFUSALS, "refusalNumber DataLength = {}"),
+    "SPENT": (ANSWERS, "numberOf (A.Spent strip) = {}"),
+    "TEMPERATURE": (REFUSALS, "refusalNumber EraseTemperature = {}"),
+    "MAX_COST": (ANSWERS, "largestCost = {}"),
+}
+
+
+def wrong(name, number):
+    """What is wrong with a number of the header."""
+    if name not in DEFINED:
+        return [f"include/segrunov.h: SEGRUNOV_{name} has no definition in tests/header.py"]
+    path, line = DEFINED[name]
+    return [] if line.format(number) in read(path).splitlines() else [f"include/segrunov.h: SEGRUNOV_{name} is {number}, and not so in {path}"]
+
+
+def main():
+    numbers = dict(re.findall(r"^#define SEGRUNOV_(\w+) UINT32_C\((\d+)\)", read("include/segrunov.h"), re.M))
+    bad = [line for name, number in numbers.items() for line in wrong(name, number)]
+    bad += [f"include/segrunov.h does not define SEGRUNOV_{name}" for name in DEFINED if name not in numbers]
+    finish(bad, f"include/segrunov.h: {len(numbers)} numbers, each as in the definitions")
+
+
+main()
