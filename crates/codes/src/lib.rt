@@ -1,6 +1,6 @@
 // The two coset codes, made by name: their table, and the states of their encoders. Beside them `parities`, what the generators make of the
-// last bits; `blocks`, the same for eight stages at a time, and the labels, which are the data divided by the first generator; and `strips`,
-// reading a strip.
+// last bits; `blocks`, the same for eight stages at a time, and the labels, which are the data divided by the first generator; and
+// `strips`, reading a strip.
 mod blocks;
 mod parities;
 mod strips;

@@ -39,7 +39,8 @@ use Rattle.demand.specs.Jobs.{part}
 use Rattle.demand.specs.Reading.{stripLevels, readBy}
 use Rattle.demand.specs.Demand.{jobCost}
 use Rattle.demand.specs.Computed.{stripBytes, stripWrite, pageWrite, spentStrip}
-use Rattle.refusals.specs.Refusals.{oneTo64, isCode, codeGround, bytesGround, stripsGround, limitsGround, sizesGround, pageGround, dataGround, ground, numbered}
+use Rattle.refusals.specs.Refusals.{oneTo64, isCode, codeGround, bytesGround, stripsGround, limitsGround, sizesGround, pageGround}
+use Rattle.refusals.specs.Refusals.{dataGround, ground, numbered}
 use Rattle.page.specs.Reading.{readPage}
 use Rattle.page.specs.Answers.{callAnswer, callPage, jobAnswer, jobPage, jobOf, answerOf, pageOf}
 use Rattle.page.specs.Known.{Case, Expected, reads, done, also, spent, Expects, Says, cases}
