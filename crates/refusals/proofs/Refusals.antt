@@ -2,6 +2,7 @@
 --   one-to-64, limits-in, limits-below, limits-above   the limits
 --   limits-in-order, limits-most, sizes-limits   L and S where the limits have no ground
 --   shape-in-order, in-order                     a call without a ground
+--   sizes-number                                 the code, L and S are refused by 1 to 3
 --   done-none, refused-some                      an answer tells its ground
 --   refused-first, done-next                     grounds tested one after the other
 use mathlib.Core.Path.{_≡_, refl, sym, _∙_}
@@ -13,8 +14,9 @@ use lib.Dec.{eqb, leb}
 use borrow.Author.Tests.{eqb-true, le-leb, lt-leb, leb-true}
 use Rattle.cells.proofs.Places.{and-both}
 use Rattle.codes.specs.Layouts.{oneBit, byteCount}
-use Rattle.refusals.specs.Refusals.{oneTo64, first-of, codeGround, bytesGround, stripsGround, pageGround, dataGround, limitsGround, sizesGround, shapeGround, ground, completionOf}
+use Rattle.refusals.specs.Refusals.{oneTo64, isCode, first-of, codeGround, bytesGround, stripsGround, pageGround, dataGround, limitsGround, sizesGround, shapeGround, ground, completionOf, refusalNumber}
 use Rattle.refusals.specs.declared.Refusal.{Refusal}
+use Rattle.refusals.specs.declared.Refusal.the-variants.{CodeUnknown, BytesOutside, StripsOutside}
 use Rattle.refusals.specs.declared.Completion.{Completion}
 use Rattle.refusals.specs.declared.Completion.the-variants.{Done, Refused}
 
@@ -88,6 +90,19 @@ in-order code L S page content e =
       eqb-true content (L * S)
           (no-ground (eqb content (L * S)) _ (q .1)),
     )
+
+-- the code, L and S are refused by 1 to 3
+three-tests : (a b c : Bool) {r : Refusal}
+    → first-of (cond a none (some CodeUnknown)) (first-of (cond b none (some BytesOutside)) (cond c none (some StripsOutside))) ≡ some r
+    → (1 ≤ refusalNumber r) × (refusalNumber r ≤ 3)
+three-tests false b c {r} e = let n : 1 ≡ refusalNumber r = cc in (omega arith, omega arith)
+three-tests true false c {r} e = let n : 2 ≡ refusalNumber r = cc in (omega arith, omega arith)
+three-tests true true false {r} e = let n : 3 ≡ refusalNumber r = cc in (omega arith, omega arith)
+three-tests true true true e = let z : _≡_ {A = ℕ} 0 1 = cc in absurd (omega arith)
+
+pub sizes-number : (code L S : ℕ) {r : Refusal} → sizesGround code L S ≡ some r → (1 ≤ refusalNumber r) × (refusalNumber r ≤ 3)
+unfolding sizesGround limitsGround codeGround bytesGround stripsGround
+sizes-number code L S e = three-tests (isCode code) (oneTo64 L) (oneTo64 S) e
 
 -- an answer that is done has no ground
 pub done-none : (g : Option Refusal) → completionOf g ≡ Done → g ≡ none

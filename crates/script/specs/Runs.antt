@@ -40,17 +40,18 @@ runFrom p (some line ∷ rest) = onward (lineTurn p line) (λ q. runFrom q rest)
 unfoldable pub runOf : List ℕ → List ℕ
 runOf input = runFrom (atLine 1 noValues []) (linesOf input)
 
--- THE FORM OF WHAT IS PRINTED. 'One row a write: its number from 1, 0 or 7, the cost, the sum of the levels': the rows from write k on, and
--- behind them nothing, or the fault of the next line
+-- THE FORM OF WHAT IS PRINTED. 'One row a write: its number from 1, 0 or 7, the cost, the sum of the levels', and at most 1,000 of them:
+-- the rows from write k on, and behind them nothing, or the fault of the next line
 pub data RowsFrom : ℕ → List ℕ → Type 0 where
   no-more : {k : ℕ} → RowsFrom k []
   fault : {k : ℕ} → RowsFrom k (faultText textNumber (k + 3))
-  row : {k : ℕ} (answer cost levels : ℕ) {rest : List ℕ} → (answer ≡ 0) ⊎ (answer ≡ 7) → RowsFrom (k + 1) rest
+  row : {k : ℕ} (answer cost levels : ℕ) {rest : List ℕ} → k ≤ 1000 → (answer ≡ 0) ⊎ (answer ≡ 7) → RowsFrom (k + 1) rest
       → RowsFrom k (rowText k answer cost levels ++ rest)
 
--- a fault of lines 1 to 3, or the head and the rows
+-- a fault of lines 1 to 3, by 6; 'values refused by 1 to 3 give line 2'; or the head and the rows
 pub data Output : List ℕ → Type 0 where
-  faulted : (refusal line : ℕ) → line ≤ 3 → Output (faultText refusal line)
+  faulted : (line : ℕ) → 1 ≤ line → line ≤ 3 → Output (faultText textNumber line)
+  refused : (refusal : ℕ) → 1 ≤ refusal → refusal ≤ 3 → Output (faultText refusal 2)
   headed : {rest : List ℕ} → RowsFrom 1 rest → Output (headText ++ rest)
 
 -- the paper's example
