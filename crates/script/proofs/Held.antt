@@ -23,7 +23,7 @@ use Rattle.text.specs.Text.{namesText, dataText, headText}
 use Rattle.text.specs.Lines.{valuesOf}
 use Rattle.text.specs.Hex.{isData, pairs}
 use Rattle.script.specs.Rows.{sizeOf, valuesPage, writeRow}
-use Rattle.script.specs.Turns.{Progress, atLine, halt, goes, namesTurn, judgedTurn, formTurn, valuesTurn, dataTurn, writeTurn, lineTurn, Told, ToldPage}
+use Rattle.script.specs.Turns.{Progress, Turned, atLine, halt, goes, namesTurn, judgedTurn, formTurn, valuesTurn, dataTurn, writeTurn, lineTurn, Told, ToldPage}
 use Rattle.script.specs.declared.Turn.{Turn}
 use Rattle.script.specs.Buffers.{mostPage, pageSize, Holds}
 use Rattle.script.proofs.Rows.{size-bound}
@@ -151,23 +151,26 @@ module _ (number n : ℕ) (v : Values) (line page : List ℕ) (h : 3 < number) (
 -- THE TURNS OF LINES 1 TO 3, by their numbers
 module _ (number : ℕ) (v : Values) (line page : List ℕ) {r : Turn} {before buffer : List ℕ}
     (k : Holds (atLine number v (take (pageSize number v) page)) page) where
+  -- a turn that comes to no page, by any number before that of a data line
+  none-told : (u : Turned) → number ≤ 3 → lineTurn (atLine number v (take (pageSize number v) page)) line ≡ u
+      → (u .after .number ≤ 3) × (u .after .page ≡ []) → Told u r before buffer
+      → Told (lineTurn (atLine number v (take (pageSize number v) page)) line) r before buffer
+      × Holds (lineTurn (atLine number v (take (pageSize number v) page)) line .after) page
+  none-told u h e a t =
+      let z = holds-zeros page (atLine number v (take (pageSize number v) page)) h k in
+      rw e (t, holds-none page z (u .after) (a .0) (a .1))
+
   pub names-told : number ≡ 1 → Told (namesTurn (atLine 1 v []) line) r before buffer
       → Told (lineTurn (atLine number v (take (pageSize number v) page)) line) r before buffer
       × Holds (lineTurn (atLine number v (take (pageSize number v) page)) line .after) page
   unfolding lineTurn pageSize
-  names-told e t =
-      let z = holds-zeros page (atLine number v (take (pageSize number v) page)) (omega arith) k in
-      let a = names-after v line in
-      rw e (t, holds-none page z (namesTurn (atLine 1 v []) line .after) (a .0) (a .1))
+  names-told e t = none-told (namesTurn (atLine 1 v []) line) (omega arith) (rw e) (names-after v line) t
 
   pub values-told : number ≡ 2 → Told (valuesTurn (atLine 2 v []) line) r before buffer
       → Told (lineTurn (atLine number v (take (pageSize number v) page)) line) r before buffer
       × Holds (lineTurn (atLine number v (take (pageSize number v) page)) line .after) page
   unfolding lineTurn pageSize
-  values-told e t =
-      let z = holds-zeros page (atLine number v (take (pageSize number v) page)) (omega arith) k in
-      let a = values-after v line in
-      rw e (t, holds-none page z (valuesTurn (atLine 2 v []) line .after) (a .0) (a .1))
+  values-told e t = none-told (valuesTurn (atLine 2 v []) line) (omega arith) (rw e) (values-after v line) t
 
   pub data-told : number ≡ 3 → Told (dataTurn (atLine 3 v []) line) r before buffer
       → Told (lineTurn (atLine number v (take (pageSize number v) page)) line) r before buffer
