@@ -1,6 +1,7 @@
 /*
- * Measures each call on the largest page (L = 64, S = 64): the stack that it needs, and its time. Fails where a call needs more stack than
- * SEGRUNOV_STACK says, or a price more than 2 KiB: it keeps no array with a place for each stage or cell.
+ * Measures each call: the most stack that it needs, over both codes and the ends of L and S, and its time on the largest page. Fails where a
+ * call is refused or needs more stack than SEGRUNOV_STACK says, and where a price needs more than 2 KiB, or not the same for L = 1 and L = 64:
+ * it keeps no array with a place for each stage or cell.
  */
 #define _POSIX_C_SOURCE 200809L
 #define _XOPEN_SOURCE 700
@@ -11,25 +12,30 @@
 
 #include "segrunov.h"
 
-enum { BYTES = 64, STRIPS = 64, STACK = 1 << 16, ROUNDS = 40 };
+enum { MOST = 64, STACK = 1 << 16, PRICE_STACK = 2048, ROUNDS = 40 };
 
 static const uint8_t PAINT = 0xc3;
+static const uint32_t CODES[] = {SEGRUNOV_SHORT, SEGRUNOV_LONG};
+static const uint32_t STRIPS[] = {1, MOST};
 
-static uint8_t page[6 * BYTES * STRIPS];
-static uint8_t data[BYTES * STRIPS];
-static uint8_t stack[STACK];
-static ucontext_t outside, inside;
+/* What the calls are made with; L and S say how much of the page and of the data is used. */
+static uint32_t code, bytes, strips;
+static uint8_t page[SEGRUNOV_PAGE_BYTES(MOST, MOST)];
+static uint8_t data[SEGRUNOV_DATA_BYTES(MOST, MOST)];
 static uint64_t answer;
 
-/* A page's data that differs from round to round. */
-static void next_data(void)
+static uint8_t stack[STACK];
+static ucontext_t outside, inside;
+static int failed;
+
+static size_t page_bytes(void)
 {
-    static uint64_t seed = 20261115;
-    size_t i;
-    for (i = 0; i < sizeof data; i++) {
-        seed = seed * UINT64_C(6364136223846793005) + UINT64_C(1442695040888963407);
-        data[i] = (uint8_t)(seed >> 56);
-    }
+    return SEGRUNOV_PAGE_BYTES(bytes, strips);
+}
+
+static size_t data_bytes(void)
+{
+    return SEGRUNOV_DATA_BYTES(bytes, strips);
 }
 
 static void no_call(void)
@@ -39,26 +45,51 @@ static void no_call(void)
 
 static void call_read(void)
 {
-    answer = segrunov_read(SEGRUNOV_LONG, BYTES, STRIPS, page, sizeof page, data, sizeof data);
+    answer = segrunov_read(code, bytes, strips, page, page_bytes(), data, data_bytes());
 }
 
 static void call_price(void)
 {
-    answer = segrunov_price(SEGRUNOV_LONG, BYTES, STRIPS, page, sizeof page, data, sizeof data);
+    answer = segrunov_price(code, bytes, strips, page, page_bytes(), data, data_bytes());
 }
 
 static void call_write(void)
 {
-    answer = segrunov_write(SEGRUNOV_LONG, BYTES, STRIPS, page, sizeof page, data, sizeof data);
+    answer = segrunov_write(code, bytes, strips, page, page_bytes(), data, data_bytes());
 }
 
 static void call_erase(void)
 {
-    answer = segrunov_erase(BYTES, STRIPS, page, sizeof page, 200);
+    answer = segrunov_erase(bytes, strips, page, page_bytes(), 200);
+}
+
+struct call {
+    const char *name;
+    void (*make)(void);
+    int is_price;
+};
+
+static const struct call CALLS[] = {
+    {"read", call_read, 0},
+    {"price", call_price, 1},
+    {"write", call_write, 0},
+    {"erase", call_erase, 0},
+};
+
+/* An erased page, and data that differs from round to round. */
+static void renew(void)
+{
+    static uint64_t seed = 20261115;
+    size_t i;
+    memset(page, 0, sizeof page);
+    for (i = 0; i < sizeof data; i++) {
+        seed = seed * UINT64_C(6364136223846793005) + UINT64_C(1442695040888963407);
+        data[i] = (uint8_t)(seed >> 56);
+    }
 }
 
 /* How much of a painted stack a call touches. */
-static size_t touched(void (*call)(void))
+static size_t touched(void (*make)(void))
 {
     size_t clean = 0;
     memset(stack, PAINT, sizeof stack);
@@ -66,12 +97,35 @@ static size_t touched(void (*call)(void))
     inside.uc_stack.ss_sp = stack;
     inside.uc_stack.ss_size = sizeof stack;
     inside.uc_link = &outside;
-    makecontext(&inside, call, 0);
+    makecontext(&inside, make, 0);
     (void)swapcontext(&outside, &inside);
     while (clean < sizeof stack && stack[clean] == PAINT) {
         clean++;
     }
     return sizeof stack - clean;
+}
+
+/* Says what is wrong with a call, and with what it was made. */
+static void fail(const struct call *call, const char *what)
+{
+    printf("measure: %s %s (code %u, L = %u, S = %u)\n", call->name, what, (unsigned)code, (unsigned)bytes, (unsigned)strips);
+    failed = 1;
+}
+
+/* The stack of a call with these arguments, less what no call touches. */
+static size_t needed(const struct call *call, uint32_t c, uint32_t l, uint32_t s)
+{
+    const size_t nothing = touched(no_call);
+    size_t all;
+    code = c;
+    bytes = l;
+    strips = s;
+    renew();
+    all = touched(call->make);
+    if (SEGRUNOV_NUMBER(answer) != SEGRUNOV_DONE) {
+        fail(call, "is refused");
+    }
+    return all - nothing;
 }
 
 static double seconds(void)
@@ -81,17 +135,18 @@ static double seconds(void)
     return (double)now.tv_sec + 1e-9 * (double)now.tv_nsec;
 }
 
-/* The least time of a call, in milliseconds, each on an erased page and new data. */
-static double least_time(void (*call)(void))
+/* The least time of a call on the largest page, code 7, in milliseconds. */
+static double least_time(const struct call *call)
 {
     double least = 1e9;
     int i;
+    code = SEGRUNOV_LONG;
+    bytes = strips = MOST;
     for (i = 0; i < ROUNDS; i++) {
         double began, took;
-        call_erase();
-        next_data();
+        renew();
         began = seconds();
-        call();
+        call->make();
         took = seconds() - began;
         if (took < least) {
             least = took;
@@ -100,28 +155,40 @@ static double least_time(void (*call)(void))
     return least * 1e3;
 }
 
+static size_t greater(size_t a, size_t b)
+{
+    return a > b ? a : b;
+}
+
+/* The most stack that a call needs, over both codes and the ends of L and S. */
+static size_t most_needed(const struct call *call)
+{
+    const size_t limit = call->is_price ? PRICE_STACK : SEGRUNOV_STACK;
+    size_t most = 0;
+    size_t c, s;
+    for (c = 0; c < 2; c++) {
+        for (s = 0; s < 2; s++) {
+            const size_t with_1 = needed(call, CODES[c], 1, STRIPS[s]);
+            const size_t with_64 = needed(call, CODES[c], MOST, STRIPS[s]);
+            if (call->is_price && with_1 != with_64) {
+                fail(call, "needs another stack for L = 1 than for L = 64");
+            }
+            most = greater(most, greater(with_1, with_64));
+        }
+    }
+    if (most > limit) {
+        fail(call, "needs more stack than its limit");
+    }
+    return most;
+}
+
 int main(void)
 {
-    static const struct {
-        const char *name;
-        void (*call)(void);
-        size_t most;
-    } calls[] = {
-        {"read", call_read, SEGRUNOV_STACK},
-        {"price", call_price, 2048},
-        {"write", call_write, SEGRUNOV_STACK},
-        {"erase", call_erase, SEGRUNOV_STACK},
-    };
-    const size_t nothing = touched(no_call);
-    int status = 0;
     size_t i;
-    for (i = 0; i < sizeof calls / sizeof *calls; i++) {
-        const size_t needed = touched(calls[i].call) - nothing;
-        if (SEGRUNOV_NUMBER(answer) != SEGRUNOV_DONE || needed > calls[i].most) {
-            printf("measure: %s was refused, or needs more than %zu bytes of stack\n", calls[i].name, calls[i].most);
-            status = 1;
-        }
-        printf("%-5s  stack %5zu bytes   %8.3f ms for a page of 64 strips of 64 bytes, code 7\n", calls[i].name, needed, least_time(calls[i].call));
+    for (i = 0; i < sizeof CALLS / sizeof *CALLS; i++) {
+        const struct call *call = &CALLS[i];
+        const size_t most = most_needed(call);
+        printf("%-5s  stack %5zu bytes   %8.3f ms for a page of 64 strips of 64 bytes, code 7\n", call->name, most, least_time(call));
     }
-    return status;
+    return failed;
 }

@@ -1,8 +1,8 @@
 #!/usr/bin/env python3
 """Plants faults in a copy of the repository, one at a time, and fails where the check that is to find one passes, or does not name it.
 
-The logs of the must-fail edits are made up, in the prover's forms, since the real ones are there only after rt ci; and what the gate runs
-beside the checks is a stand-in that passes.
+The logs of the must-fail edits are made up, in the prover's forms, since the real ones are there only after rt ci; tests/measure.c measures a
+library whose calls do nothing; and what the gate runs beside the checks is a stand-in that passes.
 """
 import os
 import pathlib
@@ -21,6 +21,14 @@ EDIT = f"crates/{CRATE}/must-fail/{NAME}.edit"
 LOG = f"target/must-fail/{CRATE}/{NAME}/.log"
 OLD = re.search(r"^old: (.*)$", read(EDIT), re.M)[1]
 
+# The files that price.
+FIRMWARE = "crates/firmware/src/lib.rt"
+WRITING = "crates/page/src/writing.rt"
+BACKWARD = "crates/trellis/src/backward.rt"
+ROWS = "crates/trellis/src/rows.rt"
+STRIP = "code, &rows, shape::strip(page, bytes, k), &data[a..a + bytes]"
+KEPT = "let mut kept = [0u8; 64]; kept[0] = 1;"
+
 # What rt ci is to count.
 PROVED = floor()["crates"] + floor()["edits"]
 
@@ -33,6 +41,11 @@ def append(path, text):
 def change(path, pattern, text):
     """Another text where the pattern first fits."""
     return {path: lambda old: re.sub(pattern, lambda _: text, old, count=1, flags=re.M)}
+
+
+def before(path, line, text):
+    """A text before the first line that begins so."""
+    return change(path, rf"^(?={re.escape(line)})", text)
 
 
 def delete(path):
@@ -76,6 +89,21 @@ def named_log(crate, name):
     return log(crate, name, "AT/proofs/Lib.antt:1:1: note: large solution", RESTS, failed)
 
 
+def in_price_strip(line, item=""):
+    """price_strip with a line more in front of its loop, and the module rows with an item more, for the line to use."""
+    return {**before(BACKWARD, "    while q > 0", f"    {line}\n"), **append(ROWS, f"\n{item}\n")}
+
+
+def priced_by(call):
+    """price_strips with another call for the price of a strip, and an array that it may use."""
+    return change(WRITING, r"let price = price_strip\([^;]*;", f"let mut kept = [0u8; 64]; let price = {call};")
+
+
+def used(call, result):
+    """Another result of a call of the library that does nothing."""
+    return change("planted.c", rf"done\(64\)(?=; /\* {call} )", result)
+
+
 RESTS = "AT/proofs/Lib.antt:1:1: error: `rests`: `planted` was not admitted (it was rejected), so this cannot be checked"
 SEARCH = "`search`: no proof of `P`\n  was found. It stopped 2 lemmas deep, with lemmas still to try"
 SAID = f"note: what antt said of a `search` in the proof that rattle made: AT/src/lib.rt:1:1: `planted`: {SEARCH}"
@@ -115,6 +143,44 @@ FAULTS = {
         ("SEGRUNOV_SHORT is 7,", change("include/segrunov.h", r"SEGRUNOV_SHORT UINT32_C\(3\)", "SEGRUNOV_SHORT UINT32_C(7)")),
         ("SEGRUNOV_PLANTED has no definition", append("include/segrunov.h", "#define SEGRUNOV_PLANTED UINT32_C(1)\n")),
         ("does not define SEGRUNOV_SPENT", change("include/segrunov.h", "SEGRUNOV_SPENT UINT32_C", "SEGRUNOV_SPENT UINT64_C")),
+    ],
+    "changes.py": [
+        ("does not list K0.md", append("docs/changes/K0.md", "# K0\n\n## The check's time\n\n## Moved\n\n## Stayed\n")),
+        ("lists K0.md, and there is none", append("docs/changes/README.md", "| [K0](K0.md) | planted |\n")),
+        ("K4.md has no part '## Moved'", change("docs/changes/K4.md", r"^## Moved$", "## Planted")),
+        ("quotes what stands in no crate: pub fn price(", change(WRITING, r"valueOf r ≤ largestCost", "valueOf r ≤ valueOf r")),
+        ("quotes what stands in no crate: pub extern", change("docs/changes/K4.md", r"r % 4294967296", "r % 4294967295")),
+    ],
+    "pricing.py": [
+        ("segrunov_price is lent", change(FIRMWARE, r"(?<=_price\(\n    code: u32,\n    bytes: u32,\n    strips: u32,\n    page: &)", "mut ")),
+        ("segrunov2_price is lent", append(FIRMWARE, '\n#[no_mangle]\npub extern "C" fn segrunov2_price(page: &mut [u8]) {}\n')),
+        (
+            "price_strip is lent",
+            {**priced_by(f"price_strip({STRIP}, &mut kept)"), **change(BACKWARD, r"(?<=data: &\[u8\])(?=\) -> Outcome)", ", kept: &mut [u8; 64]")},
+        ),
+        ("price_strips makes a &mut of its own [u8; 64]", before(WRITING, "    let mut total", f"{KEPT} code.read_strip(page, &mut kept[0..1]);\n")),
+        ("price_strip makes a &mut of its own u64", in_price_strip("crate::rows::planted(&mut q);", "pub fn planted(q: &mut usize) {}")),
+        ("price_strip keeps [u8; 512] 1 times, and 0 are named", in_price_strip(KEPT.replace("64", "512"))),
+        ("price_strip keeps [u32; 64] 2 times, and 1 are named", in_price_strip(KEPT.replace("u8", "u32"))),
+        ("last_labels keeps [u8; 64] 1 times, and 0 are named", before(BACKWARD, "    let mut labels", f"{KEPT}\n")),
+        ("plan_strip keeps [u8; 4096] 1 times, and 0 are named", priced_by(f"plan_strip({STRIP}, &mut kept[0..bytes])")),
+        (
+            "census keeps [page::Row; 64] 1 times, and 0 are named",
+            append(WRITING, "\npub fn price_planted(page: &[u8]) -> crate::Census {\n    crate::counting::census(1, 1, page)\n}\n"),
+        ),
+        (
+            "planted has [u8; 512], the type of no array that is named",
+            in_price_strip("crate::rows::planted([0; 512]);", "pub fn planted(kept: [u8; 512]) {}"),
+        ),
+        ("cells::bit keeps [u8; 3] 0 times, and 1 are named", change("tests/pricing.py", r'"cells::weight"', '"cells::bit"')),
+        ("has no place for a level", change("tests/pricing.py", r'(?<="\[u32; 64\]"\): \(1, )"a state"', '"a level"')),
+        ("the source is rejected", append(ROWS, "\npub fn planted() -> u32 {}\n")),
+    ],
+    "measured": [
+        ("price needs another stack for L = 1 than for L = 64", used("price", "done(8 * bytes)")),
+        ("price needs more stack than its limit", used("price", "done(2048)")),
+        ("write needs more stack than its limit", used("write", "done(12288)")),
+        ("read is refused", used("read", "UINT64_C(4) << 32")),
     ],
     "edits.py": [
         ("its old text stands 0 times", change(EDIT, r"^old: .*", "old: planted")),
@@ -166,10 +232,27 @@ FAULTS = {
     ],
 }
 
+# A library whose calls are done at once, with this much stack.
+DONE = """
+#include "segrunov.h"
+
+static uint64_t done(size_t bytes)
+{
+    volatile uint8_t kept[bytes];
+    for (size_t i = 0; i < bytes; i++) {
+        kept[i] = 0;
+    }
+    return SEGRUNOV_DONE;
+}
+"""
+CALLS = re.findall(r"^(uint64_t segrunov_(\w+)\(.*\));$", read("include/segrunov.h"), re.M)
+
 STAND_INS = {
     "bin/rt": '#!/bin/sh\nmkdir -p target/staticlib && : > target/staticlib/libfirmware.a\n'
-    f'[ "$1" = ci ] || exit 0\necho "{PROVED} passed, 0 failed"\n',
+    f'[ "$1" != doc ] || exec {shutil.which("rt")} doc\n[ "$1" = ci ] || exit 0\necho "{PROVED} passed, 0 failed"\n',
     "tests/build": '#!/bin/sh\nmkdir -p target/tests && echo "#!/bin/sh" > "target/tests/$1" && chmod +x "target/tests/$1"\n',
+    "planted.c": DONE + "".join(f"\n{call}\n{{\n    return done(64); /* {name} */\n}}\n" for call, name in CALLS),
+    "tests/measured": 'cd "$(dirname "$0")/.." && gcc -Iinclude tests/measure.c planted.c -o target/measured && target/measured\n',
     "tests/install": "#!/bin/sh\n",
     "tests/planted.py": "",
     "tests/run.py": "",
@@ -179,7 +262,7 @@ STAND_INS = {
 def wrong(root, check, words):
     """What is wrong where a check is to fail and say these words, or, with no words, to pass."""
     script, *arguments = check.split()
-    command = ["bash" if script == "gate" else sys.executable, root / "tests" / script, *arguments]
+    command = [sys.executable if script.endswith(".py") else "bash", root / "tests" / script, *arguments]
     path = {**os.environ, "PATH": f"{root / 'bin'}:{os.environ['PATH']}"}
     done = subprocess.run(command, env=path, capture_output=True, encoding="utf-8")
     said = done.stdout + done.stderr

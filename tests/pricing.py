@@ -1,0 +1,100 @@
+#!/usr/bin/env python3
+"""Fails where a price does more than work out the cost (document 02, K4). Held to it is every function with the word `price` in its name,
+and all that these call.
+
+1. What has the word in its name is lent nothing that it may change: no parameter of it has a `&mut`.
+2. A `&mut` leads to an array that `price_strip` itself keeps, and to nothing else.
+3. The arrays that are kept in memory are those of KEPT, and those that are only passed by value have the types of these. KEPT says of each
+   array what it has a place for, one of PLACES: a stage or a cell is not among them.
+"""
+import collections
+import re
+
+import mir
+from repository import finish
+
+# What an array of a price can have a place for, and how many of it there are.
+PLACES = {
+    "a code": 2,
+    "a step": 3,  # from level 0, 1 or 2
+    "a level": 4,
+    "a word": 4,  # the code bits of a stage
+    "a word of a row": 4 * 32,  # by the levels of two cells and a label
+    "a pattern of two cells": 64,  # six bits
+    "a state": 64,
+}
+
+# The arrays that the functions keep: how many of a type, and what each has a place for.
+KEPT = {
+    ("cells::weight", "[u8; 3]"): (1, "a step"),
+    ("codes::Code::generators", "[codes::CodeRow; 2]"): (2, "a code"),  # the table stands in each arm
+    ("page::writing::price_strips", "[u32; 128]"): (1, "a word of a row"),
+    ("stages::blocks::run_long", "[u8; 64]"): (1, "a state"),
+    ("stages::blocks::run_short", "[u32; 4]"): (1, "a word"),
+    ("stages::stage::price_of", "[u32; 4]"): (1, "a word"),
+    ("stages::stage::stage", "[u32; 4]"): (1, "a word"),
+    ("stages::stage::stage", "[u32; 64]"): (1, "a state"),
+    ("trellis::backward::price_strip", "[u32; 64]"): (1, "a state"),
+    ("trellis::rows::picks_of", "[u8; 64]"): (1, "a pattern of two cells"),
+    ("trellis::rows::price_for", "[u32; 4]"): (1, "a level"),
+    ("trellis::rows::rows_of", "[u32; 128]"): (1, "a word of a row"),
+}
+
+
+def is_price(name):
+    return re.search(r"(?:^|_)price(?:_|$)", name.split("::")[-1])
+
+
+def reached(functions, names):
+    """These functions and all that they call."""
+    seen, new = set(), set(names)
+    while new:
+        seen |= new
+        new = {name for caller in new for name in functions[caller].calls} - seen
+    return [functions[name] for name in sorted(seen)]
+
+
+def lent(f, types):
+    """Rule 1."""
+    for n in range(1, f.parameters + 1):
+        if types.mutable(f.locals[n]):
+            yield f"{f.name} is lent something that it may change, its parameter {n} (rule 1)"
+
+
+def led_elsewhere(f, types):
+    """Rule 2. Where a `&mut` leads that was lent is judged in the caller, and rule 1 says that the first caller is lent none."""
+    keeper = f.name.split("::")[-1] == "price_strip"
+    targets = {n for local, kind in enumerate(f.locals) if types.mutable(kind) for how, n in f.leads[local] if how == "own"}
+    for n in sorted(targets):
+        if not keeper or types.arrays(f.locals[n]) != [f.locals[n]]:
+            yield f"{f.name} makes a &mut of its own {mir.text(f.locals[n])}: only price_strip does so, and of an array (rule 2)"
+
+
+def kept(f, types):
+    """The arrays that a function keeps in memory, and those that it has as values, by their types."""
+    arrays = [(n in f.in_memory, mir.text(array)) for n, kind in enumerate(f.locals) for array in types.arrays(kind)]
+    return collections.Counter(text for stored, text in arrays if stored), {text for stored, text in arrays if not stored}
+
+
+def main():
+    functions, types = mir.functions()
+    prices = [name for name in functions if is_price(name)]
+    held = reached(functions, prices)
+    bad = [line for name in prices for line in lent(functions[name], types)]
+    bad += [line for f in held for line in led_elsewhere(f, types)]
+    found = {}
+    for f in held:
+        stored, passed = kept(f, types)
+        found |= {(f.name, text): count for text, count in stored.items()}
+        bad += [f"{f.name} has {text}, the type of no array that is named (rule 3)" for text in passed - {text for _, text in KEPT}]
+    for name, text in sorted(found.keys() | KEPT.keys()):
+        count, there = KEPT.get((name, text), (0, None))[0], found.get((name, text), 0)
+        if there != count:
+            bad.append(f"{name} keeps {text} {there} times, and {count} are named (rule 3)")
+    for (name, text), (_, place) in KEPT.items():
+        if not text.endswith(f"; {PLACES[place]}]"):
+            bad.append(f"{name}: {text} has no place for {place}, of which there are {PLACES[place]} (rule 3)")
+    finish(bad, f"pricing: {len(prices)} functions that price, {len(held)} with what they call; {sum(found.values())} arrays, each named")
+
+
+main()
