@@ -150,13 +150,17 @@ def printed():
     """What the kit's printer writes of a program that has every library."""
     guide = subprocess.run(["rt", "doc"], capture_output=True, encoding="utf-8", check=True).stdout.strip()
     kit = pathlib.Path(guide).parent.parent / "on" / platform.machine()
-    libraries = [(name, path) for name in crates() if (path := ROOT / "crates" / name / "src" / "lib.rt").is_file()]
+    printer = kit / "bin" / "rattle-print-mir"
+    if not printer.is_file():
+        sys.exit(f"mir: this kit has no {printer}")
+    roots = {name: ROOT / "crates" / name / "src" / "lib.rt" for name in crates()}
     with tempfile.TemporaryDirectory() as folder:
         program = pathlib.Path(folder, "main.rt")
         program.write_text("fn main() {}\n", encoding="utf-8")
-        words = [kit / "bin" / "rattle-print-mir", program, "--crate-name", "empty", "--extern", f"std={kit / 'rlib' / 'std.rlib'}"]
-        words += [word for name, path in libraries for word in ("--lib", f"{name}={path}")]
-        done = subprocess.run(words, capture_output=True, encoding="utf-8")
+        command = [printer, program, "--crate-name", "empty", "--extern", f"std={kit / 'rlib' / 'std.rlib'}"]
+        for name, path in roots.items():
+            command += ["--lib", f"{name}={path}"] if path.is_file() else []
+        done = subprocess.run(command, capture_output=True, encoding="utf-8")
     if done.returncode:
         sys.exit(f"mir: the source is rejected:\n{done.stderr}")
     return done.stdout
