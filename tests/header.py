@@ -1,5 +1,6 @@
 #!/usr/bin/env python3
-"""Fails where a number that include/segrunov.h defines is another one than in the definitions, or stands in none of them.
+"""Fails where a number that include/segrunov.h defines is another one than in the definitions, or stands in none of them, and where
+tests/measure.c lacks a call that the header declares.
 
 The stack is no number of the definitions: tests/measure.c holds it against the calls.
 """
@@ -34,11 +35,20 @@ def wrong(name, number):
     return [] if line.format(number) in read(path).splitlines() else [f"include/segrunov.h: SEGRUNOV_{name} is {number}, and not so in {path}"]
 
 
+def unmeasured(function):
+    """What is wrong where tests/measure.c does not make a call, or has no row of its name."""
+    name, code = function.removeprefix("segrunov_"), read("tests/measure.c")
+    there = f"= {function}(" in code and f'{{"{name}", call_{name}}},' in code
+    return [] if there else [f"include/segrunov.h declares {function}, and tests/measure.c does not measure it"]
+
+
 def main():
+    calls = re.findall(r"^uint64_t (segrunov\w+)\(", read("include/segrunov.h"), re.M)
     numbers = dict(re.findall(r"^#define SEGRUNOV_(\w+) UINT32_C\((\d+)\)", read("include/segrunov.h"), re.M))
     bad = [line for name, number in numbers.items() for line in wrong(name, number)]
     bad += [f"include/segrunov.h does not define SEGRUNOV_{name}" for name in DEFINED if name not in numbers]
-    finish(bad, f"include/segrunov.h: {len(numbers)} numbers, each as in the definitions")
+    bad += [line for call in calls for line in unmeasured(call)]
+    finish(bad, f"include/segrunov.h: {len(numbers)} numbers, each as in the definitions; {len(calls)} calls, each measured")
 
 
 main()

@@ -65,9 +65,13 @@ class Types:
 
     def __init__(self, program):
         self.named = {}
-        for _, name, body in (pair for pair in within(program, "pair") if isinstance(pair[2], list)):
-            parts = [body[1]] if body[0] == "fields" else members(body[1])
-            self.named[name] = [kind for part in parts for kind in members(part)]
+        for pair in within(program, "pair"):
+            match pair:
+                # with a name stands a definition, or, where the type is used, its arguments
+                case [_, name, ["fields", fields]]:
+                    self.named[name] = list(members(fields))
+                case [_, name, ["variants", variants]]:
+                    self.named[name] = [kind for fields in members(variants) for kind in members(fields)]
 
     def parts(self, kind):
         """The types that a type is made of."""

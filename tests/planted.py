@@ -101,7 +101,7 @@ def priced_by(call):
 
 def used(call, result):
     """Another result of a call of the library that does nothing."""
-    return change("planted.c", rf"done\(64\)(?=; /\* {call} )", result)
+    return change("planted.c", rf"done\(64\)(?=; /\* segrunov_{call} )", result)
 
 
 RESTS = "AT/proofs/Lib.antt:1:1: error: `rests`: `planted` was not admitted (it was rejected), so this cannot be checked"
@@ -142,6 +142,8 @@ FAULTS = {
         ("SEGRUNOV_MAX_COST is 1835008,", change("crates/page/specs/Answers.antt", r"^largestCost = .*", "largestCost = 1835009")),
         ("SEGRUNOV_SHORT is 7,", change("include/segrunov.h", r"SEGRUNOV_SHORT UINT32_C\(3\)", "SEGRUNOV_SHORT UINT32_C(7)")),
         ("SEGRUNOV_PLANTED has no definition", append("include/segrunov.h", "#define SEGRUNOV_PLANTED UINT32_C(1)\n")),
+        ("segrunov_planted, and tests/measure.c does not", append("include/segrunov.h", "uint64_t segrunov_planted(uint32_t code);\n")),
+        ("segrunov_price, and tests/measure.c does not", change("tests/measure.c", r'\{"price", call_price\}', '{"quote", call_price}')),
         ("does not define SEGRUNOV_SPENT", change("include/segrunov.h", "SEGRUNOV_SPENT UINT32_C", "SEGRUNOV_SPENT UINT64_C")),
     ],
     "changes.py": [
@@ -154,6 +156,11 @@ FAULTS = {
     "pricing.py": [
         ("segrunov_price is lent", change(FIRMWARE, r"(?<=_price\(\n    code: u32,\n    bytes: u32,\n    strips: u32,\n    page: &)", "mut ")),
         ("segrunov2_price is lent", append(FIRMWARE, '\n#[no_mangle]\npub extern "C" fn segrunov2_price(page: &mut [u8]) {}\n')),
+        (
+            "price_planted is lent",
+            append(WRITING, "\npub struct Lent<'a> {\n    pub kept: &'a mut [u8],\n}\n\npub fn price_planted(lent: Lent) {}\n"),
+        ),
+        ("price_planted calls itself", append(WRITING, "\npub fn price_planted(n: u32) {\n    price_planted(n / 2);\n}\n")),
         (
             "price_strip is lent",
             {**priced_by(f"price_strip({STRIP}, &mut kept)"), **change(BACKWARD, r"(?<=data: &\[u8\])(?=\) -> Outcome)", ", kept: &mut [u8; 64]")},
@@ -245,7 +252,7 @@ static uint64_t done(size_t bytes)
     return SEGRUNOV_DONE;
 }
 """
-CALLS = re.findall(r"^(uint64_t segrunov_(\w+)\(.*\));$", read("include/segrunov.h"), re.M)
+CALLS = re.findall(r"^(uint64_t (segrunov\w+)\(.*\));$", read("include/segrunov.h"), re.M)
 
 STAND_INS = {
     "bin/rt": '#!/bin/sh\nmkdir -p target/staticlib && : > target/staticlib/libfirmware.a\n'

@@ -6,6 +6,7 @@ and all that these call.
 2. A `&mut` leads to an array that `price_strip` itself keeps, and to nothing else.
 3. The arrays that are kept in memory are those of KEPT, and those that are only passed by value have the types of these. KEPT says of each
    array what it has a place for, one of PLACES: a stage or a cell is not among them.
+4. No function calls itself, directly or by others: the frames of such calls would be an array too.
 """
 import collections
 import re
@@ -55,14 +56,14 @@ def reached(functions, names):
 
 
 def lent(f, types):
-    """Rule 1."""
+    """Faults by rule 1."""
     for n in range(1, f.parameters + 1):
         if types.mutable(f.locals[n]):
             yield f"{f.name} is lent something that it may change, its parameter {n} (rule 1)"
 
 
 def led_elsewhere(f, types):
-    """Rule 2. Where a `&mut` leads that was lent is judged in the caller, and rule 1 says that the first caller is lent none."""
+    """Faults by rule 2. Where a `&mut` leads that was lent is judged in the caller, and rule 1 says that the first caller is lent none."""
     keeper = f.name.split("::")[-1] == "price_strip"
     targets = {n for local, kind in enumerate(f.locals) if types.mutable(kind) for how, n in f.leads[local] if how == "own"}
     for n in sorted(targets):
@@ -76,25 +77,33 @@ def kept(f, types):
     return collections.Counter(text for stored, text in arrays if stored), {text for stored, text in arrays if not stored}
 
 
-def main():
-    functions, types = mir.functions()
-    prices = [name for name in functions if is_price(name)]
-    held = reached(functions, prices)
-    bad = [line for name in prices for line in lent(functions[name], types)]
-    bad += [line for f in held for line in led_elsewhere(f, types)]
+def other_arrays(held, types):
+    """Faults by rule 3."""
+    types_named = {text for _, text in KEPT}
     found = {}
     for f in held:
         stored, passed = kept(f, types)
         found |= {(f.name, text): count for text, count in stored.items()}
-        bad += [f"{f.name} has {text}, the type of no array that is named (rule 3)" for text in passed - {text for _, text in KEPT}]
+        yield from (f"{f.name} has {text}, the type of no array that is named (rule 3)" for text in passed - types_named)
     for name, text in sorted(found.keys() | KEPT.keys()):
         count, there = KEPT.get((name, text), (0, None))[0], found.get((name, text), 0)
         if there != count:
-            bad.append(f"{name} keeps {text} {there} times, and {count} are named (rule 3)")
+            yield f"{name} keeps {text} {there} times, and {count} are named (rule 3)"
     for (name, text), (_, place) in KEPT.items():
         if not text.endswith(f"; {PLACES[place]}]"):
-            bad.append(f"{name}: {text} has no place for {place}, of which there are {PLACES[place]} (rule 3)")
-    finish(bad, f"pricing: {len(prices)} functions that price, {len(held)} with what they call; {sum(found.values())} arrays, each named")
+            yield f"{name}: {text} has no place for {place}, of which there are {PLACES[place]} (rule 3)"
+
+
+def main():
+    functions, types = mir.functions()
+    prices = [f for name, f in functions.items() if is_price(name)]
+    held = reached(functions, (f.name for f in prices))
+    bad = [line for f in prices for line in lent(f, types)]
+    bad += [line for f in held for line in led_elsewhere(f, types)]
+    bad += other_arrays(held, types)
+    bad += [f"{f.name} calls itself (rule 4)" for f in held if f in reached(functions, f.calls)]
+    named = sum(count for count, _ in KEPT.values())
+    finish(bad, f"pricing: {len(prices)} functions that price, {len(held)} with what they call; {named} arrays, each named")
 
 
 main()
