@@ -1,6 +1,7 @@
--- The laws of demand 3: parts of a page, its reading, its strips one after the other, its levels, and what a write picks.
+-- The laws of demand 3: parts of a page, its reading, its strips one after the other, its levels, what a write picks, and what does not depend on the weights.
 pub mod Jobs
 pub mod Reading
 pub mod Strips
 pub mod Levels
 pub mod Demand
+pub mod Weights

@@ -4,12 +4,13 @@ use page::Answer;
 use page::Completion;
 use page::answers;
 ghost use mathlib.Core.Path.{_≡_};
+ghost use mathlib.Core.List.{[], _∷_};
 ghost use Prim.Native.Nat.{_+_, _*_, _%_, _≤_};
 ghost use lib.ListN.{length, replicate};
 ghost use Rattle.cells.specs.Climbs.{house};
 ghost use Rattle.page.specs.Reading.{readPage};
 ghost use Rattle.refusals.specs.Refusals.{shapeGround, eraseGround, first-of, ground, numbered, completionOf};
-ghost use Rattle.page.specs.Answers.{kept, answerOf, pageOf, largestCost};
+ghost use Rattle.page.specs.Answers.{kept, answerOf, pageOf, largestCost, largestWeightedCost};
 ghost use Rattle.page.specs.Promise.{Wrote};
 ghost use Rattle.firmware.specs.Words.{answerWord, completionWord};
 
@@ -80,6 +81,49 @@ pub extern "C" fn segrunov_write(
     ensures { λ r. ⌜ r % 4294967296 ≤ largestCost ⌝ }
 {
     answer_word(page::writing::write(code, bytes, strips, page, data))
+}
+
+// What a write of the same data with these weights would answer; nothing is changed.
+#[no_mangle]
+pub extern "C" fn segrunov_price_weighted(
+    code: u32,
+    bytes: u32,
+    strips: u32,
+    w1: u8,
+    w2: u8,
+    w3: u8,
+    page: &[u8],
+    data: &[u8],
+) -> u64
+    ensures { λ r. ⌜ r ≡ answerWord (answerOf (w1 ∷ w2 ∷ w3 ∷ []) code bytes strips (now (page .entry)) (now («data» .entry))) ⌝ }
+    ensures { λ _. ⌜ Wrote (w1 ∷ w2 ∷ w3 ∷ []) code bytes strips (now (page .entry)) (now («data» .entry)) (pageOf (w1 ∷ w2 ∷ w3 ∷ []) code bytes strips (now (page .entry)) (now («data» .entry))) (answerOf (w1 ∷ w2 ∷ w3 ∷ []) code bytes strips (now (page .entry)) (now («data» .entry))) ⌝ }
+    ensures { λ r. ⌜ r % 4294967296 ≤ largestWeightedCost ⌝ }
+{
+    answer_word(page::writing::price_weighted(
+        code, bytes, strips, w1, w2, w3, page, data,
+    ))
+}
+
+// Writes the data at the least cost in these weights.
+#[no_mangle]
+pub extern "C" fn segrunov_write_weighted(
+    code: u32,
+    bytes: u32,
+    strips: u32,
+    w1: u8,
+    w2: u8,
+    w3: u8,
+    page: &mut [u8],
+    data: &[u8],
+) -> u64
+    ensures { λ r. ⌜ r ≡ answerWord (answerOf (w1 ∷ w2 ∷ w3 ∷ []) code bytes strips (now (page .entry)) (now («data» .entry))) ⌝ }
+    ensures { λ _. ⌜ now (page .exit) ≡ pageOf (w1 ∷ w2 ∷ w3 ∷ []) code bytes strips (now (page .entry)) (now («data» .entry)) ⌝ }
+    ensures { λ _. ⌜ Wrote (w1 ∷ w2 ∷ w3 ∷ []) code bytes strips (now (page .entry)) (now («data» .entry)) (now (page .exit)) (answerOf (w1 ∷ w2 ∷ w3 ∷ []) code bytes strips (now (page .entry)) (now («data» .entry))) ⌝ }
+    ensures { λ r. ⌜ r % 4294967296 ≤ largestWeightedCost ⌝ }
+{
+    answer_word(page::writing::write_weighted(
+        code, bytes, strips, w1, w2, w3, page, data,
+    ))
 }
 
 // Makes every byte of the page 0 at a temperature from 50 to 400 tenths of a degree.

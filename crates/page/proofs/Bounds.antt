@@ -1,12 +1,12 @@
--- What a write cannot do, with any weights of three bytes that are not free: raise a cell by more than one, or cost more than the dearest
--- step for each cell.
---   write-near      no cell rises by more than one
---   write-most      the cost is at most the dearest step for each cell
---   write-largest   so at most 65,536 times that
---   house-largest   which is 1,835,008 with the house's weights
---   value-most      and no answer has a greater value
+-- What a write cannot do, with any weights of three bytes: raise a cell by more than one, or cost more than the dearest step for each cell.
+--   write-near         no cell rises by more than one
+--   write-most         the cost is at most the dearest step for each cell
+--   write-largest      so at most 65,536 times that
+--   value-most         and no answer has a greater value
+--   house-largest      which is 1,835,008 with the house's weights
+--   weighted-largest   and 16,711,680 with any
 use mathlib.Core.Path.{_≡_, refl, sym}
-use mathlib.Core.List.{List}
+use mathlib.Core.List.{List, [], _∷_}
 use mathlib.Core.Option.{Option, none, some}
 use Prim.Native.Nat.{ℕ, zero, suc, _<_, _≤_, _*_, _-_}
 use native.Mathlib.Omega.{arith}
@@ -21,27 +21,34 @@ use Rattle.cells.proofs.Climbs.{climb-stay, climb-step}
 use Rattle.codes.specs.Layouts.{oneBit, cellCount}
 use Rattle.codes.proofs.Layouts.{oneBit-cells}
 use Rattle.search.specs.Best.{Solution}
-use Rattle.search.specs.Strip.{Dear, stepsOf}
 use Rattle.search.specs.Levels.{levelAt}
-use Rattle.search.proofs.Parity.{house-dear}
 use Rattle.demand.specs.Demand.{jobCost}
 use Rattle.demand.specs.Computed.{pageWrite}
 use Rattle.demand.proofs.Demand.{solution-raised}
-use Rattle.refusals.specs.Refusals.{ground, numbered}
-use Rattle.page.specs.Answers.{callPage, jobPage, jobOf, pageOf, answerOf, valueOf, largestCost}
+use Rattle.refusals.specs.Refusals.{writeGround, numbered}
+use Rattle.page.specs.Answers.{callPage, jobPage, jobOf, pageOf, answerOf, valueOf, largestCost, largestWeightedCost}
 use Rattle.page.specs.Promise.{Wrote, done, spent}
 use Rattle.refusals.specs.declared.Refusal.{Refusal}
 use Rattle.page.specs.declared.Answer.{Answer}
 use Rattle.page.specs.declared.Answer.the-variants as A
-use Rattle.refusals.proofs.Refusals.{in-order, one-to-64}
-use Rattle.page.proofs.Promise.{numbered-suits, job-in-order, wrote}
+use Rattle.refusals.proofs.Refusals.{weighted-in-order, one-to-64}
+use Rattle.page.proofs.Promise.{numbered-suits, job-in-order, dear-by, wrote}
 use Rattle.page.proofs.Plans.{page-near}
 
--- three bytes, none of them 0
+-- three bytes
 pub record Weights (W : List ℕ) : Type 0 where
   pub three : length W ≡ 3
   pub bytes : (i : ℕ) → getD W i 0 ≤ 255
-  pub dear : Dear (stepsOf W)
+
+-- any three
+pub three-weights : (a b c : ℕ) → a ≤ 255 → b ≤ 255 → c ≤ 255 → Weights (a ∷ b ∷ c ∷ [])
+three-weights a b c x y z = record { three = refl; bytes = go }
+  where
+    go : (i : ℕ) → getD (a ∷ b ∷ c ∷ []) i 0 ≤ 255
+    go zero = x
+    go (suc zero) = y
+    go (suc (suc zero)) = z
+    go (suc (suc (suc i))) = omega arith
 
 -- a climb of at most one level costs at most the dearest step
 climb-most : (weight : ℕ → ℕ) (w : ℕ) → ((l : ℕ) → weight l ≤ w) → (from to : ℕ) → from ≤ to → to ≤ suc from → climb weight from to ≤ w
@@ -55,17 +62,18 @@ module _ (W : List ℕ) (K : Weights W) (code L S : ℕ) (before content : List 
   -- NO CELL RISES BY MORE THAN ONE in a write
   pub write-near : (c : ℕ) → c < cellCount oneBit L * S → level (pageOf W code L S before content) c ≤ suc (level before c)
   unfolding pageOf jobPage
-  write-near c h = go (ground code L S (length before) (length content)) refl (pageWrite (jobOf W code L S before content)) refl
+  write-near c h = go (writeGround W code L S (length before) (length content)) refl (pageWrite (jobOf W code L S before content)) refl
     where
-      go : (g : Option Refusal) → ground code L S (length before) (length content) ≡ g → (w : Option Solution)
+      go : (g : Option Refusal) → writeGround W code L S (length before) (length content) ≡ g → (w : Option Solution)
           → pageWrite (jobOf W code L S before content) ≡ w
           → level (callPage g w (λ a. raisedTo (startIn (cellCount oneBit L)) before (levelAt (a .levels))) before) c ≤ suc (level before c)
       go (some r) e w f = omega arith
       go none e none f = omega arith
       go none e (some a) f =
           rw (solution-raised (jobOf W code L S before content) (job-in-order W code L S before content b e) a f c h)
-          (page-near (numbered code) W (numbered-suits code W (K .three) (K .bytes)) (K .dear) L S
-          (one-to-64 L (in-order code L S (length before) (length content) e .0) .1) before content a f c h)
+          (page-near (numbered code) W (numbered-suits code W (K .three) (K .bytes))
+          (dear-by W code L S (length before) (length content) e) L S
+          (one-to-64 L (weighted-in-order W code L S (length before) (length content) e .0) .1) before content a f c h)
 
   -- THE COST of a write is at most w for each cell, where no step costs more
   module _ (w : ℕ) (most : (l : ℕ) → weightOf W l ≤ w) (cost : ℕ) (answer : answerOf W code L S before content ≡ A.Done cost) where
@@ -91,12 +99,24 @@ module _ (W : List ℕ) (K : Weights W) (code L S : ℕ) (before content : List 
       where
         go : Wrote W code L S before content (pageOf W code L S before content) (A.Done cost) → cost ≤ 65536 * w
         go (done g p) =
-            let i = in-order code L S (length before) (length content) g in
+            let i = weighted-in-order W code L S (length before) (length content) g in
             let m : L * S ≤ 64 * 64 = mul-le-mul (one-to-64 L (i .0) .1) (one-to-64 S (i .1) .1) in
             let n : 16 * L * S ≤ 65536 = omega arith in
             let q : 16 * L * S * w ≤ 65536 * w = mul-le-mul {n₁ = 16 * L * S} {m₁ = w} {n₂ = 65536} {m₂ = w} n (omega arith) in
             let r : cost ≤ 16 * L * S * w = rw (oneBit-cells L) at write-most in
             omega arith
+
+-- NO ANSWER HAS A GREATER VALUE, where no step costs more than w: the cost is at most that, and the number of a spent strip is below 64
+pub value-most : (W : List ℕ) → Weights W → (w : ℕ) → 0 < w → ((l : ℕ) → weightOf W l ≤ w) → (code L S : ℕ) (before content : List ℕ)
+    → Octets content → {r : Answer} → r ≡ answerOf W code L S before content → valueOf r ≤ 65536 * w
+value-most W K w p most code L S before content b {r} e = go r (sym e) (rw (sym e) at (wrote W code L S before content b))
+  where
+    go : (a : Answer) → answerOf W code L S before content ≡ a
+        → Wrote W code L S before content (pageOf W code L S before content) a → valueOf a ≤ 65536 * w
+    go (A.Done cost) f q = write-largest W K code L S before content b w most cost f
+    go (A.Spent k) f (spent g q h) =
+        omega (arith, q .inside, one-to-64 S (weighted-in-order W code L S (length before) (length content) g .1) .1)
+    go (A.Refused r) f q = omega arith
 
 -- THE HOUSE'S WEIGHTS: a step costs at most 28
 house-most : (l : ℕ) → weightOf house l ≤ 28
@@ -106,23 +126,13 @@ house-most (suc zero) = omega arith
 house-most (suc (suc zero)) = omega arith
 house-most (suc (suc (suc l))) = omega arith
 
--- they are three bytes, none of them 0
-pub house-weights : Weights house
-unfolding weightOf
-house-weights = record { three = refl; bytes = λ i. omega (arith, house-most i); dear = house-dear }
-
 -- 'One write of the largest page costs at most 1,835,008.'
-pub house-largest : (code L S : ℕ) (before content : List ℕ) → Octets content → (cost : ℕ)
-    → answerOf house code L S before content ≡ A.Done cost → cost ≤ largestCost
-house-largest code L S before content b cost e = write-largest house house-weights code L S before content b 28 house-most cost e
-
--- NO ANSWER OF A CALL HAS A GREATER VALUE: the cost is at most that, and the number of a spent strip is below 64
-pub value-most : (code L S : ℕ) (before content : List ℕ) → Octets content → {r : Answer}
+pub house-largest : (code L S : ℕ) (before content : List ℕ) → Octets content → {r : Answer}
     → r ≡ answerOf house code L S before content → valueOf r ≤ largestCost
-value-most code L S before content b {r} e = go r (sym e) (rw (sym e) at (wrote house code L S before content b))
-  where
-    go : (a : Answer) → answerOf house code L S before content ≡ a
-        → Wrote house code L S before content (pageOf house code L S before content) a → valueOf a ≤ largestCost
-    go (A.Done cost) f p = house-largest code L S before content b cost f
-    go (A.Spent k) f (spent g p h) = omega (arith, p .inside, one-to-64 S (in-order code L S (length before) (length content) g .1) .1)
-    go (A.Refused r) f p = omega arith
+house-largest = value-most house (three-weights 16 20 28 (omega arith) (omega arith) (omega arith)) 28 (omega arith) house-most
+
+-- ANY WEIGHTS: a step costs at most 255, and 'one write of the largest page then costs at most 16,711,680'
+pub weighted-largest : (W : List ℕ) → Weights W → (code L S : ℕ) (before content : List ℕ) → Octets content → {r : Answer}
+    → r ≡ answerOf W code L S before content → valueOf r ≤ largestWeightedCost
+unfolding weightOf
+weighted-largest W K = value-most W K 255 (omega arith) (K .bytes)

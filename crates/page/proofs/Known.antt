@@ -40,7 +40,7 @@ use Rattle.demand.specs.Reading.{stripLevels, readBy}
 use Rattle.demand.specs.Demand.{jobCost}
 use Rattle.demand.specs.Computed.{stripBytes, stripWrite, pageWrite, spentStrip}
 use Rattle.refusals.specs.Refusals.{oneTo64, isCode, codeGround, bytesGround, stripsGround, limitsGround, sizesGround, pageGround}
-use Rattle.refusals.specs.Refusals.{dataGround, ground, numbered}
+use Rattle.refusals.specs.Refusals.{dataGround, freeStep, weightsGround, lengthsGround, writeGround, numbered}
 use Rattle.page.specs.Reading.{readPage}
 use Rattle.page.specs.Answers.{callAnswer, callPage, jobAnswer, jobPage, jobOf, answerOf, pageOf}
 use Rattle.page.specs.Known.{Case, Expected, reads, done, also, spent, Expects, Says, cases}
@@ -67,26 +67,26 @@ module _ (code L S : ℕ) (page content : List ℕ) where
   -- a call of write, evaluated
   unfoldable pub answerTabled : Answer
   answerTabled =
-      callAnswer (ground code L S (length page) (length content)) (all stripTabled (listOf S (λ k. k)))
+      callAnswer (writeGround house code L S (length page) (length content)) (all stripTabled (listOf S (λ k. k)))
       (first-none stripTabled (listOf S (λ k. k)))
 
   unfoldable pub pageTabled : List ℕ
   pageTabled =
-      callPage (ground code L S (length page) (length content)) (all stripTabled (listOf S (λ k. k)))
+      callPage (writeGround house code L S (length page) (length content)) (all stripTabled (listOf S (λ k. k)))
       (λ a. raisedTo (startIn (cellCount oneBit L)) page (levelAt (a .levels))) page
 
   -- THE EVALUATED DEFINITION IS THE ONE OF DEMAND 3: the answer
   pub answer-tabled : answerOf house code L S page content ≡ answerTabled
   unfolding answerOf jobAnswer answerTabled pageWrite spentStrip
   answer-tabled =
-      ap (λ (w : ℕ → Option Solution). callAnswer (ground code L S (length page) (length content)) (all w (listOf S (λ k. k)))
+      ap (λ (w : ℕ → Option Solution). callAnswer (writeGround house code L S (length page) (length content)) (all w (listOf S (λ k. k)))
       (first-none w (listOf S (λ k. k)))) strip-tabled
 
   -- and the page
   pub page-tabled : pageOf house code L S page content ≡ pageTabled
   unfolding pageOf jobPage pageTabled pageWrite
   page-tabled =
-      ap (λ (w : ℕ → Option Solution). callPage (ground code L S (length page) (length content)) (all w (listOf S (λ k. k)))
+      ap (λ (w : ℕ → Option Solution). callPage (writeGround house code L S (length page) (length content)) (all w (listOf S (λ k. k)))
       (λ a. raisedTo (startIn (cellCount oneBit L)) page (levelAt (a .levels))) page) strip-tabled
 
 -- TESTS. Whether an answer is done with this cost, or spent with this strip
@@ -167,8 +167,8 @@ all-say (c ∷ cs) e = let p = and-both _ _ e in and-each (says c (c .expected) 
 table-passes : allPass cases ≡ true
 unfolding allPass passes isDone isSpent sameList answerTabled pageTabled stripTabled write-table table step look grow stages labels
     quotient register push dot branch next wanted sums joined better beats before lexltb parity-choice keep-or-raise odd weightOf
-    cellsOf encoderOf digit listOf bitOf level dataBits stripCells stageCount cellCount byteCount part all first-none numbered ground
-    isCode codeGround limitsGround sizesGround bytesGround stripsGround pageGround dataGround oneTo64 startIn startOf raisedTo bytesOf
+    cellsOf encoderOf digit listOf bitOf level dataBits stripCells stageCount cellCount byteCount part all first-none numbered writeGround
+    weightsGround freeStep lengthsGround isCode codeGround limitsGround sizesGround bytesGround stripsGround pageGround dataGround oneTo64 startIn startOf raisedTo bytesOf
     number raisedTimes raise zeroFrom triple levelAt readPage readBy stripLevels dataBit sumBit codeBit sumOf ago costOf climb
 table-passes = refl
 

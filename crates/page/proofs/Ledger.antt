@@ -20,7 +20,7 @@ use Rattle.page.specs.Promise.{Wrote, done, spent, refused}
 use Rattle.page.specs.Ledger.{cellsOn, raisesMade, Event, raised, erased, looked, Fair, fair-raise, fair-erase, fair-look, pageAfter, counted, Call, write, erase, look, erasing, eventOf, played, tallied}
 use Rattle.refusals.specs.declared.Refusal.{Refusal}
 use Rattle.page.specs.declared.Answer.{Answer}
-use Rattle.refusals.proofs.Refusals.{in-order}
+use Rattle.refusals.proofs.Refusals.{weighted-in-order}
 use Rattle.page.proofs.Promise.{wrote}
 
 -- ERASED PAGES. Every level is 0
@@ -65,7 +65,7 @@ all-cells L S page e = omega arith
 write-fair : (W : List ℕ) (code L S : ℕ) (before content after : List ℕ) (r : Answer) → Wrote W code L S before content after r
     → Fair 0 before (raised after)
 write-fair W code L S before content after r (done e p) =
-    let i = in-order code L S (length before) (length content) e in
+    let i = weighted-in-order W code L S (length before) (length content) e in
     let s : length before ≡ 6 * L * S = rw (oneBit-bytes L) at (i .2) in
     fair-raise (p .could .size) (λ c h. p .could .no-lower c (rw (oneBit-cells L) (rw (all-cells L S before s) at h)))
 write-fair W code L S before content after r (spent e p f) = fair-raise {after = after} (ap length f) (λ c h. rw f (omega arith))

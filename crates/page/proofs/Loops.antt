@@ -16,7 +16,6 @@ use native.Mathlib.Nat.{not-suc-le-zero, add-sub-cancel-left, sub-zero, mul-le-m
 use lib.ListN.{length, take, drop, length-append}
 use lib.Seq.{drop-drop, take-at, drop-at, length-take-le}
 use Rattle.cells.specs.Bytes.{Octets}
-use Rattle.cells.specs.Climbs.{house}
 use Rattle.cells.specs.Raising.{startOf, startIn, raisedTo}
 use Rattle.cells.proofs.Raising.{raisedTo-length}
 use Rattle.cells.proofs.Parts.{within}
@@ -37,7 +36,7 @@ use Rattle.demand.specs.Computed.{stripWrite, pageWrite, spentStrip}
 use Rattle.demand.proofs.Jobs.{part-length}
 use Rattle.page.specs.Shape.{stripOf, Sized}
 use Rattle.page.specs.Totals.{noTotal, added, totalFrom, answerFor}
-use Rattle.refusals.specs.Refusals.{ground, numbered, completionOf}
+use Rattle.refusals.specs.Refusals.{writeGround, numbered, completionOf}
 use Rattle.page.specs.Answers.{callAnswer, callPage, plainJob, jobAnswer, jobPage, answerOf, pageOf}
 use Rattle.page.specs.Promise.{Wrote}
 use Rattle.page.specs.Plans.{stripPart, Planned, Carried}
@@ -48,10 +47,10 @@ use Rattle.page.specs.declared.Answer.the-variants as A
 use Rattle.refusals.specs.declared.Completion.{Completion}
 use Rattle.refusals.specs.declared.Completion.the-variants as C
 use Rattle.page.proofs.Strips.{strip-there, part-more, lent-length, stored-length}
-use Rattle.refusals.proofs.Refusals.{one-to-64, in-order, done-none, refused-some}
+use Rattle.refusals.proofs.Refusals.{one-to-64, weighted-in-order, done-none, refused-some}
 use Rattle.page.proofs.Totals.{page-answers, total-spent, total-same}
 use Rattle.page.proofs.Plans.{write-same, strip-below, carried-page}
-use Rattle.page.proofs.Promise.{wrote}
+use Rattle.page.proofs.Promise.{dear-by, wrote}
 
 -- LENT PARTS. The part that a turn lends
 lent : (L k : ℕ) (x : List ℕ) → take (L * k + L - L * k) (drop (L * k) x) ≡ part L k x
@@ -293,49 +292,53 @@ module _ {G : Generators} {W : List ℕ} (K : Suits G W) (D : Dear (stepsOf W)) 
       go none h = let z : _≡_ {A = ℕ} 0 1 = cc in omega arith
       go (some a) h = let z : _≡_ {A = ℕ} 0 1 = cc in omega arith
 
--- THE CALLS. What `judge` answered
-pub record Judged (code L S : ℕ) (before content : List ℕ) (j : Completion) : Type 0 where
-  pub by : j ≡ completionOf (ground code L S (length before) (length content))
+-- THE CALLS. What `judge_write` answered
+pub record Judged (W : List ℕ) (code L S : ℕ) (before content : List ℕ) (j : Completion) : Type 0 where
+  pub by : j ≡ completionOf (writeGround W code L S (length before) (length content))
 
-module _ {code L S : ℕ} {before content : List ℕ} {j : Completion} (J : Judged code L S before content j) where
+module _ {W : List ℕ} {code L S : ℕ} {before content : List ℕ} {j : Completion} (J : Judged W code L S before content j) where
   -- where it is done there is no ground
-  no-ground : j ≡ C.Done → ground code L S (length before) (length content) ≡ none
+  no-ground : j ≡ C.Done → writeGround W code L S (length before) (length content) ≡ none
   no-ground e = done-none _ (sym (J .by) ∙ e)
 
   -- so the call is in order
   pub sized-by : j ≡ C.Done → Sized oneBit L S before content
   sized-by e =
-      let i = in-order code L S (length before) (length content) (no-ground e) in
+      let i = weighted-in-order W code L S (length before) (length content) (no-ground e) in
       record { bytes-in = i .0; strips-in = i .1; page-is = i .2; data-is = i .3 }
 
-  -- answers as its strips do
-  pub in-order-answer : j ≡ C.Done → {G : Generators} {W : List ℕ} {r : Answer} → G ≡ numbered code → W ≡ house
-      → r ≡ jobAnswer none (plainJob G W L S before content) → r ≡ answerOf house code L S before content
+  -- no step is free
+  pub judged-dear : j ≡ C.Done → Dear (stepsOf W)
+  judged-dear e = dear-by W code L S (length before) (length content) (no-ground e)
+
+  -- it answers as its strips do
+  pub in-order-answer : j ≡ C.Done → {G : Generators} {r : Answer} → G ≡ numbered code
+      → r ≡ jobAnswer none (plainJob G W L S before content) → r ≡ answerOf W code L S before content
   unfolding answerOf
-  in-order-answer e g w f = rw (no-ground e, ← g, ← w) f
+  in-order-answer e g f = rw (no-ground e, ← g) f
 
   -- and leaves the page that they do
-  pub in-order-page : j ≡ C.Done → {G : Generators} {W after : List ℕ} → G ≡ numbered code → W ≡ house
-      → after ≡ jobPage none (plainJob G W L S before content) → after ≡ pageOf house code L S before content
+  pub in-order-page : j ≡ C.Done → {G : Generators} {after : List ℕ} → G ≡ numbered code
+      → after ≡ jobPage none (plainJob G W L S before content) → after ≡ pageOf W code L S before content
   unfolding pageOf
-  in-order-page e g w f = rw (no-ground e, ← g, ← w) f
+  in-order-page e g f = rw (no-ground e, ← g) f
 
   -- where it is refused, that is the ground
-  the-ground : {q : Refusal} → j ≡ C.Refused q → ground code L S (length before) (length content) ≡ some q
+  the-ground : {q : Refusal} → j ≡ C.Refused q → writeGround W code L S (length before) (length content) ≡ some q
   the-ground e = refused-some _ (sym (J .by) ∙ e)
 
   -- and the answer
-  pub refused-answer : {q : Refusal} → j ≡ C.Refused q → A.Refused q ≡ answerOf house code L S before content
+  pub refused-answer : {q : Refusal} → j ≡ C.Refused q → A.Refused q ≡ answerOf W code L S before content
   unfolding answerOf jobAnswer
   refused-answer e = rw (the-ground e)
 
   -- and nothing is changed
-  pub refused-page : {q : Refusal} → j ≡ C.Refused q → before ≡ pageOf house code L S before content
+  pub refused-page : {q : Refusal} → j ≡ C.Refused q → before ≡ pageOf W code L S before content
   unfolding pageOf jobPage
   refused-page e = rw (the-ground e)
 
 -- such an answer and such a page keep the promise
-pub kept-by : (code L S : ℕ) (before content : List ℕ) {after : List ℕ} {r : Answer} → Octets content
-    → after ≡ pageOf house code L S before content
-    → r ≡ answerOf house code L S before content → Wrote house code L S before content after r
-kept-by code L S before content b p e = rw (p, e) (wrote house code L S before content b)
+pub kept-by : (W : List ℕ) (code L S : ℕ) (before content : List ℕ) {after : List ℕ} {r : Answer} → Octets content
+    → after ≡ pageOf W code L S before content
+    → r ≡ answerOf W code L S before content → Wrote W code L S before content after r
+kept-by W code L S before content b p e = rw (p, e) (wrote W code L S before content b)

@@ -3,9 +3,10 @@
 --   numbered-sound, oneBit-whole    both codes and every L go with one bit a cell
 --   job-in-order, wrote             so the calls' jobs keep it, with any weights
 --   page-length                     a write keeps the page's length
+--   spent-any-weights               whether a page is spent does not depend on the weights
 --   could-done                      a call with no ground is done where some page could be
 --   done-not-spent, spent-no-page   spent exactly when there is no page
-use mathlib.Core.Path.{_≡_, refl}
+use mathlib.Core.Path.{_≡_, refl, sym, _∙_, ap}
 use mathlib.Core.Bool.{Bool, true, false, cond}
 use mathlib.Core.List.{List}
 use mathlib.Core.Option.{Option, none, some}
@@ -22,6 +23,7 @@ use Rattle.codes.specs.Encoders.{Proper}
 use Rattle.codes.proofs.Codes.{short-proper, long-proper}
 use Rattle.codes.proofs.Layouts.{oneBit-stages, oneBit-cells, oneBit-bytes}
 use Rattle.search.specs.Best.{Solution}
+use Rattle.search.specs.Strip.{Dear, stepsOf}
 use Rattle.search.specs.Levels.{levelAt}
 use Rattle.search.specs.Layouts.{Sound}
 use Rattle.search.proofs.OneBit.{Both}
@@ -31,13 +33,14 @@ use Rattle.demand.specs.Jobs.{Job, width, Whole, InOrder}
 use Rattle.demand.specs.Demand.{Could}
 use Rattle.demand.specs.Computed.{pageWrite, spentStrip}
 use Rattle.demand.proofs.Demand.{cheapest, spent-at}
-use Rattle.refusals.specs.Refusals.{ground, numbered}
+use Rattle.demand.proofs.Weights.{could-any-weights, spent-any-strip, spent-once}
+use Rattle.refusals.specs.Refusals.{weightsGround, writeGround, numbered}
 use Rattle.page.specs.Answers.{callAnswer, callPage, jobAnswer, jobPage, jobOf, answerOf, pageOf}
 use Rattle.page.specs.Promise.{Promised, Wrote, done, spent, refused}
 use Rattle.refusals.specs.declared.Refusal.{Refusal}
 use Rattle.page.specs.declared.Answer.{Answer}
 use Rattle.page.specs.declared.Answer.the-variants as A
-use Rattle.refusals.proofs.Refusals.{in-order}
+use Rattle.refusals.proofs.Refusals.{weights-dear, no-free-step, permitted-ground, weighted-in-order}
 
 -- ANY JOB that is in order where it has no ground
 pub promise-kept : (g : Option Refusal) (J : Job) → (g ≡ none → InOrder J) → Promised g J (jobPage g J) (jobAnswer g J)
@@ -84,25 +87,29 @@ numbered-suits code W three bytes =
 
 -- A CALL without a ground is in order
 pub job-in-order : (W : List ℕ) (code L S : ℕ) (before content : List ℕ) → Octets content
-    → ground code L S (length before) (length content) ≡ none
+    → writeGround W code L S (length before) (length content) ≡ none
     → InOrder (jobOf W code L S before content)
 job-in-order W code L S before content b e =
-    let i = in-order code L S (length before) (length content) e in
+    let i = weighted-in-order W code L S (length before) (length content) e in
     record { sound = numbered-sound code; whole = oneBit-whole L; page-is = i .2; data-is = i .3; octets = b }
+
+-- and none of its steps is free
+pub dear-by : (W : List ℕ) (code L S page content : ℕ) → writeGround W code L S page content ≡ none → Dear (stepsOf W)
+dear-by W code L S page content e = record { dear = weights-dear W (no-free-step W code L S page content e) }
 
 -- so the computed answer and page keep the promise, with any weights
 pub wrote : (W : List ℕ) (code L S : ℕ) (before content : List ℕ) → Octets content
     → Wrote W code L S before content (pageOf W code L S before content) (answerOf W code L S before content)
 unfolding pageOf answerOf
 wrote W code L S before content b =
-    promise-kept (ground code L S (length before) (length content)) (jobOf W code L S before content)
+    promise-kept (writeGround W code L S (length before) (length content)) (jobOf W code L S before content)
     (job-in-order W code L S before content b)
 
 -- A WRITE KEEPS THE PAGE'S LENGTH, whatever its answer
 pub page-length : (W : List ℕ) (code L S : ℕ) (before content : List ℕ) → length (pageOf W code L S before content) ≡ length before
 unfolding pageOf jobPage
 page-length W code L S before content =
-    go (ground code L S (length before) (length content)) (pageWrite (jobOf W code L S before content))
+    go (writeGround W code L S (length before) (length content)) (pageWrite (jobOf W code L S before content))
   where
     go : (g : Option Refusal) (w : Option Solution)
         → length (callPage g w (λ a. raisedTo (startIn (width (jobOf W code L S before content))) before (levelAt (a .levels))) before)
@@ -130,3 +137,26 @@ done-not-spent (refused {r = r} e f) g n = let z : _≡_ {A = ℕ} 0 1 = cc in a
 pub spent-no-page : {g : Option Refusal} {J : Job} {after : List ℕ} {k : ℕ} → Promised g J after (A.Spent k) → (other : List ℕ)
     → Could J other → ⊥
 spent-no-page (spent e p f) = p .no-page
+
+-- WHETHER A PAGE IS SPENT DOES NOT DEPEND ON THE WEIGHTS: spent with some weights, it is spent with any others that are permitted, and with
+-- the same strip
+pub spent-any-weights : (U W : List ℕ) → weightsGround U ≡ none → weightsGround W ≡ none → (code L S : ℕ) (before content : List ℕ)
+    → Octets content → (k : ℕ) → answerOf U code L S before content ≡ A.Spent k → answerOf W code L S before content ≡ A.Spent k
+spent-any-weights U W u w code L S before content b k e =
+    go (rw e at (wrote U code L S before content b)) _ refl (wrote W code L S before content b)
+  where
+    -- both have the grounds of a read
+    same : writeGround U code L S (length before) (length content) ≡ writeGround W code L S (length before) (length content)
+    same = permitted-ground U code L S (length before) (length content) u
+        ∙ sym (permitted-ground W code L S (length before) (length content) w)
+
+    go : Wrote U code L S before content (pageOf U code L S before content) (A.Spent k) → (r : Answer)
+        → answerOf W code L S before content ≡ r → Wrote W code L S before content (pageOf W code L S before content) r
+        → answerOf W code L S before content ≡ A.Spent k
+    go (spent f p h) r g (done i q) =
+        absurd (p .no-page _ (could-any-weights W U (jobOf U code L S before content) (q .could)))
+    go (spent f p h) r g (spent i q j) =
+        g ∙ ap A.Spent (spent-once q (spent-any-strip U W (jobOf U code L S before content) p))
+    go (spent f p h) r g (refused {r = s} i j) =
+        let z : none ≡ some s = sym f ∙ same ∙ i in
+        let y : _≡_ {A = ℕ} 0 1 = cc in absurd (omega arith)

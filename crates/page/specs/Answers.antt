@@ -4,6 +4,7 @@
 --   numberOf, valueOf    an answer's number and value in the paper
 --   answerCost           an answer's cost
 --   largestCost          the most that one write costs with the house's weights
+--   largestWeightedCost  and with any
 --   kept                 what a refusal leaves as it was
 use mathlib.Core.List.{List}
 use mathlib.Core.Option.{Option, none, some}
@@ -14,7 +15,7 @@ use Rattle.codes.specs.Generators.{Generators}
 use Rattle.codes.specs.Layouts.{oneBit}
 use Rattle.search.specs.Best.{Solution}
 use Rattle.search.specs.Levels.{levelAt}
-use Rattle.refusals.specs.Refusals.{ground, refusalNumber, numbered}
+use Rattle.refusals.specs.Refusals.{writeGround, refusalNumber, numbered}
 use Rattle.search.specs.Layouts.{unmarked}
 use Rattle.demand.specs.Jobs.{Job, width}
 use Rattle.demand.specs.Computed.{pageWrite, spentStrip}
@@ -70,11 +71,11 @@ module _ (W : List ℕ) (code L S : ℕ) (before content : List ℕ) where
 
   -- THE ANSWER of a write, and of a price
   unfoldable pub answerOf : Answer
-  answerOf = jobAnswer (ground code L S (length before) (length content)) jobOf
+  answerOf = jobAnswer (writeGround W code L S (length before) (length content)) jobOf
 
   -- THE PAGE after a write
   unfoldable pub pageOf : List ℕ
-  pageOf = jobPage (ground code L S (length before) (length content)) jobOf
+  pageOf = jobPage (writeGround W code L S (length before) (length content)) jobOf
 
 -- the number of an answer: 0, 7 where the page is spent, or the refusal's
 abbrev pub numberOf : Answer → ℕ
@@ -97,3 +98,7 @@ answerCost (A.Refused r) = 0
 -- 'One write of the largest page costs at most 1,835,008.'
 abbrev pub largestCost : ℕ
 largestCost = 1835008
+
+-- with weights from the data sheet 'one write of the largest page then costs at most 16,711,680'
+abbrev pub largestWeightedCost : ℕ
+largestWeightedCost = 16711680

@@ -8,7 +8,7 @@ use Prim.Native.Nat.{ℕ}
 use lib.ListN.{length}
 use Rattle.demand.specs.Jobs.{Job}
 use Rattle.demand.specs.Demand.{Cheapest, SpentAt}
-use Rattle.refusals.specs.Refusals.{ground}
+use Rattle.refusals.specs.Refusals.{writeGround}
 use Rattle.page.specs.Answers.{jobOf}
 use Rattle.refusals.specs.declared.Refusal.{Refusal}
 use Rattle.page.specs.declared.Answer.{Answer}
@@ -25,4 +25,4 @@ pub data Promised (g : Option Refusal) (J : Job) (after : List ℕ) : Answer →
 -- of a write with the weights W
 abbrev pub Wrote : (W : List ℕ) (code L S : ℕ) (before content after : List ℕ) → Answer → Type 0
 Wrote W code L S before content after r =
-    Promised (ground code L S (length before) (length content)) (jobOf W code L S before content) after r
+    Promised (writeGround W code L S (length before) (length content)) (jobOf W code L S before content) after r

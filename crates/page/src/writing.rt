@@ -10,6 +10,7 @@ use trellis::carrying::shown_pairs;
 use trellis::forward::plan_strip;
 use trellis::rows::rows_of;
 ghost use mathlib.Core.Path.{_≡_};
+ghost use mathlib.Core.List.{[], _∷_};
 ghost use mathlib.Core.Option.{none};
 ghost use Prim.Native.Nat.{_*_, _≤_};
 ghost use lib.ListN.{length};
@@ -19,7 +20,7 @@ ghost use Rattle.codes.specs.Codes.{generatorsOf};
 ghost use Rattle.codes.specs.Layouts.{oneBit};
 ghost use Rattle.search.specs.Strip.{Dear, stepsOf};
 ghost use Rattle.page.specs.Shape.{Sized};
-ghost use Rattle.page.specs.Answers.{plainJob, jobAnswer, jobPage, answerOf, pageOf, valueOf, largestCost};
+ghost use Rattle.page.specs.Answers.{plainJob, jobAnswer, jobPage, answerOf, pageOf, valueOf, largestCost, largestWeightedCost};
 ghost use Rattle.page.specs.Promise.{Wrote};
 ghost use Rattle.page.specs.Plans.{Planned, Carried};
 
@@ -161,17 +162,27 @@ fn write_strips(
     }
 }
 
-// What a write of the same data would answer; nothing is changed.
-pub fn price(code: u32, bytes: u32, strips: u32, page: &[u8], data: &[u8]) -> Answer
-    ensures { λ r. ⌜ r ≡ answerOf house code bytes strips (now (page .entry)) (now («data» .entry)) ⌝ }
-    ensures { λ r. ⌜ Wrote house code bytes strips (now (page .entry)) (now («data» .entry)) (pageOf house code bytes strips (now (page .entry)) (now («data» .entry))) r ⌝ }
-    ensures { λ r. ⌜ valueOf r ≤ largestCost ⌝ }
+// What a write of the same data with these weights would answer; nothing is changed.
+pub fn price_weighted(
+    code: u32,
+    bytes: u32,
+    strips: u32,
+    w1: u8,
+    w2: u8,
+    w3: u8,
+    page: &[u8],
+    data: &[u8],
+) -> Answer
+    ensures { λ r. ⌜ r ≡ answerOf (w1 ∷ w2 ∷ w3 ∷ []) code bytes strips (now (page .entry)) (now («data» .entry)) ⌝ }
+    ensures { λ r. ⌜ Wrote (w1 ∷ w2 ∷ w3 ∷ []) code bytes strips (now (page .entry)) (now («data» .entry)) (pageOf (w1 ∷ w2 ∷ w3 ∷ []) code bytes strips (now (page .entry)) (now («data» .entry))) r ⌝ }
+    ensures { λ r. ⌜ valueOf r ≤ largestWeightedCost ⌝ }
 {
-    let judged = refusals::judge(code, bytes, strips, page.len(), data.len());
+    let weights = [w1, w2, w3];
+    let judged = refusals::judge_write(code, bytes, strips, weights, page.len(), data.len());
     match judged {
         Completion::Done => price_strips(
             refusals::code_of(code),
-            cells::house_weights(),
+            weights,
             bytes as usize,
             strips as usize,
             page,
@@ -181,18 +192,28 @@ pub fn price(code: u32, bytes: u32, strips: u32, page: &[u8], data: &[u8]) -> An
     }
 }
 
-// Writes the data at the least cost.
-pub fn write(code: u32, bytes: u32, strips: u32, page: &mut [u8], data: &[u8]) -> Answer
-    ensures { λ r. ⌜ r ≡ answerOf house code bytes strips (now (page .entry)) (now («data» .entry)) ⌝ }
-    ensures { λ r. ⌜ now (page .exit) ≡ pageOf house code bytes strips (now (page .entry)) (now («data» .entry)) ⌝ }
-    ensures { λ r. ⌜ Wrote house code bytes strips (now (page .entry)) (now («data» .entry)) (now (page .exit)) r ⌝ }
-    ensures { λ r. ⌜ valueOf r ≤ largestCost ⌝ }
+// Writes the data at the least cost in these weights: w1 for the step from level 0 to 1, w2 from 1 to 2, w3 from 2 to 3.
+pub fn write_weighted(
+    code: u32,
+    bytes: u32,
+    strips: u32,
+    w1: u8,
+    w2: u8,
+    w3: u8,
+    page: &mut [u8],
+    data: &[u8],
+) -> Answer
+    ensures { λ r. ⌜ r ≡ answerOf (w1 ∷ w2 ∷ w3 ∷ []) code bytes strips (now (page .entry)) (now («data» .entry)) ⌝ }
+    ensures { λ r. ⌜ now (page .exit) ≡ pageOf (w1 ∷ w2 ∷ w3 ∷ []) code bytes strips (now (page .entry)) (now («data» .entry)) ⌝ }
+    ensures { λ r. ⌜ Wrote (w1 ∷ w2 ∷ w3 ∷ []) code bytes strips (now (page .entry)) (now («data» .entry)) (now (page .exit)) r ⌝ }
+    ensures { λ r. ⌜ valueOf r ≤ largestWeightedCost ⌝ }
 {
-    let judged = refusals::judge(code, bytes, strips, page.len(), data.len());
+    let weights = [w1, w2, w3];
+    let judged = refusals::judge_write(code, bytes, strips, weights, page.len(), data.len());
     match judged {
         Completion::Done => write_strips(
             refusals::code_of(code),
-            cells::house_weights(),
+            weights,
             bytes as usize,
             strips as usize,
             page,
@@ -200,4 +221,25 @@ pub fn write(code: u32, bytes: u32, strips: u32, page: &mut [u8], data: &[u8]) -
         ),
         Completion::Refused(r) => Answer::Refused(r),
     }
+}
+
+// What a write of the same data would answer; nothing is changed.
+pub fn price(code: u32, bytes: u32, strips: u32, page: &[u8], data: &[u8]) -> Answer
+    ensures { λ r. ⌜ r ≡ answerOf house code bytes strips (now (page .entry)) (now («data» .entry)) ⌝ }
+    ensures { λ r. ⌜ Wrote house code bytes strips (now (page .entry)) (now («data» .entry)) (pageOf house code bytes strips (now (page .entry)) (now («data» .entry))) r ⌝ }
+    ensures { λ r. ⌜ valueOf r ≤ largestCost ⌝ }
+{
+    let w = cells::house_weights();
+    price_weighted(code, bytes, strips, w[0], w[1], w[2], page, data)
+}
+
+// Writes the data at the least cost.
+pub fn write(code: u32, bytes: u32, strips: u32, page: &mut [u8], data: &[u8]) -> Answer
+    ensures { λ r. ⌜ r ≡ answerOf house code bytes strips (now (page .entry)) (now («data» .entry)) ⌝ }
+    ensures { λ r. ⌜ now (page .exit) ≡ pageOf house code bytes strips (now (page .entry)) (now («data» .entry)) ⌝ }
+    ensures { λ r. ⌜ Wrote house code bytes strips (now (page .entry)) (now («data» .entry)) (now (page .exit)) r ⌝ }
+    ensures { λ r. ⌜ valueOf r ≤ largestCost ⌝ }
+{
+    let w = cells::house_weights();
+    write_weighted(code, bytes, strips, w[0], w[1], w[2], page, data)
 }

@@ -2,21 +2,27 @@
 --   one-to-64, limits-in, limits-below, limits-above   the limits
 --   limits-in-order, limits-most, sizes-limits   L and S where the limits have no ground
 --   shape-in-order, in-order                     a call without a ground
+--   weights-dear                                 no step is free where the weights have no ground
+--   no-free-step, permitted-ground               a price or write is refused as a read is, or by its weights
+--   house-ground                                 with the house's weights it is refused as a read is
+--   weighted-in-order                            a price or write without a ground
 --   sizes-number                                 the code, L and S are refused by 1 to 3
 --   done-none, refused-some                      an answer tells its ground
 --   refused-first, done-next                     grounds tested one after the other
 use mathlib.Core.Path.{_≡_, refl, sym, _∙_}
-use mathlib.Core.Bool.{Bool, true, false, cond}
+use mathlib.Core.Bool.{Bool, true, false, cond, _||_}
+use mathlib.Core.List.{List}
 use mathlib.Core.Option.{Option, none, some}
-use Prim.Native.Nat.{ℕ, _*_, _<_, _≤_}
+use Prim.Native.Nat.{ℕ, zero, suc, _*_, _<_, _≤_}
 use native.Mathlib.Omega.{arith}
 use lib.Dec.{eqb, leb}
-use borrow.Author.Tests.{eqb-true, le-leb, lt-leb, leb-true}
+use borrow.Author.Tests.{eqb-true, eqb-false, le-leb, lt-leb, leb-true}
+use Rattle.cells.specs.Climbs.{house, weightOf}
 use Rattle.cells.proofs.Places.{and-both}
 use Rattle.codes.specs.Layouts.{oneBit, byteCount}
-use Rattle.refusals.specs.Refusals.{oneTo64, isCode, first-of, codeGround, bytesGround, stripsGround, pageGround, dataGround, limitsGround, sizesGround, shapeGround, ground, completionOf, refusalNumber}
+use Rattle.refusals.specs.Refusals.{oneTo64, isCode, freeStep, first-of, codeGround, bytesGround, stripsGround, weightsGround, pageGround, dataGround, lengthsGround, limitsGround, sizesGround, shapeGround, ground, writeGround, completionOf, refusalNumber}
 use Rattle.refusals.specs.declared.Refusal.{Refusal}
-use Rattle.refusals.specs.declared.Refusal.the-variants.{CodeUnknown, BytesOutside, StripsOutside}
+use Rattle.refusals.specs.declared.Refusal.the-variants.{CodeUnknown, BytesOutside, StripsOutside, WeightZero}
 use Rattle.refusals.specs.declared.Completion.{Completion}
 use Rattle.refusals.specs.declared.Completion.the-variants.{Done, Refused}
 
@@ -79,9 +85,9 @@ sizes-limits code L S e = neither (codeGround code) (limitsGround L S) e .1
 -- L, S and both lengths where a call has no ground
 pub in-order : (code L S page content : ℕ) → ground code L S page content ≡ none
     → (oneTo64 L ≡ true) × (oneTo64 S ≡ true) × (page ≡ byteCount oneBit L * S) × (content ≡ L * S)
-unfolding ground pageGround dataGround
+unfolding ground lengthsGround pageGround dataGround
 in-order code L S page content e =
-    let p = neither (sizesGround code L S) (first-of (pageGround oneBit L S page) (dataGround L S content)) e in
+    let p = neither (sizesGround code L S) (lengthsGround L S page content) e in
     let q = neither (pageGround oneBit L S page) (dataGround L S content) (p .1) in
     let l = limits-in-order L S (sizes-limits code L S (p .0)) in (
       l .0,
@@ -90,6 +96,50 @@ in-order code L S page content e =
       eqb-true content (L * S)
           (no-ground (eqb content (L * S)) _ (q .1)),
     )
+
+-- THE WEIGHTS. No step is free where they have no ground
+weights-told : (a b c : Bool) → cond (a || b || c) (some WeightZero) none ≡ none → (a ≡ false) × (b ≡ false) × (c ≡ false)
+weights-told true b c e = let z : _≡_ {A = ℕ} 0 1 = cc in absurd (omega arith)
+weights-told false true c e = let z : _≡_ {A = ℕ} 0 1 = cc in absurd (omega arith)
+weights-told false false true e = let z : _≡_ {A = ℕ} 0 1 = cc in absurd (omega arith)
+weights-told false false false e = (refl, refl, refl)
+
+pub weights-dear : (W : List ℕ) → weightsGround W ≡ none → (l : ℕ) → l < 3 → 0 < weightOf W l
+unfolding weightsGround freeStep
+weights-dear W e l h = go l h (weights-told (eqb (weightOf W 0) 0) (eqb (weightOf W 1) 0) (eqb (weightOf W 2) 0) e)
+  where
+    above : (n : ℕ) → eqb n 0 ≡ false → 0 < n
+    above zero f = absurd (eqb-false 0 0 f refl)
+    above (suc n) f = omega arith
+
+    go : (l : ℕ) → l < 3
+        → (eqb (weightOf W 0) 0 ≡ false) × (eqb (weightOf W 1) 0 ≡ false) × (eqb (weightOf W 2) 0 ≡ false) → 0 < weightOf W l
+    go zero h p = above _ (p .0)
+    go (suc zero) h p = above _ (p .1)
+    go (suc (suc zero)) h p = above _ (p .2)
+    go (suc (suc (suc l))) h p = absurd (let z : ⊥ = omega arith in z)
+
+-- they have none where a price or a write has none
+pub no-free-step : (W : List ℕ) (code L S page content : ℕ) → writeGround W code L S page content ≡ none → weightsGround W ≡ none
+unfolding writeGround
+no-free-step W code L S page content e = neither (weightsGround W) _ (neither (sizesGround code L S) _ e .1) .0
+
+-- and then it is refused as a read is
+pub permitted-ground : (W : List ℕ) (code L S page content : ℕ) → weightsGround W ≡ none
+    → writeGround W code L S page content ≡ ground code L S page content
+unfolding writeGround ground
+permitted-ground W code L S page content e = rw e
+
+-- as with the house's weights, none of which is 0
+pub house-ground : (code L S page content : ℕ) → writeGround house code L S page content ≡ ground code L S page content
+unfolding weightsGround freeStep weightOf
+house-ground code L S page content = permitted-ground house code L S page content refl
+
+-- L, S and both lengths where it has no ground
+pub weighted-in-order : (W : List ℕ) (code L S page content : ℕ) → writeGround W code L S page content ≡ none
+    → (oneTo64 L ≡ true) × (oneTo64 S ≡ true) × (page ≡ byteCount oneBit L * S) × (content ≡ L * S)
+weighted-in-order W code L S page content e =
+    in-order code L S page content (sym (permitted-ground W code L S page content (no-free-step W code L S page content e)) ∙ e)
 
 -- the code, L and S are refused by 1 to 3
 three-tests : (a b c : Bool) {r : Refusal}

@@ -2,7 +2,9 @@
 --   oneTo64, isCode             the limits of L and of S; the codes' numbers
 --   first-of                    of two grounds, the one that is tested first
 --   limitsGround, sizesGround   the grounds of L and S; of the code, L and S
---   shapeGround, ground         the grounds of erase and census; of read, price and write
+--   freeStep, weightsGround     whether a weight is 0, and the ground of that
+--   shapeGround, ground         the grounds of erase and census; of read
+--   writeGround                 the grounds of price and write
 --   tooCold, tooWarm            an erase outside 50 to 400
 --   eraseGround                 from the state: such an erase
 --   refusalNumber               the paper's number of a refusal
@@ -10,14 +12,16 @@
 --   completionOf                done, or the refusal; completionNumber, the paper's number of it
 use mathlib.Core.Bool.{Bool, cond, _&&_, _||_}
 use mathlib.Core.Option.{Option, none, some}
+use mathlib.Core.List.{List}
 use Prim.Native.Nat.{ℕ, _*_}
 use lib.Dec.{eqb, leb}
 use lib.IntN.{ℤ, pos}
 use lib.Signed.{ltZ}
+use Rattle.cells.specs.Climbs.{weightOf}
 use Rattle.codes.specs.Generators.{Generators, short, long}
 use Rattle.codes.specs.Layouts.{Layout, oneBit, byteCount}
 use Rattle.refusals.specs.declared.Refusal.{Refusal}
-use Rattle.refusals.specs.declared.Refusal.the-variants.{CodeUnknown, BytesOutside, StripsOutside, PageLength, DataLength, EraseTemperature}
+use Rattle.refusals.specs.declared.Refusal.the-variants.{CodeUnknown, BytesOutside, StripsOutside, WeightZero, PageLength, DataLength, EraseTemperature}
 use Rattle.refusals.specs.declared.Completion.{Completion}
 use Rattle.refusals.specs.declared.Completion.the-variants as C
 
@@ -54,6 +58,14 @@ pageGround lay L S size = cond (eqb size (byteCount lay L * S)) none (some PageL
 unfoldable pub dataGround : ℕ → ℕ → ℕ → Option Refusal
 dataGround L S size = cond (eqb size (L * S)) none (some DataLength)
 
+-- whether one of three weights is 0, so that a step is free
+unfoldable pub freeStep : List ℕ → Bool
+freeStep W = eqb (weightOf W 0) 0 || eqb (weightOf W 1) 0 || eqb (weightOf W 2) 0
+
+-- '9, a weight is 0'
+unfoldable pub weightsGround : List ℕ → Option Refusal
+weightsGround W = cond (freeStep W) (some WeightZero) none
+
 -- 2 and 3: the limits of L and S
 unfoldable pub limitsGround : ℕ → ℕ → Option Refusal
 limitsGround L S = first-of (bytesGround L) (stripsGround S)
@@ -66,9 +78,17 @@ sizesGround code L S = first-of (codeGround code) (limitsGround L S)
 unfoldable pub shapeGround : ℕ → ℕ → ℕ → Option Refusal
 shapeGround L S page = first-of (limitsGround L S) (pageGround oneBit L S page)
 
--- 1 to 5, for read, price and write
+-- 4 and 5: both lengths
+unfoldable pub lengthsGround : ℕ → ℕ → ℕ → ℕ → Option Refusal
+lengthsGround L S page content = first-of (pageGround oneBit L S page) (dataGround L S content)
+
+-- 1 to 5, for read
 unfoldable pub ground : ℕ → ℕ → ℕ → ℕ → ℕ → Option Refusal
-ground code L S page content = first-of (sizesGround code L S) (first-of (pageGround oneBit L S page) (dataGround L S content))
+ground code L S page content = first-of (sizesGround code L S) (lengthsGround L S page content)
+
+-- for price and write, with the weights W: 9 is 'tested after 3 and before 4'
+unfoldable pub writeGround : List ℕ → ℕ → ℕ → ℕ → ℕ → ℕ → Option Refusal
+writeGround W code L S page content = first-of (sizesGround code L S) (first-of (weightsGround W) (lengthsGround L S page content))
 
 -- 'From 50 to 400, both included', in tenths of a degree Celsius
 unfoldable pub tooCold : ℤ → Bool
@@ -89,6 +109,7 @@ refusalNumber StripsOutside = 3
 refusalNumber PageLength = 4
 refusalNumber DataLength = 5
 refusalNumber EraseTemperature = 8
+refusalNumber WeightZero = 9
 
 -- '6: text of the program is not in its form': the run program's own, so no member of the enum, which a call could answer
 abbrev pub textNumber : ℕ

@@ -1,16 +1,17 @@
 // Which input is in order: the grounds of a refusal, each tested in one place, in the paper's order.
 use codes::Code;
 ghost use mathlib.Core.Path.{_≡_};
-ghost use mathlib.Core.Option.{none};
+ghost use mathlib.Core.Option.{Option, none};
 ghost use Rattle.codes.specs.Layouts.{oneBit};
 ghost use Rattle.codes.specs.Codes.{generatorsOf};
-ghost use Rattle.refusals.specs.Refusals.{oneTo64, isCode, tooCold, tooWarm, limitsGround, sizesGround, pageGround, dataGround, shapeGround, ground, eraseGround, first-of, numbered, refusalNumber, completionOf, completionNumber};
+ghost use Rattle.refusals.specs.Refusals.{oneTo64, isCode, tooCold, tooWarm, freeStep, limitsGround, sizesGround, weightsGround, pageGround, dataGround, lengthsGround, shapeGround, ground, writeGround, eraseGround, first-of, numbered, refusalNumber, completionOf, completionNumber};
 
-// Why a call is refused, in the order of the tests; the paper's numbers are 1 to 5 and 8.
+// Why a call is refused, in the order of the tests; the paper's numbers are 1, 2, 3, 9, 4, 5 and 8.
 pub enum Refusal {
     CodeUnknown,
     BytesOutside,
     StripsOutside,
+    WeightZero,
     PageLength,
     DataLength,
     EraseTemperature,
@@ -87,6 +88,16 @@ fn judge_data(bytes: u32, strips: u32, data: usize) -> Completion
     Completion::Done
 }
 
+// Of two that were judged, the first where it is refused, else the later one.
+fn earlier(first: Completion, later: Completion) -> Completion
+    ensures { λ r. ⌜ ((g h : Option Refusal) → first ≡ completionOf g → later ≡ completionOf h → r ≡ completionOf (first-of g h)) ⌝ }
+{
+    match first {
+        Completion::Done => later,
+        Completion::Refused(_) => first,
+    }
+}
+
 // Judges L, S and the page's length, in this order.
 pub fn judge_shape(bytes: u32, strips: u32, page: usize) -> Completion
     ensures { λ r. ⌜ r ≡ completionOf (shapeGround bytes strips page) ⌝ }
@@ -98,7 +109,17 @@ pub fn judge_shape(bytes: u32, strips: u32, page: usize) -> Completion
     judge_page(bytes, strips, page)
 }
 
-// Judges the code, then the shape, then the data's length.
+// Judges both lengths, the page's first.
+fn judge_lengths(bytes: u32, strips: u32, page: usize, data: usize) -> Completion
+    requires { ⌜ limitsGround bytes strips ≡ none ⌝ }
+    ensures { λ r. ⌜ r ≡ completionOf (lengthsGround bytes strips page «data») ⌝ }
+{
+    let of_page = judge_page(bytes, strips, page);
+    let of_data = judge_data(bytes, strips, data);
+    earlier(of_page, of_data)
+}
+
+// Judges what a read is given: the code, then the shape, then the data's length.
 pub fn judge(code: u32, bytes: u32, strips: u32, page: usize, data: usize) -> Completion
     ensures { λ r. ⌜ r ≡ completionOf (ground code bytes strips page «data») ⌝ }
 {
@@ -106,11 +127,50 @@ pub fn judge(code: u32, bytes: u32, strips: u32, page: usize, data: usize) -> Co
     let Completion::Done = sizes else {
         return sizes;
     };
-    let length = judge_page(bytes, strips, page);
-    let Completion::Done = length else {
-        return length;
+    judge_lengths(bytes, strips, page, data)
+}
+
+// Whether one of the weights is 0.
+fn free_step(weights: [u8; 3]) -> bool
+    ensures { λ r. ⌜ r ≡ freeStep weights ⌝ }
+{
+    if weights[0] == 0 {
+        return true;
+    }
+    if weights[1] == 0 {
+        return true;
+    }
+    weights[2] == 0
+}
+
+// Judges the weights.
+fn judge_weights(weights: [u8; 3]) -> Completion
+    ensures { λ r. ⌜ r ≡ completionOf (weightsGround weights) ⌝ }
+{
+    if free_step(weights) {
+        return Completion::Refused(Refusal::WeightZero);
+    }
+    Completion::Done
+}
+
+// Judges what a price or a write is given: the code, L and S, then the weights, then both lengths.
+pub fn judge_write(
+    code: u32,
+    bytes: u32,
+    strips: u32,
+    weights: [u8; 3],
+    page: usize,
+    data: usize,
+) -> Completion
+    ensures { λ r. ⌜ r ≡ completionOf (writeGround weights code bytes strips page «data») ⌝ }
+{
+    let sizes = judge_sizes(code, bytes, strips);
+    let Completion::Done = sizes else {
+        return sizes;
     };
-    judge_data(bytes, strips, data)
+    let steps = judge_weights(weights);
+    let lengths = judge_lengths(bytes, strips, page, data);
+    earlier(steps, lengths)
 }
 
 // The code of a number that is 3 or 7.
@@ -166,6 +226,7 @@ pub fn refusal_number(refusal: Refusal) -> u32
         Refusal::PageLength => 4,
         Refusal::DataLength => 5,
         Refusal::EraseTemperature => 8,
+        Refusal::WeightZero => 9,
     }
 }
 

@@ -19,11 +19,11 @@ use Rattle.search.specs.Best.{Solution}
 use Rattle.refusals.specs.declared.Refusal.{Refusal}
 use Rattle.refusals.specs.declared.Completion.{Completion}
 use Rattle.refusals.specs.declared.Completion.the-variants.{Done, Refused}
-use Rattle.refusals.specs.Refusals.{sizesGround, pageGround, dataGround, ground, refusalNumber, textNumber, completionOf}
+use Rattle.refusals.specs.Refusals.{sizesGround, pageGround, dataGround, lengthsGround, ground, writeGround, refusalNumber, textNumber, completionOf}
 use Rattle.codes.proofs.Layouts.{oneBit-bytes}
 use Rattle.demand.specs.Computed.{pageWrite, spentStrip}
 use Rattle.page.specs.Answers.{callAnswer, jobAnswer, jobOf, answerOf, numberOf}
-use Rattle.refusals.proofs.Refusals.{done-none, refused-some}
+use Rattle.refusals.proofs.Refusals.{house-ground, done-none, refused-some}
 use Rattle.text.specs.declared.Values.{Values}
 use Rattle.text.specs.declared.Form.{Form}
 use Rattle.text.specs.declared.Form.the-variants.{Given, Broken}
@@ -73,12 +73,12 @@ form-goes p v (some w) e = let j = judged-goes p w v (sizesGround (w .code) (w .
 
 -- A WRITE OF DATA IN FORM HAS ITS INPUT IN ORDER
 write-in-order : (v : Values) (page content : ℕ) → sizesGround (v .code) (v .bytes) (v .strips) ≡ none
-    → page ≡ byteCount oneBit (sizeOf v) → content ≡ sizeOf v → ground (v .code) (v .bytes) (v .strips) page content ≡ none
-unfolding ground pageGround dataGround
+    → page ≡ byteCount oneBit (sizeOf v) → content ≡ sizeOf v → writeGround house (v .code) (v .bytes) (v .strips) page content ≡ none
+unfolding ground lengthsGround pageGround dataGround
 write-in-order v page content e p c =
     let s = size-given v e in
     let ep : page ≡ 6 * v .bytes * v .strips = p ∙ oneBit-bytes (sizeOf v) ∙ rw (s, mul-assoc) in
-    rw (e, oneBit-bytes (v .bytes), eq-eqb page (6 * v .bytes * v .strips) ep, eq-eqb content (v .bytes * v .strips) (c ∙ s))
+    rw (house-ground (v .code) (v .bytes) (v .strips) page content, e, oneBit-bytes (v .bytes), eq-eqb page (6 * v .bytes * v .strips) ep, eq-eqb content (v .bytes * v .strips) (c ∙ s))
 
 -- an answer without a ground is 0 or 7
 zero-or-seven : (w : Option Solution) (k : ℕ) → (numberOf (callAnswer none w k) ≡ 0) ⊎ (numberOf (callAnswer none w k) ≡ 7)
