@@ -99,9 +99,8 @@ pub extern "C" fn segrunov_price_weighted(
     ensures { λ _. ⌜ Wrote (w1 ∷ w2 ∷ w3 ∷ []) code bytes strips (now (page .entry)) (now («data» .entry)) (pageOf (w1 ∷ w2 ∷ w3 ∷ []) code bytes strips (now (page .entry)) (now («data» .entry))) (answerOf (w1 ∷ w2 ∷ w3 ∷ []) code bytes strips (now (page .entry)) (now («data» .entry))) ⌝ }
     ensures { λ r. ⌜ r % 4294967296 ≤ largestWeightedCost ⌝ }
 {
-    answer_word(page::writing::price_weighted(
-        code, bytes, strips, w1, w2, w3, page, data,
-    ))
+    let answer = page::writing::price_weighted(code, bytes, strips, w1, w2, w3, page, data);
+    answer_word(answer)
 }
 
 // Writes the data at the least cost in these weights.
@@ -121,9 +120,8 @@ pub extern "C" fn segrunov_write_weighted(
     ensures { λ _. ⌜ Wrote (w1 ∷ w2 ∷ w3 ∷ []) code bytes strips (now (page .entry)) (now («data» .entry)) (now (page .exit)) (answerOf (w1 ∷ w2 ∷ w3 ∷ []) code bytes strips (now (page .entry)) (now («data» .entry))) ⌝ }
     ensures { λ r. ⌜ r % 4294967296 ≤ largestWeightedCost ⌝ }
 {
-    answer_word(page::writing::write_weighted(
-        code, bytes, strips, w1, w2, w3, page, data,
-    ))
+    let answer = page::writing::write_weighted(code, bytes, strips, w1, w2, w3, page, data);
+    answer_word(answer)
 }
 
 // Makes every byte of the page 0 at a temperature from 50 to 400 tenths of a degree.
