@@ -3,13 +3,16 @@
  *
  * A page has S strips of 6*L bytes each, one after another. Three bits are a cell; its level, 0 to 3, is how many of them are one, and only an erase
  * lowers it. A strip holds L bytes of data. A write raises cells so that the page reads as the data: it picks the cheapest of all pages that read as
- * the data with no cell lowered (a step from level 0 to 1 costs 16, from 1 to 2 costs 20, from 2 to 3 costs 28), and among equals the one with the
- * lower level at the first cell that differs.
+ * the data with no cell lowered, and among equals the one with the lower level at the first cell that differs. What a page costs is the sum of the
+ * steps that its cells climb. A step from level 0 to 1 costs 16, from 1 to 2 costs 20, from 2 to 3 costs 28: the house's weights. The calls that
+ * end in _weighted take three others, from the flash part's data sheet: with them cheapest is meant in these. Whether a page is spent does not
+ * depend on them, and calls with any weights may follow each other on one page.
  *
  * ARGUMENTS, the same in every call
  *   code      SEGRUNOV_SHORT (3) or SEGRUNOV_LONG (7)
  *   bytes     L, the data bytes of a strip, 1 to 64
  *   strips    S, the strips of the page, 1 to 64
+ *   w1 w2 w3  the weights of the steps from level 0 to 1, 1 to 2 and 2 to 3, each 1 to 255
  *   page      6*L*S bytes, page_len of them
  *   data      L*S bytes, data_len of them, strip 0 first
  *   tenths    the temperature in tenths of a degree Celsius
@@ -18,8 +21,8 @@
  *
  * THE ANSWER is one number. Its upper half, SEGRUNOV_NUMBER, is 0 where the call is done, else the number of the refusal. Its lower half,
  * SEGRUNOV_VALUE, is the cost of a write or price that is done, the strip's number where the page is spent, and 0 in every other case.
- * The grounds are tested in the order of their numbers, and the first that applies is the answer. With any refusal no byte is changed: not the
- * page, not the data, not the buffer, also not the strips before a spent one.
+ * The grounds that a call has are tested in the order 1, 2, 3, 9, 4, 5, 7, 8, and the first that applies is the answer. With any refusal no byte is
+ * changed: not the page, not the data, not the buffer, also not the strips before a spent one.
  *
  * THE FLASH. An erased page is zeros here, and a write turns zeros into ones. Nearly every NOR part has it the other way: an erase makes ones, and
  * programming turns ones into zeros. Its driver complements every byte, on load and on program (examples/relay.c); the calls need not know. No bit has
@@ -40,7 +43,7 @@ extern "C" {
 #endif
 
 /* The version: its first number changes where a caller has to change, its second where there is more to call, else its third. */
-#define SEGRUNOV_VERSION "1.0.0"
+#define SEGRUNOV_VERSION "1.1.0"
 
 /* The two codes. */
 #define SEGRUNOV_SHORT UINT32_C(3)
@@ -54,7 +57,8 @@ extern "C" {
 #define SEGRUNOV_NUMBER(answer) ((uint32_t)((answer) >> 32))
 #define SEGRUNOV_VALUE(answer) ((uint32_t)((answer) & UINT64_C(0xffffffff)))
 
-/* The numbers of an answer: 1 to 5 from the input, in this order; 7 and 8 from the state, after those. 6 belongs to the run program. */
+/* The numbers of an answer: 1 to 5 and 9 from the input, tested in the order 1, 2, 3, 9, 4, 5; 7 and 8 from the state, after those. 6 belongs to the
+ * run program. */
 #define SEGRUNOV_DONE UINT32_C(0)
 #define SEGRUNOV_CODE UINT32_C(1)        /* the code is neither 3 nor 7 */
 #define SEGRUNOV_BYTES UINT32_C(2)       /* L is not from 1 to 64 */
@@ -63,9 +67,16 @@ extern "C" {
 #define SEGRUNOV_DATA_LENGTH UINT32_C(5) /* the data, or the buffer for it, is not L*S bytes long */
 #define SEGRUNOV_SPENT UINT32_C(7)       /* no page reads as the data with no cell lowered: erase it first */
 #define SEGRUNOV_TEMPERATURE UINT32_C(8) /* an erase outside 50 to 400 tenths of a degree */
+#define SEGRUNOV_WEIGHT UINT32_C(9)      /* a weight is 0 */
 
-/* The most that one write costs, and the stack that a call needs at most, in bytes. */
+/* The house's weights, which the calls without weights go by. */
+#define SEGRUNOV_HOUSE_W1 UINT8_C(16)
+#define SEGRUNOV_HOUSE_W2 UINT8_C(20)
+#define SEGRUNOV_HOUSE_W3 UINT8_C(28)
+
+/* The most that one write costs, with the house's weights and with any, and the stack that a call needs at most, in bytes. */
 #define SEGRUNOV_MAX_COST UINT32_C(1835008)
+#define SEGRUNOV_MAX_WEIGHTED_COST UINT32_C(16711680)
 #define SEGRUNOV_STACK 12288
 
 /* Fills the buffer with what the page reads as. Refused by 1 to 5. */
@@ -76,6 +87,12 @@ uint64_t segrunov_price(uint32_t code, uint32_t bytes, uint32_t strips, const ui
 
 /* Writes the data into the page at the least cost. Refused by 1 to 5 and 7; the value of a 7 is the lowest strip that takes no pattern. */
 uint64_t segrunov_write(uint32_t code, uint32_t bytes, uint32_t strips, uint8_t *page, size_t page_len, const uint8_t *data, size_t data_len);
+
+/* The answer that segrunov_write_weighted gives on the same input. Nothing is changed. Refused by 1 to 5, 7 and 9. */
+uint64_t segrunov_price_weighted(uint32_t code, uint32_t bytes, uint32_t strips, uint8_t w1, uint8_t w2, uint8_t w3, const uint8_t *page, size_t page_len, const uint8_t *data, size_t data_len);
+
+/* Writes the data into the page at the least cost in the weights given. Refused by 1 to 5, 7 and 9. With the house's weights it is segrunov_write. */
+uint64_t segrunov_write_weighted(uint32_t code, uint32_t bytes, uint32_t strips, uint8_t w1, uint8_t w2, uint8_t w3, uint8_t *page, size_t page_len, const uint8_t *data, size_t data_len);
 
 /* Makes every byte of the page 0. Refused by 2 to 4 and 8. */
 uint64_t segrunov_erase(uint32_t bytes, uint32_t strips, uint8_t *page, size_t page_len, int16_t tenths);

@@ -2,7 +2,7 @@
 //
 //   compare [SEED [FACTOR]]
 //
-// The graph and the reading are made from document 01 alone. A vertex is a stage of a strip with the bits of the cells of the last m stages, all
+// The graph and the reading are made from document 01 alone, and from what document 02 says of the weights. A vertex is a stage of a strip with the bits of the cells of the last m stages, all
 // that the sum for a data bit needs of the past. An edge is a choice of levels for the two cells of a stage: neither below its old level, the data
 // bit right. Its weight is the cost of the two climbs. Boost gives the distance of every vertex to the end of the strip; a walk from the start along
 // edges that lose no cost, the lowest levels first, is then the write that document 01 asks for, ties included. At the first disagreement the whole
@@ -35,7 +35,8 @@ using Levels = std::vector<unsigned>;
 
 constexpr std::uint32_t kMost = 64;  // of L and of S
 constexpr unsigned kFull = 3;        // the highest level
-constexpr std::array<std::uint32_t, kFull> kStepCost = {16, 20, 28};
+using Weights = std::array<std::uint8_t, kFull>;
+constexpr Weights kHouse = {16, 20, 28};
 
 struct Code {
   std::uint32_t name;
@@ -79,9 +80,9 @@ Levels levels_of(const Bytes& strip) {
   return levels;
 }
 
-std::uint32_t climb_cost(unsigned from, unsigned to) {
+std::uint32_t climb_cost(const Weights& weights, unsigned from, unsigned to) {
   std::uint32_t cost = 0;
-  for (unsigned level = from; level < to; ++level) cost += kStepCost[level];
+  for (unsigned level = from; level < to; ++level) cost += weights[level];
   return cost;
 }
 
@@ -162,8 +163,8 @@ struct StripPath {
 
 class StripSearch {
  public:
-  StripSearch(const Trellis& trellis, Levels old, const Bytes& data)
-      : trellis_(trellis), old_(std::move(old)), data_(data), stages_(8 * data.size()), numbers_((stages_ + 1) * trellis.states(), kEnd) {}
+  StripSearch(const Trellis& trellis, const Weights& weights, Levels old, const Bytes& data)
+      : trellis_(trellis), step_cost_(weights), old_(std::move(old)), data_(data), stages_(8 * data.size()), numbers_((stages_ + 1) * trellis.states(), kEnd) {}
 
   StripPath least() {
     collect();
@@ -188,7 +189,7 @@ class StripSearch {
       for (unsigned y = old_[2 * t + 1]; y <= kFull; ++y) {
         const Trellis::Step& step = trellis_.step(state, x, y);
         if (step.data_bit != bit_at(data_, t)) continue;
-        visit(x, y, step.next, climb_cost(old_[2 * t], x) + climb_cost(old_[2 * t + 1], y));
+        visit(x, y, step.next, climb_cost(step_cost_, old_[2 * t], x) + climb_cost(step_cost_, old_[2 * t + 1], y));
       }
     }
   }
@@ -256,6 +257,7 @@ class StripSearch {
   }
 
   const Trellis& trellis_;
+  const Weights step_cost_;
   const Levels old_;
   const Bytes& data_;
   const std::size_t stages_;
@@ -276,7 +278,7 @@ struct PageSearch {
   bool late_spent = false;  // spent, though a strip before would have been changed
 };
 
-PageSearch search_page(const Code& code, Shape shape, const Bytes& page, const Bytes& data) {
+PageSearch search_page(const Code& code, Shape shape, const Weights& weights, const Bytes& page, const Bytes& data) {
   static const std::array<Trellis, 2> trellises = {Trellis(kCodes[0]), Trellis(kCodes[1])};
   const Trellis& trellis = trellises[code.name == kCodes[0].name ? 0 : 1];
   PageSearch result;
@@ -285,7 +287,7 @@ PageSearch search_page(const Code& code, Shape shape, const Bytes& page, const B
   for (std::uint32_t k = 0; k < shape.strips; ++k) {
     Bytes strip = part(page, k, strip_length(shape));
     const Bytes strip_data = part(data, k, shape.bytes);
-    const StripPath path = StripSearch(trellis, levels_of(strip), strip_data).least();
+    const StripPath path = StripSearch(trellis, weights, levels_of(strip), strip_data).least();
     if (!path.found) {
       PageSearch spent;
       spent.answer = answer_of(SEGRUNOV_SPENT, k);
@@ -309,14 +311,17 @@ PageSearch search_page(const Code& code, Shape shape, const Bytes& page, const B
 
 // ---------------------------------------------------------------- calls of the library
 
-enum Function : unsigned { kRead, kPrice, kWrite, kErase, kFunctions };
-constexpr std::array<const char*, kFunctions> kFunctionName = {"read", "price", "write", "erase"};
+enum Function : unsigned { kRead, kPrice, kWrite, kPriceWeighted, kWriteWeighted, kErase, kFunctions };
+constexpr std::array<const char*, kFunctions> kFunctionName = {"read", "price", "write", "price_weighted", "write_weighted", "erase"};
+
+bool takes_weights(Function function) { return function == kPriceWeighted || function == kWriteWeighted; }
 
 struct Call {
   Function function;
   std::uint32_t code;
   std::uint32_t bytes;
   std::uint32_t strips;
+  Weights weights;  // of a call that takes them
   Bytes page;
   Bytes data;  // of a read: what the buffer holds before
   std::int16_t tenths;
@@ -344,9 +349,9 @@ void print_outcome(const char* whose, const Outcome& outcome) {
 }
 
 [[noreturn]] void disagree(const char* what, const Call& call, const Outcome& expected, const Outcome& got) {
-  std::printf("compare: DISAGREEMENT: %s\n%s code %lu L %lu S %lu tenths %d page length %zu data length %zu\n", what, kFunctionName[call.function],
-              static_cast<unsigned long>(call.code), static_cast<unsigned long>(call.bytes), static_cast<unsigned long>(call.strips), call.tenths,
-              call.page.size(), call.data.size());
+  std::printf("compare: DISAGREEMENT: %s\n%s code %lu L %lu S %lu weights %u %u %u tenths %d page length %zu data length %zu\n", what,
+              kFunctionName[call.function], static_cast<unsigned long>(call.code), static_cast<unsigned long>(call.bytes),
+              static_cast<unsigned long>(call.strips), call.weights[0], call.weights[1], call.weights[2], call.tenths, call.page.size(), call.data.size());
   print_outcome("before", Outcome{0, call.page, call.data});
   print_outcome("expected", expected);
   print_outcome("got", got);
@@ -397,16 +402,24 @@ class Guarded {
 // What was met, so that a run that judged nothing of a kind cannot pass.
 struct Counts {
   std::array<std::uint64_t, kFunctions> calls{};
-  std::array<std::array<std::uint64_t, 9>, kFunctions> refused{};  // by function and number
-  std::array<std::uint64_t, 2> done{};                            // writes by code, and so on
+  std::array<std::array<std::uint64_t, 10>, kFunctions> refused{};  // by function and number
+  std::array<std::uint64_t, 2> done{};                             // writes by code, and so on
   std::array<std::uint64_t, 2> spent{};
   std::array<std::uint64_t, 2> ties{};
   std::array<std::uint64_t, 2> below_one{};
   std::array<std::uint64_t, 2> late_spent{};
   std::array<std::uint64_t, 2> last_spent{};
   std::array<std::uint64_t, 2> kept{};
+  std::array<std::uint64_t, 2> decided{};  // the weights given lead to another page than the house's
   std::uint64_t several_grounds = 0;
 };
+
+// How a price and a write are asked for: without weights, which means the house's, or with these.
+struct Tariff {
+  bool given;
+  Weights weights;
+};
+constexpr Tariff kPlain = {false, kHouse};
 
 class Judge {
  public:
@@ -443,14 +456,17 @@ class Judge {
   }
 
   void judge_read(const Code& code, Shape shape, const Bytes& page, const Bytes& data) {
-    const Call call = {kRead, code.name, shape.bytes, shape.strips, page, random_bytes(data.size()), 0};
+    const Call call = {kRead, code.name, shape.bytes, shape.strips, kHouse, page, random_bytes(data.size()), 0};
     judge(call, Outcome{0, page, data});
   }
 
-  // Judges a price and a write of the data, and the read after it. Gives back the page after them.
-  Bytes judge_write(const Code& code, Shape shape, const Bytes& page, const Bytes& data) {
-    const PageSearch least = search_page(code, shape, page, data);
-    price_and_write(code, shape, page, data, least);
+  // Judges a price and a write of the data, and the read after it. Gives back the page after them. Without weights the calls that take them are
+  // judged too, with the house's.
+  Bytes judge_write(const Code& code, Shape shape, const Tariff& tariff, const Bytes& page, const Bytes& data) {
+    const PageSearch least = search_page(code, shape, tariff.weights, page, data);
+    price_and_write(code, shape, tariff, page, data, least);
+    if (!tariff.given) price_and_write(code, shape, Tariff{true, kHouse}, page, data, least);
+    if (tariff.given) judge_weights(code, shape, tariff.weights, page, data, least);
     count_write(code, least);
     if (SEGRUNOV_NUMBER(least.answer) == SEGRUNOV_DONE) {
       if (read_page(code, shape, least.page) != data) give_up("the search itself is wrong: its page does not read as the data");
@@ -465,9 +481,18 @@ class Judge {
     PageSearch least;
     least.page = page;
     judge_read(code, shape, page, data);
-    price_and_write(code, shape, page, data, least);
+    price_and_write(code, shape, random_tariff(), page, data, least);
     ++counts_.kept[code_index(code)];
   }
+
+  // 1 and 255 often among them.
+  Weights random_weights() {
+    Weights weights{};
+    for (std::uint8_t& weight : weights) weight = static_cast<std::uint8_t>(chance(1, 3) ? 1 : chance(1, 2) ? 255 : 1 + below(255));
+    return weights;
+  }
+
+  Tariff random_tariff() { return chance(1, 2) ? kPlain : Tariff{true, random_weights()}; }
 
   Bytes random_bytes(std::size_t length) {
     Bytes bytes(length);
@@ -561,13 +586,33 @@ class Judge {
       case kRead: return segrunov_read(call.code, call.bytes, call.strips, page.pointer(), page.length(), data.pointer(), data.length());
       case kPrice: return segrunov_price(call.code, call.bytes, call.strips, page.pointer(), page.length(), data.pointer(), data.length());
       case kWrite: return segrunov_write(call.code, call.bytes, call.strips, page.pointer(), page.length(), data.pointer(), data.length());
+      case kPriceWeighted:
+        return segrunov_price_weighted(call.code, call.bytes, call.strips, call.weights[0], call.weights[1], call.weights[2], page.pointer(),
+                                       page.length(), data.pointer(), data.length());
+      case kWriteWeighted:
+        return segrunov_write_weighted(call.code, call.bytes, call.strips, call.weights[0], call.weights[1], call.weights[2], page.pointer(),
+                                       page.length(), data.pointer(), data.length());
       default: return segrunov_erase(call.bytes, call.strips, page.pointer(), page.length(), call.tenths);
     }
   }
 
-  void price_and_write(const Code& code, Shape shape, const Bytes& page, const Bytes& data, const PageSearch& least) {
-    judge(Call{kPrice, code.name, shape.bytes, shape.strips, page, data, 0}, Outcome{least.answer, page, data});
-    judge(Call{kWrite, code.name, shape.bytes, shape.strips, page, data, 0}, Outcome{least.answer, least.page, data});
+  void price_and_write(const Code& code, Shape shape, const Tariff& tariff, const Bytes& page, const Bytes& data, const PageSearch& least) {
+    const Function price = tariff.given ? kPriceWeighted : kPrice;
+    const Function write = tariff.given ? kWriteWeighted : kWrite;
+    judge(Call{price, code.name, shape.bytes, shape.strips, tariff.weights, page, data, 0}, Outcome{least.answer, page, data});
+    judge(Call{write, code.name, shape.bytes, shape.strips, tariff.weights, page, data, 0}, Outcome{least.answer, least.page, data});
+  }
+
+  // Beside a write with weights, the library's own without: spent with the same strip, or neither is; and whether the weights decided the page.
+  void judge_weights(const Code& code, Shape shape, const Weights& weights, const Bytes& page, const Bytes& data, const PageSearch& least) {
+    const Call call = {kWriteWeighted, code.name, shape.bytes, shape.strips, weights, page, data, 0};
+    Bytes plain = page;
+    const std::uint64_t answer = segrunov_write(code.name, shape.bytes, shape.strips, plain.data(), plain.size(), data.data(), data.size());
+    const bool spent = SEGRUNOV_NUMBER(answer) == SEGRUNOV_SPENT;
+    if (spent != (SEGRUNOV_NUMBER(least.answer) == SEGRUNOV_SPENT) || (spent && answer != least.answer)) {
+      disagree("spent depends on the weights", call, Outcome{answer, plain, data}, Outcome{least.answer, least.page, data});
+    }
+    counts_.decided[code_index(code)] += plain != least.page ? 1 : 0;
   }
 
   void count_write(const Code& code, const PageSearch& least) {
@@ -612,7 +657,7 @@ void check_known_cells() {
   };
   for (const Known& known : table) {
     const Shape shape = {1, static_cast<std::uint32_t>(known.data.size())};
-    const PageSearch least = search_page(kCodes[known.code], shape, known.page, known.data);
+    const PageSearch least = search_page(kCodes[known.code], shape, kHouse, known.page, known.data);
     if (least.answer != known.answer || least.page != known.after) give_up("the search itself is wrong: a known cell of document 01");
   }
 }
@@ -621,7 +666,7 @@ void check_known_run() {
   Bytes page(6, 0);
   std::uint8_t byte = 0x80;
   for (const std::uint64_t cost : {16, 16, 20, 20, 28, 28, 32}) {
-    const PageSearch least = search_page(kCodes[0], Shape{1, 1}, page, Bytes{byte});
+    const PageSearch least = search_page(kCodes[0], Shape{1, 1}, kHouse, page, Bytes{byte});
     if (least.answer != cost) give_up("the search itself is wrong: the known run of document 01");
     page = least.page;
     byte ^= 0x80;
@@ -633,19 +678,25 @@ void progress(const Judge& judge, const char* section) {
   std::fflush(stdout);
 }
 
-void every_data_byte(Judge& judge, const Code& code, const Bytes& page) {
+void every_data_byte(Judge& judge, const Code& code, const Tariff& tariff, const Bytes& page) {
   const Shape shape = {1, 1};
-  for (unsigned byte = 0; byte < 256; ++byte) judge.judge_write(code, shape, page, Bytes{static_cast<std::uint8_t>(byte)});
+  for (unsigned byte = 0; byte < 256; ++byte) judge.judge_write(code, shape, tariff, page, Bytes{static_cast<std::uint8_t>(byte)});
   judge.judge_kept(code, shape, page);
 }
 
 // One-byte strips: each of the 256 data on pages of every kind.
 void small_pages(Judge& judge, unsigned rounds) {
   for (const Code& code : kCodes) {
-    every_data_byte(judge, code, Bytes(6, 0));
-    every_data_byte(judge, code, Bytes(6, 0xff));
+    for (const Bytes& page : {Bytes(6, 0), Bytes(6, 0xff)}) {
+      every_data_byte(judge, code, kPlain, page);
+      every_data_byte(judge, code, Tariff{true, judge.random_weights()}, page);
+    }
     for (unsigned round = 0; round < rounds; ++round) {
-      for (std::uint64_t kind = 1; kind + 1 < Judge::kStripKinds; ++kind) every_data_byte(judge, code, judge.strip_of_kind(kind, 6));
+      for (std::uint64_t kind = 1; kind + 1 < Judge::kStripKinds; ++kind) {
+        const Bytes page = judge.strip_of_kind(kind, 6);
+        every_data_byte(judge, code, kPlain, page);
+        every_data_byte(judge, code, Tariff{true, judge.random_weights()}, page);
+      }
       if (round % 10 == 9) progress(judge, "one-byte strips");
     }
   }
@@ -654,8 +705,9 @@ void small_pages(Judge& judge, unsigned rounds) {
 void one_page(Judge& judge, const Code& code, Shape shape) {
   const Bytes page = judge.random_page(shape);
   judge.judge_kept(code, shape, page);
-  const Bytes after = judge.judge_write(code, shape, page, judge.random_data(code, shape, page));
+  const Bytes after = judge.judge_write(code, shape, kPlain, page, judge.random_data(code, shape, page));
   judge.judge_kept(code, shape, after);
+  judge.judge_write(code, shape, Tariff{true, judge.random_weights()}, after, judge.random_data(code, shape, after));
 }
 
 // Any L and S with few bytes in all: the search of the long code has 4096 states a stage.
@@ -679,54 +731,62 @@ Shape any_shape(Judge& judge) {
   return Shape{bytes, static_cast<std::uint32_t>(1 + judge.below(kMost))};
 }
 
-void fitting_write(Judge& judge, const Code& code, Shape shape, std::uint64_t kind) {
+void fitting_write(Judge& judge, const Code& code, const Tariff& tariff, Shape shape, std::uint64_t kind) {
   const Bytes page = judge.strip_of_kind(kind, page_length(shape));
-  const Bytes after = judge.judge_write(code, shape, page, judge.fitting_data(code, shape, page));
+  const Bytes after = judge.judge_write(code, shape, tariff, page, judge.fitting_data(code, shape, page));
   judge.judge_kept(code, shape, after);
 }
 
 // Every strip but the last takes its data, and that one hardly ever does.
 void late_write(Judge& judge, const Code& code, Shape shape) {
   const Bytes page = judge.random_full_cells(page_length(shape), 3, 4);
-  judge.judge_write(code, shape, page, judge.late_data(code, shape, page));
+  judge.judge_write(code, shape, judge.random_tariff(), page, judge.late_data(code, shape, page));
 }
+
+constexpr Tariff kDearest = {true, {255, 255, 255}};
 
 // The limits of L and S. With the long code the widest page has half its cells full, or the search would not end in time.
 void large_pages(Judge& judge, unsigned rounds) {
   for (const Shape shape : {Shape{64, 64}, Shape{64, 1}, Shape{1, 64}, Shape{63, 64}, Shape{64, 63}}) {
-    for (const std::uint64_t kind : {0, 1, 4, 5, 6}) fitting_write(judge, kCodes[0], shape, kind);
-    for (const std::uint64_t kind : {4, 5}) fitting_write(judge, kCodes[1], shape, kind);
+    for (const std::uint64_t kind : {0, 1, 4, 5, 6}) {
+      fitting_write(judge, kCodes[0], kPlain, shape, kind);
+      fitting_write(judge, kCodes[0], Tariff{true, judge.random_weights()}, shape, kind);
+      fitting_write(judge, kCodes[0], kDearest, shape, kind);
+    }
+    for (const std::uint64_t kind : {4, 5}) fitting_write(judge, kCodes[1], kind == 4 ? kPlain : kDearest, shape, kind);
     for (const Code& code : kCodes) {
       judge.judge_kept(code, shape, judge.random_page(shape));
       late_write(judge, code, shape);
     }
     progress(judge, "large pages");
   }
-  for (const std::uint64_t kind : {0, 1, 2, 6}) fitting_write(judge, kCodes[1], Shape{1, 64}, kind);
-  for (const std::uint64_t kind : {0, 1, 2, 6}) fitting_write(judge, kCodes[1], Shape{64, 1}, kind);
-  for (const std::uint64_t kind : {0, 1}) fitting_write(judge, kCodes[1], Shape{8, 8}, kind);
+  for (const std::uint64_t kind : {0, 1, 2, 6}) fitting_write(judge, kCodes[1], judge.random_tariff(), Shape{1, 64}, kind);
+  for (const std::uint64_t kind : {0, 1, 2, 6}) fitting_write(judge, kCodes[1], judge.random_tariff(), Shape{64, 1}, kind);
+  for (const std::uint64_t kind : {0, 1}) fitting_write(judge, kCodes[1], kDearest, Shape{8, 8}, kind);
   for (unsigned round = 0; round < rounds; ++round) {
     for (const Code& code : kCodes) late_write(judge, code, Shape{1, 64});
     one_page(judge, kCodes[0], any_shape(judge));
-    for (const std::uint64_t kind : {4, 5}) fitting_write(judge, kCodes[1], any_shape(judge), kind);
+    for (const std::uint64_t kind : {4, 5}) fitting_write(judge, kCodes[1], judge.random_tariff(), any_shape(judge), kind);
   }
   progress(judge, "large pages");
 }
 
-// From erased until spent and some writes beyond, then an erase. The page is carried along; the judged calls have shown it to be the library's.
+std::uint64_t spent_writes(const Judge& judge) { return judge.counts().spent[0] + judge.counts().spent[1]; }
+
+// From erased until spent and some writes beyond, with and without weights as it falls, then an erase. The page is carried along; the judged calls have shown it to be the library's.
 void run_until_spent(Judge& judge, const Code& code, Shape shape, bool small_changes) {
   const Bytes erased(page_length(shape), 0);
   Bytes page = erased;
   unsigned beyond = 0;
   while (beyond < 4) {
     const Bytes data = small_changes ? judge.near_data(code, shape, page) : judge.random_bytes(data_length(shape));
-    const std::uint64_t spent_before = judge.counts().refused[kWrite][SEGRUNOV_SPENT];
-    page = judge.judge_write(code, shape, page, data);
-    if (beyond > 0 || judge.counts().refused[kWrite][SEGRUNOV_SPENT] > spent_before) ++beyond;
+    const std::uint64_t spent_before = spent_writes(judge);
+    page = judge.judge_write(code, shape, judge.random_tariff(), page, data);
+    if (beyond > 0 || spent_writes(judge) > spent_before) ++beyond;
   }
   judge.judge_kept(code, shape, page);
   const auto tenths = static_cast<std::int16_t>(50 + judge.below(351));
-  judge.judge(Call{kErase, 0, shape.bytes, shape.strips, page, Bytes(), tenths}, Outcome{0, erased, Bytes()});
+  judge.judge(Call{kErase, 0, shape.bytes, shape.strips, kHouse, page, Bytes(), tenths}, Outcome{0, erased, Bytes()});
 }
 
 void runs(Judge& judge, unsigned rounds) {
@@ -748,7 +808,7 @@ bool within(std::uint32_t number) { return number >= 1 && number <= kMost; }
 
 bool allowed_temperature(std::int16_t tenths) { return tenths >= 50 && tenths <= 400; }
 
-// The grounds of document 01 that apply to a call, in its order; a 7 is left to the caller.
+// The grounds of documents 01 and 02 that apply to a call, in their order; a 7 is left to the caller.
 std::vector<std::uint32_t> grounds(const Call& call) {
   std::vector<std::uint32_t> numbers;
   const bool erase = call.function == kErase;
@@ -756,6 +816,8 @@ std::vector<std::uint32_t> grounds(const Call& call) {
   if (!erase && call.code != 3 && call.code != 7) numbers.push_back(SEGRUNOV_CODE);
   if (!within(call.bytes)) numbers.push_back(SEGRUNOV_BYTES);
   if (!within(call.strips)) numbers.push_back(SEGRUNOV_STRIPS);
+  const bool zero = std::count(call.weights.begin(), call.weights.end(), 0) > 0;
+  if (takes_weights(call.function) && zero) numbers.push_back(SEGRUNOV_WEIGHT);
   // Six times the product may pass 64 bits; the quotient tells without forming it.
   if (call.page.size() % 6 != 0 || call.page.size() / 6 != data_bytes) numbers.push_back(SEGRUNOV_PAGE_LENGTH);
   if (!erase && call.data.size() != data_bytes) numbers.push_back(SEGRUNOV_DATA_LENGTH);
@@ -803,12 +865,13 @@ Call spoiled_call(Judge& judge) {
   const auto function = static_cast<Function>(judge.below(kFunctions));
   Shape shape = {static_cast<std::uint32_t>(1 + judge.below(4)), static_cast<std::uint32_t>(1 + judge.below(4))};
   if (judge.chance(1, 8)) shape = Shape{kMost, kMost};
-  // Few of the five items at fault as a rule, now and then any of them.
-  const std::uint64_t set = judge.chance(1, 3) ? std::uint64_t{1} << judge.below(5) : judge.below(32) & judge.below(32);
-  Call call = {function, judge.chance(1, 2) ? 3U : 7U, shape.bytes, shape.strips, Bytes(), Bytes(), 250};
+  // Few of the six items at fault as a rule, now and then any of them.
+  const std::uint64_t set = judge.chance(1, 3) ? std::uint64_t{1} << judge.below(6) : judge.below(64) & judge.below(64);
+  Call call = {function, judge.chance(1, 2) ? 3U : 7U, shape.bytes, shape.strips, judge.random_weights(), Bytes(), Bytes(), 250};
   if ((set & 1) != 0) call.code = bad_code(judge);
   if ((set & 2) != 0) call.bytes = bad_number(judge);
   if ((set & 4) != 0) call.strips = bad_number(judge);
+  if ((set & 32) != 0) call.weights[judge.below(kFull)] = 0;
   std::size_t page_bytes = length_for(call.bytes, call.strips, 6);
   std::size_t data_bytes = length_for(call.bytes, call.strips, 1);
   if ((set & 8) != 0) page_bytes = bad_length(judge, page_bytes);
@@ -831,7 +894,7 @@ void refusals(Judge& judge, unsigned rounds) {
 }
 
 void erase_at(Judge& judge, Shape shape, std::int16_t tenths) {
-  const Call call = {kErase, 0, shape.bytes, shape.strips, judge.random_page(shape), Bytes(), tenths};
+  const Call call = {kErase, 0, shape.bytes, shape.strips, kHouse, judge.random_page(shape), Bytes(), tenths};
   if (allowed_temperature(tenths)) {
     judge.judge(call, Outcome{0, Bytes(call.page.size(), 0), Bytes()});
   } else {
@@ -856,7 +919,7 @@ void erases(Judge& judge, unsigned rounds) {
 
 // Prints a count; false if the kind was never met.
 bool met(const char* kind, const char* of, std::uint64_t count) {
-  std::printf("  %-28s %-6s %llu\n", kind, of, static_cast<unsigned long long>(count));
+  std::printf("  %-29s %-14s %llu\n", kind, of, static_cast<unsigned long long>(count));
   return count > 0;
 }
 
@@ -871,6 +934,8 @@ std::vector<std::uint32_t> refusals_of(Function function) {
   switch (function) {
     case kRead: return {1, 2, 3, 4, 5};
     case kErase: return {2, 3, 4, 8};
+    case kPriceWeighted:
+    case kWriteWeighted: return {1, 2, 3, 9, 4, 5, 7};
     default: return {1, 2, 3, 4, 5, 7};
   }
 }
@@ -885,6 +950,7 @@ bool every_kind_met(const Counts& counts) {
   all = met_for_both_codes("spent after a changed strip", counts.late_spent) && all;
   all = met_for_both_codes("spent in strip 63", counts.last_spent) && all;
   all = met_for_both_codes("writes of what is held", counts.kept) && all;
+  all = met_for_both_codes("pages that the weights decide", counts.decided) && all;
   for (unsigned f = 0; f < kFunctions; ++f) {
     for (const std::uint32_t number : refusals_of(static_cast<Function>(f))) {
       const std::string kind = "refused by " + std::to_string(number);

@@ -8,6 +8,7 @@ import re
 
 from repository import finish, read
 
+CLIMBS = "crates/cells/specs/Climbs.antt"
 REFUSALS = "crates/refusals/specs/Refusals.antt"
 ANSWERS = "crates/page/specs/Answers.antt"
 
@@ -23,7 +24,12 @@ DEFINED = {
     "DATA_LENGTH": (REFUSALS, "refusalNumber DataLength = {}"),
     "SPENT": (ANSWERS, "numberOf (A.Spent strip) = {}"),
     "TEMPERATURE": (REFUSALS, "refusalNumber EraseTemperature = {}"),
+    "WEIGHT": (REFUSALS, "refusalNumber WeightZero = {}"),
+    "HOUSE_W1": (CLIMBS, "house = {} ∷ 20 ∷ 28 ∷ []"),
+    "HOUSE_W2": (CLIMBS, "house = 16 ∷ {} ∷ 28 ∷ []"),
+    "HOUSE_W3": (CLIMBS, "house = 16 ∷ 20 ∷ {} ∷ []"),
     "MAX_COST": (ANSWERS, "largestCost = {}"),
+    "MAX_WEIGHTED_COST": (ANSWERS, "largestWeightedCost = {}"),
 }
 
 
@@ -44,7 +50,7 @@ def unmeasured(function):
 
 def main():
     calls = re.findall(r"^uint64_t (segrunov\w+)\(", read("include/segrunov.h"), re.M)
-    numbers = dict(re.findall(r"^#define SEGRUNOV_(\w+) UINT32_C\((\d+)\)", read("include/segrunov.h"), re.M))
+    numbers = dict(re.findall(r"^#define SEGRUNOV_(\w+) UINT(?:8|32)_C\((\d+)\)", read("include/segrunov.h"), re.M))
     bad = [line for name, number in numbers.items() for line in wrong(name, number)]
     bad += [f"include/segrunov.h does not define SEGRUNOV_{name}" for name in DEFINED if name not in numbers]
     bad += [line for call in calls for line in unmeasured(call)]

@@ -58,6 +58,17 @@ static void call_write(void)
     answer = segrunov_write(code, bytes, strips, page, page_bytes(), data, data_bytes());
 }
 
+/* With weights of which none is the house's. */
+static void call_price_weighted(void)
+{
+    answer = segrunov_price_weighted(code, bytes, strips, 1, 254, 255, page, page_bytes(), data, data_bytes());
+}
+
+static void call_write_weighted(void)
+{
+    answer = segrunov_write_weighted(code, bytes, strips, 1, 254, 255, page, page_bytes(), data, data_bytes());
+}
+
 static void call_erase(void)
 {
     answer = segrunov_erase(bytes, strips, page, page_bytes(), 200);
@@ -73,6 +84,8 @@ static const struct call CALLS[] = {
     {"read", call_read},
     {"price", call_price},
     {"write", call_write},
+    {"price_weighted", call_price_weighted},
+    {"write_weighted", call_write_weighted},
     {"erase", call_erase},
 };
 
@@ -193,7 +206,7 @@ int main(void)
     for (i = 0; i < sizeof CALLS / sizeof *CALLS; i++) {
         const struct call *call = &CALLS[i];
         const size_t most = most_needed(call);
-        printf("%-5s  stack %5zu bytes   %8.3f ms for a page of 64 strips of 64 bytes, code 7\n", call->name, most, least_time(call));
+        printf("%-14s  stack %5zu bytes   %8.3f ms for a page of 64 strips of 64 bytes, code 7\n", call->name, most, least_time(call));
     }
     return failed;
 }
