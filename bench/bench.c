@@ -1,5 +1,5 @@
 /*
- * The library beside three Rust programs and two decoders of the same trellis.
+ * The library, with and without weights, beside three Rust programs and two decoders of the same trellis.
  *
  *   bench FILE [ROUNDS]        the table of one run, and a plot into FILE: how time grows with L and S
  *   bench --tried [ROUNDS]     the shapes that were tried in 16 and 8 bits
@@ -45,6 +45,17 @@ static size_t data_length(void)
 typedef uint64_t price_call(uint32_t, uint32_t, uint32_t, const uint8_t *, size_t, const uint8_t *, size_t);
 typedef uint64_t write_call(uint32_t, uint32_t, uint32_t, uint8_t *, size_t, const uint8_t *, size_t);
 
+/* The calls with weights, given the house's, so that they answer as the others do. */
+static uint64_t weighted_price(uint32_t code, uint32_t bytes, uint32_t strips, const uint8_t *page, size_t page_len, const uint8_t *data, size_t data_len)
+{
+    return segrunov_price_weighted(code, bytes, strips, SEGRUNOV_HOUSE_W1, SEGRUNOV_HOUSE_W2, SEGRUNOV_HOUSE_W3, page, page_len, data, data_len);
+}
+
+static uint64_t weighted_write(uint32_t code, uint32_t bytes, uint32_t strips, uint8_t *page, size_t page_len, const uint8_t *data, size_t data_len)
+{
+    return segrunov_write_weighted(code, bytes, strips, SEGRUNOV_HOUSE_W1, SEGRUNOV_HOUSE_W2, SEGRUNOV_HOUSE_W3, page, page_len, data, data_len);
+}
+
 /* A program, and a page of its own. Its variant is the form of its stage or, where there are no calls, a shape that was tried. */
 struct program {
     const char *name;
@@ -55,10 +66,11 @@ struct program {
 };
 
 /* The library is the first. Compilers differ in which form of a stage they make best, so all of them run, and the fastest counts. */
-enum { SEGRUNOV, ORDINARY, SHAPED, NARROW = SHAPED + FORMS };
+enum { SEGRUNOV, WEIGHTED, ORDINARY, SHAPED, NARROW = SHAPED + FORMS };
 
 static struct program programs[PROGRAMS] = {
     [SEGRUNOV] = {.name = "segrunov", .price = segrunov_price, .write = segrunov_write},
+    [WEIGHTED] = {.name = "segrunov, with weights", .price = weighted_price, .write = weighted_write},
     [ORDINARY] = {.name = "ordinary", .price = ordinary_price, .write = ordinary_write},
     [SHAPED] = {.name = "shaped, in blocks", .price = shaped_price, .write = shaped_write, .variant = 0},
     [SHAPED + 1] = {.name = "shaped, in two loops", .price = shaped_price, .write = shaped_write, .variant = 1},
@@ -321,6 +333,13 @@ static void measure(int rounds)
                        nanoseconds_a_stage(library), nanoseconds_a_stage(shaped), nanoseconds_a_stage(ordinary), nanoseconds_a_stage(narrow),
                        library / shaped, library / ordinary, library / narrow);
             }
+        }
+    }
+    printf("\n| code | page | price with weights / price | write with weights / write |\n|---|---|---|---|\n");
+    for (int c = 0; c < CODES; c++) {
+        for (int k = 0; k < KINDS; k++) {
+            const double *price = best[c][k][0], *write = best[c][k][1];
+            printf("| %u | %s | %.3f | %.3f |\n", (unsigned)codes[c], kinds[k], price[WEIGHTED] / price[SEGRUNOV], write[WEIGHTED] / write[SEGRUNOV]);
         }
     }
     printf("\n| decoder | its time | segrunov's write, code 7, over it: erased | half-full | random |\n|---|---|---|---|---|\n");

@@ -1,5 +1,5 @@
 /*
- * The known cells of document 01, through include/segrunov.h, as a firmware would call it: refusals in their order, nothing changed by them, guard
+ * The known cells of document 01 and writes with other weights, through include/segrunov.h, as a firmware would call it: refusals in their order, nothing changed by them, guard
  * bytes around every buffer. The exit status is 0 where every check holds.
  *
  * With FREESTANDING it is built with no C library: it brings the two functions that the archive needs, and ends by the system's exit.
@@ -114,28 +114,108 @@ static const struct known_write KNOWN_WRITES[] = {
       0xff, 0xff, 0xff, 0xff, 0xff, 0xff, 0xff, 0xff, 0xff, 0xff, 0xff, 0xff}},
 };
 
+/* Three weights. */
+struct weights {
+    uint8_t w1;
+    uint8_t w2;
+    uint8_t w3;
+};
+
+static const struct weights HOUSE = {SEGRUNOV_HOUSE_W1, SEGRUNOV_HOUSE_W2, SEGRUNOV_HOUSE_W3};
+
+/* A price of what is in the two buffers; without weights where there are none. */
+static uint64_t call_price(const struct known_write *k, const struct weights *w, struct guarded *page, struct guarded *data)
+{
+    const size_t page_len = SEGRUNOV_PAGE_BYTES(k->bytes, k->strips);
+    const size_t data_len = SEGRUNOV_DATA_BYTES(k->bytes, k->strips);
+    return w == NULL ? segrunov_price(k->code, k->bytes, k->strips, inside(page), page_len, inside(data), data_len)
+                     : segrunov_price_weighted(k->code, k->bytes, k->strips, w->w1, w->w2, w->w3, inside(page), page_len, inside(data), data_len);
+}
+
+/* And a write. */
+static uint64_t call_write(const struct known_write *k, const struct weights *w, struct guarded *page, struct guarded *data)
+{
+    const size_t page_len = SEGRUNOV_PAGE_BYTES(k->bytes, k->strips);
+    const size_t data_len = SEGRUNOV_DATA_BYTES(k->bytes, k->strips);
+    return w == NULL ? segrunov_write(k->code, k->bytes, k->strips, inside(page), page_len, inside(data), data_len)
+                     : segrunov_write_weighted(k->code, k->bytes, k->strips, w->w1, w->w2, w->w3, inside(page), page_len, inside(data), data_len);
+}
+
+static void known_write(const struct known_write *k, const struct weights *w)
+{
+    const size_t page_len = SEGRUNOV_PAGE_BYTES(k->bytes, k->strips);
+    const size_t data_len = SEGRUNOV_DATA_BYTES(k->bytes, k->strips);
+    const uint64_t expected = answer(k->number, k->value);
+    struct guarded page, data, back;
+    fill(&page, k->before, page_len);
+    fill(&data, k->data, data_len);
+    check(k->what, call_price(k, w, &page, &data) == expected);
+    check(k->what, holds(&page, k->before, page_len));
+    check(k->what, call_write(k, w, &page, &data) == expected);
+    check(k->what, holds(&page, k->after, page_len));
+    check(k->what, holds(&data, k->data, data_len));
+    if (k->number == SEGRUNOV_DONE) {
+        fill(&back, k->data, 0);
+        check(k->what, segrunov_read(k->code, k->bytes, k->strips, inside(&page), page_len, inside(&back), data_len) == 0);
+        check(k->what, holds(&back, k->data, data_len));
+        check(k->what, holds(&page, k->after, page_len));
+    }
+}
+
+/* Without weights, and with the house's. */
 static void known_writes(void)
 {
     size_t i;
     for (i = 0; i < sizeof KNOWN_WRITES / sizeof *KNOWN_WRITES; i++) {
-        const struct known_write *k = &KNOWN_WRITES[i];
-        const size_t page_len = SEGRUNOV_PAGE_BYTES(k->bytes, k->strips);
-        const size_t data_len = SEGRUNOV_DATA_BYTES(k->bytes, k->strips);
-        const uint64_t expected = answer(k->number, k->value);
-        struct guarded page, data, back;
-        fill(&page, k->before, page_len);
-        fill(&data, k->data, data_len);
-        check(k->what, segrunov_price(k->code, k->bytes, k->strips, inside(&page), page_len, inside(&data), data_len) == expected);
-        check(k->what, holds(&page, k->before, page_len));
-        check(k->what, segrunov_write(k->code, k->bytes, k->strips, inside(&page), page_len, inside(&data), data_len) == expected);
-        check(k->what, holds(&page, k->after, page_len));
-        check(k->what, holds(&data, k->data, data_len));
-        if (k->number == SEGRUNOV_DONE) {
-            fill(&back, k->data, 0);
-            check(k->what, segrunov_read(k->code, k->bytes, k->strips, inside(&page), page_len, inside(&back), data_len) == 0);
-            check(k->what, holds(&back, k->data, data_len));
-            check(k->what, holds(&page, k->after, page_len));
-        }
+        known_write(&KNOWN_WRITES[i], NULL);
+        known_write(&KNOWN_WRITES[i], &HOUSE);
+    }
+}
+
+/* The page of L = 2 and S = 3 after the writes 01 23 45 67 89 ab, ba 98 76 54 32 10 and 0f 1e 2d 3c 4b 5a with code 3: cells at every level. */
+#define WORN \
+    {0x0b, 0x90, 0, 0x49, 0x90, 0, 0x58, 0x80, 0x04, 0x40, 0, 0x20, 0x0b, 0x82, 0x04, 0x01, 0x80, 0x04, \
+     0x08, 0x90, 0x24, 0x09, 0, 0, 0x38, 0x86, 0, 0x48, 0, 0x20, 0x48, 0x80, 0x04, 0x40, 0x10, 0x20}
+
+/* A write with weights. */
+struct known_weighted {
+    struct weights weights;
+    struct known_write write;
+};
+
+/* Costs and pages by write_page, the model in tests/run.py. With the house's weights each of the first five writes another page. */
+static const struct known_weighted KNOWN_WEIGHTED[] = {
+    {{255, 1, 2},
+     {"weights 255 1 2", 3, 2, 3, WORN, {0xfe, 0xed, 0xc0, 0xff, 0xee, 0x42}, 0, 1290,
+      {0x0f, 0xb0, 0, 0xc9, 0xb0, 0, 0xd8, 0x80, 0x0c, 0xc8, 0, 0x20, 0x0f, 0x82, 0x0c, 0x01, 0x90, 0x0c,
+       0x08, 0x90, 0x24, 0x09, 0x80, 0, 0x39, 0x86, 0, 0xc8, 0, 0x20, 0x48, 0x80, 0x24, 0xc0, 0x10, 0x60}}},
+    {{1, 255, 2},
+     {"weights 1 255 2", 7, 2, 3, WORN, {0xfe, 0xed, 0xc0, 0xff, 0xee, 0x42}, 0, 25,
+      {0x4f, 0x92, 0x24, 0x49, 0x90, 0, 0x59, 0x80, 0x24, 0x41, 0, 0x24, 0x0f, 0x82, 0x24, 0x01, 0x90, 0x24,
+       0x49, 0x90, 0x24, 0x49, 0, 0, 0x39, 0x86, 0, 0x48, 0x82, 0x20, 0x48, 0x82, 0x24, 0x48, 0x90, 0x20}}},
+    {{2, 1, 255},
+     {"weights 2 1 255", 3, 2, 3, WORN, {0xfe, 0xed, 0xc0, 0xff, 0xee, 0x42}, 0, 27,
+      {0x1b, 0x92, 0x20, 0x49, 0x90, 0x01, 0x58, 0x82, 0x05, 0x40, 0x02, 0x20, 0x1b, 0x86, 0x0d, 0x03, 0x80, 0x24,
+       0x08, 0x90, 0x24, 0x09, 0x80, 0, 0x39, 0x86, 0, 0xc8, 0, 0x20, 0x48, 0x80, 0x24, 0xc0, 0x10, 0x60}}},
+    {{3, 2, 1},
+     {"weights 3 2 1", 3, 3, 2, WORN, {0xfe, 0xed, 0xc0, 0xff, 0xee, 0x42}, 0, 32,
+      {0x0f, 0xb0, 0, 0x49, 0x92, 0, 0x78, 0x90, 0x04, 0x40, 0x02, 0x20, 0x0b, 0x86, 0x04, 0x01, 0x82, 0x04,
+       0x08, 0x90, 0x24, 0x09, 0x80, 0, 0x38, 0x86, 0x21, 0x48, 0, 0x60, 0x58, 0x80, 0x05, 0x40, 0x10, 0x20}}},
+    {{255, 255, 255},
+     {"weights 255 255 255", 7, 3, 2, WORN, {0xfe, 0xed, 0xc0, 0xff, 0xee, 0x42}, 0, 3825,
+      {0x1b, 0x92, 0x04, 0x49, 0x90, 0x04, 0x78, 0x82, 0x04, 0xc0, 0, 0x20, 0x0b, 0x82, 0x04, 0x09, 0x80, 0x04,
+       0x08, 0x90, 0x64, 0x19, 0, 0x04, 0x38, 0x8e, 0, 0xc8, 0x10, 0x20, 0xc8, 0x80, 0x04, 0x40, 0x10, 0x20}}},
+    {{1, 1, 1}, {"weights 1 1 1, erased, write 01", 3, 1, 1, {0}, {0x01}, 0, 3, {0x41, 0x02}}},
+    {{255, 1, 1},
+     {"weights 255 1 1, strip 1 full, write 80 00", 3, 1, 2, {0, 0, 0, 0, 0, 0, 0xff, 0xff, 0xff, 0xff, 0xff, 0xff}, {0x80, 0x00}, 7, 1,
+      {0, 0, 0, 0, 0, 0, 0xff, 0xff, 0xff, 0xff, 0xff, 0xff}}},
+};
+
+static void known_weighted(void)
+{
+    size_t i;
+    for (i = 0; i < sizeof KNOWN_WEIGHTED / sizeof *KNOWN_WEIGHTED; i++) {
+        known_write(&KNOWN_WEIGHTED[i].write, &KNOWN_WEIGHTED[i].weights);
     }
 }
 
@@ -153,7 +233,7 @@ static void known_run(void)
     }
 }
 
-/* A refusal from the input, for read, price and write alike. */
+/* A refusal from the input, for read, price and write alike, the calls with weights included. */
 struct known_refusal {
     const char *what;
     uint32_t code;
@@ -200,7 +280,66 @@ static void known_refusals(void)
         check(k->what, segrunov_read(k->code, k->bytes, k->strips, page_at, k->page_len, data_at, k->data_len) == expected);
         check(k->what, segrunov_price(k->code, k->bytes, k->strips, page_at, k->page_len, data_at, k->data_len) == expected);
         check(k->what, segrunov_write(k->code, k->bytes, k->strips, page_at, k->page_len, data_at, k->data_len) == expected);
+        check(k->what, segrunov_price_weighted(k->code, k->bytes, k->strips, 1, 2, 3, page_at, k->page_len, data_at, k->data_len) == expected);
+        check(k->what, segrunov_write_weighted(k->code, k->bytes, k->strips, 1, 2, 3, page_at, k->page_len, data_at, k->data_len) == expected);
         check(k->what, holds(&page, bytes, k->page_len));
+        check(k->what, holds(&data, bytes, k->data_len));
+    }
+}
+
+/* A refusal of the calls with weights, on a page whose bytes are all the same. */
+struct known_weight_refusal {
+    const char *what;
+    struct weights weights;
+    uint32_t code;
+    uint32_t bytes;
+    uint32_t strips;
+    size_t page_len;
+    size_t data_len;
+    uint8_t filled;
+    uint32_t number;
+};
+
+/* Each weight by itself, then 9 with every other ground, before or after it: the order is 1, 2, 3, 9, 4, 5, 7. */
+static const struct known_weight_refusal KNOWN_WEIGHT_REFUSALS[] = {
+    {"w1 = 0", {0, 1, 1}, 3, 1, 1, 6, 1, 0, 9},
+    {"w2 = 0", {1, 0, 1}, 7, 1, 1, 6, 1, 0, 9},
+    {"w3 = 0", {255, 255, 0}, 3, 1, 1, 6, 1, 0, 9},
+    {"all weights 0", {0, 0, 0}, 7, 1, 1, 6, 1, 0, 9},
+    {"code 4 before w1 = 0", {0, 1, 1}, 4, 1, 1, 6, 1, 0, 1},
+    {"L = 65 before w2 = 0", {1, 0, 1}, 3, 65, 1, 6, 1, 0, 2},
+    {"S = 0 before w3 = 0", {1, 1, 0}, 3, 1, 0, 6, 1, 0, 3},
+    {"w1 = 0 before a page of 5 bytes", {0, 1, 1}, 3, 1, 1, 5, 1, 0, 9},
+    {"w2 = 0 before two bytes of data", {1, 0, 1}, 3, 1, 1, 6, 2, 0, 9},
+    {"w3 = 0 before no data", {1, 1, 0}, 3, 1, 1, 6, 0, 0, 9},
+    {"w3 = 0 before a spent page", {1, 1, 0}, 3, 1, 1, 6, 1, 0xff, 9},
+    {"w1 = 0 before both lengths, L = 2, S = 3", {0, 1, 1}, 7, 2, 3, 35, 5, 0, 9},
+    {"a spent page", {1, 1, 1}, 3, 1, 1, 6, 1, 0xff, 7},
+    {"a page of 5 bytes before a spent one", {1, 1, 1}, 3, 1, 1, 5, 1, 0xff, 4},
+    {"two bytes of data", {255, 255, 255}, 3, 1, 1, 6, 2, 0xff, 5},
+};
+
+static void known_weight_refusals(void)
+{
+    static const uint8_t bytes[DATA] = {0x80, 0x80};
+    size_t i, j;
+    for (i = 0; i < sizeof KNOWN_WEIGHT_REFUSALS / sizeof *KNOWN_WEIGHT_REFUSALS; i++) {
+        const struct known_weight_refusal *k = &KNOWN_WEIGHT_REFUSALS[i];
+        const struct weights *w = &k->weights;
+        const uint64_t expected = answer(k->number, 0);
+        uint8_t before[PAGE];
+        struct guarded page, data;
+        uint8_t *const data_at = k->data_len == 0 ? NULL : inside(&data);
+        for (j = 0; j < PAGE; j++) {
+            before[j] = k->filled;
+        }
+        fill(&page, before, k->page_len);
+        fill(&data, bytes, k->data_len);
+        check(k->what,
+              segrunov_price_weighted(k->code, k->bytes, k->strips, w->w1, w->w2, w->w3, inside(&page), k->page_len, data_at, k->data_len) == expected);
+        check(k->what,
+              segrunov_write_weighted(k->code, k->bytes, k->strips, w->w1, w->w2, w->w3, inside(&page), k->page_len, data_at, k->data_len) == expected);
+        check(k->what, holds(&page, before, k->page_len));
         check(k->what, holds(&data, bytes, k->data_len));
     }
 }
@@ -254,8 +393,10 @@ static void known_erases(void)
 static void all(void)
 {
     known_writes();
+    known_weighted();
     known_run();
     known_refusals();
+    known_weight_refusals();
     known_erases();
 }
 

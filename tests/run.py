@@ -16,7 +16,7 @@ import threading
 import time
 
 CODES = {3: (2, 0o7, 0o5), 7: (6, 0o171, 0o133)}
-WEIGHTS = (16, 20, 28)
+HOUSE = (16, 20, 28)
 HEAD = b"code bytes strips"
 EXAMPLE = b"code bytes strips\n3 1 1\ndata\n80\n00\n80\n"
 EXAMPLE_OUT = b"write answer cost levels\n1 0 16 1\n2 0 16 2\n3 0 20 3\n"
@@ -40,8 +40,8 @@ def raised(page, c):
     page[k // 8] |= 1 << (k % 8)
 
 
-def climb(old, new):
-    return sum(WEIGHTS[old:new])
+def climb(weights, old, new):
+    return sum(weights[old:new])
 
 
 def sums_of(generator, memory):
@@ -50,19 +50,19 @@ def sums_of(generator, memory):
 
 
 @functools.cache
-def choices(old_a, old_b):
+def choices(weights, old_a, old_b):
     """For each pair of bits that the cells of a stage can show, of all levels not below the old ones: the least cost, then the lowest levels."""
     best = {}
     for x in range(old_a, 4):
         for y in range(old_b, 4):
-            way = climb(old_a, x) + climb(old_b, y), bytes((x, y))
+            way = climb(weights, old_a, x) + climb(weights, old_b, y), bytes((x, y))
             shown = x % 2, y % 2
             best[shown] = min(way, best.get(shown, way))
     return best
 
 
 @functools.cache
-def write_strip(code, strip, data):
+def write_strip(code, weights, strip, data):
     """The strip after the write and its cost, or None: the least cost, then the lowest levels at the first cell that differs.
 
     All that the rest of a strip depends on is what the cells so far add to the data bits to come: of the ways that add the same, the best is kept.
@@ -71,7 +71,7 @@ def write_strip(code, strip, data):
     sums_a, sums_b = sums_of(g2, memory), sums_of(g1, memory)
     best = {0: (0, b"")}
     for t in range(8 * len(data)):
-        steps = [(a * sums_a ^ b * sums_b, *way) for (a, b), way in choices(level(strip, 2 * t), level(strip, 2 * t + 1)).items()]
+        steps = [(a * sums_a ^ b * sums_b, *way) for (a, b), way in choices(weights, level(strip, 2 * t), level(strip, 2 * t + 1)).items()]
         data_bit = bit(data, t)
         following = {}
         for so_far, (cost, levels) in best.items():
@@ -94,11 +94,11 @@ def write_strip(code, strip, data):
     return bytes(after), cost
 
 
-def write_page(code, length, strips, page, data):
-    """The page after, the answer's number and the cost."""
+def write_page(code, length, strips, page, data, weights=HOUSE):
+    """The page after, the answer's number and the cost. The run program writes with the house's weights."""
     after, cost = b"", 0
     for k in range(strips):
-        found = write_strip(code, page[6 * length * k : 6 * length * (k + 1)], data[length * k : length * (k + 1)])
+        found = write_strip(code, weights, page[6 * length * k : 6 * length * (k + 1)], data[length * k : length * (k + 1)])
         if found is None:
             return page, 7, 0
         after, cost = after + found[0], cost + found[1]

@@ -51,6 +51,19 @@ fn print_answer(name: &[u8], answer: u64) {
     io::write_all(STDOUT_FILENO, b"\n");
 }
 
+// A read into the data, and what page and data are then.
+fn show_read(code: u32, bytes: u32, strips: u32, page: &[u8], data: &mut [u8]) {
+    print_answer(
+        b"  read",
+        firmware::segrunov_read(code, bytes, strips, page, data),
+    );
+    io::write_all(STDOUT_FILENO, b"  page ");
+    print_bytes(page);
+    io::write_all(STDOUT_FILENO, b" data ");
+    print_bytes(data);
+    io::write_all(STDOUT_FILENO, b"\n");
+}
+
 // A price and a write of the data, a read into them, and what page and data are then.
 fn show_calls_on(
     name: &[u8],
@@ -70,15 +83,33 @@ fn show_calls_on(
         b"  write",
         firmware::segrunov_write(code, bytes, strips, page, data),
     );
-    print_answer(
-        b"  read",
-        firmware::segrunov_read(code, bytes, strips, page, data),
-    );
-    io::write_all(STDOUT_FILENO, b"  page ");
-    print_bytes(page);
-    io::write_all(STDOUT_FILENO, b" data ");
-    print_bytes(data);
+    show_read(code, bytes, strips, page, data);
+}
+
+// The same with weights.
+fn show_weighted_on(
+    name: &[u8],
+    code: u32,
+    bytes: u32,
+    strips: u32,
+    weights: [u8; 3],
+    page: &mut [u8],
+    data: &mut [u8],
+) {
+    let w1 = weights[0];
+    let w2 = weights[1];
+    let w3 = weights[2];
+    io::write_all(STDOUT_FILENO, name);
     io::write_all(STDOUT_FILENO, b"\n");
+    print_answer(
+        b"  price",
+        firmware::segrunov_price_weighted(code, bytes, strips, w1, w2, w3, page, data),
+    );
+    print_answer(
+        b"  write",
+        firmware::segrunov_write_weighted(code, bytes, strips, w1, w2, w3, page, data),
+    );
+    show_read(code, bytes, strips, page, data);
 }
 
 // The same with one byte of data.
@@ -169,6 +200,76 @@ fn show_shapes() {
     show_strip(2, 3);
 }
 
+// Writes with weights one after the other on one page, with L not S, and a weight of 0 in each place.
+fn show_weights() {
+    let mut page = [0u8; 36];
+    show_weighted_on(
+        b"weights 1 2 3, L = 2, S = 3, code 3",
+        3,
+        2,
+        3,
+        [1, 2, 3],
+        &mut page,
+        &mut [0x01, 0x23, 0x45, 0x67, 0x89, 0xab],
+    );
+    show_weighted_on(
+        b"weights 255 1 2, L = 2, S = 3, code 3",
+        3,
+        2,
+        3,
+        [255, 1, 2],
+        &mut page,
+        &mut [0xba, 0x98, 0x76, 0x54, 0x32, 0x10],
+    );
+    show_weighted_on(
+        b"weights 2 255 1, L = 3, S = 2, code 7",
+        7,
+        3,
+        2,
+        [2, 255, 1],
+        &mut page,
+        &mut [0x0f, 0x1e, 0x2d, 0x3c, 0x4b, 0x5a],
+    );
+    show_weighted_on(
+        b"weights 255 255 255, L = 3, S = 2, code 3",
+        3,
+        3,
+        2,
+        [255, 255, 255],
+        &mut page,
+        &mut [0xfe, 0xed, 0xc0, 0xff, 0xee, 0x42],
+    );
+    show_census(3, 2, &page);
+    let mut strip = [0u8; 6];
+    show_weighted_on(
+        b"weights 0 1 1",
+        3,
+        1,
+        1,
+        [0, 1, 1],
+        &mut strip,
+        &mut [0x80],
+    );
+    show_weighted_on(
+        b"weights 1 0 1",
+        3,
+        1,
+        1,
+        [1, 0, 1],
+        &mut strip,
+        &mut [0x80],
+    );
+    show_weighted_on(
+        b"weights 1 1 0",
+        3,
+        1,
+        1,
+        [1, 1, 0],
+        &mut strip,
+        &mut [0x80],
+    );
+}
+
 // The calls that the paper says are refused, and those beside them that are done.
 fn show_calls() {
     show_call(b"code 3", 3, 1, 1, &mut [0u8; 6]);
@@ -189,6 +290,7 @@ fn show_calls() {
     show_census(1, 1, &[0x41, 0x02, 0, 0, 0, 0]);
     show_census(1, 1, &[0xff, 0xff, 0xff, 0xff, 0xff, 0xff]);
     show_shapes();
+    show_weights();
 }
 
 fn main() {
