@@ -140,6 +140,9 @@ FAULTS = {
     "header.py": [
         ("SEGRUNOV_MAX_COST is 1835007,", change("include/segrunov.h", "1835008", "1835007")),
         ("SEGRUNOV_MAX_COST is 1835008,", change("crates/page/specs/Answers.antt", r"^largestCost = .*", "largestCost = 1835009")),
+        ("SEGRUNOV_MAX_WEIGHTED_COST is 16711679,", change("include/segrunov.h", "16711680", "16711679")),
+        ("SEGRUNOV_HOUSE_W2 is 28,", change("include/segrunov.h", r"UINT8_C\(20\)", "UINT8_C(28)")),
+        ("SEGRUNOV_HOUSE_W3 is 28,", change("crates/cells/specs/Climbs.antt", r"^house = .*", "house = 16 ∷ 20 ∷ 24 ∷ []")),
         ("SEGRUNOV_SHORT is 7,", change("include/segrunov.h", r"SEGRUNOV_SHORT UINT32_C\(3\)", "SEGRUNOV_SHORT UINT32_C(7)")),
         ("SEGRUNOV_PLANTED has no definition", append("include/segrunov.h", "#define SEGRUNOV_PLANTED UINT32_C(1)\n")),
         ("segrunov_planted, and tests/measure.c does not", append("include/segrunov.h", "uint64_t segrunov_planted(uint32_t code);\n")),
@@ -187,6 +190,7 @@ FAULTS = {
         ("price needs another stack for L = 1 than for L = 64", used("price", "done(8 * bytes)")),
         ("price needs more stack than its limit", used("price", "done(2048)")),
         ("write needs more stack than its limit", used("write", "done(12288)")),
+        ("price_weighted needs another stack for L = 1 than for L = 64", used("price_weighted", "done(8 * bytes)")),
         ("read is refused", used("read", "UINT64_C(4) << 32")),
     ],
     "edits.py": [

@@ -29,7 +29,9 @@ PLACES = {
 KEPT = {
     ("cells::weight", "[u8; 3]"): (1, "a step"),
     ("codes::Code::generators", "[codes::CodeRow; 2]"): (2, "a code"),  # the table stands in each arm
+    ("page::writing::price", "[u8; 3]"): (1, "a step"),
     ("page::writing::price_strips", "[u32; 128]"): (1, "a word of a row"),
+    ("refusals::free_step", "[u8; 3]"): (1, "a step"),
     ("stages::blocks::run_long", "[u8; 64]"): (1, "a state"),
     ("stages::blocks::run_short", "[u32; 4]"): (1, "a word"),
     ("stages::stage::price_of", "[u32; 4]"): (1, "a word"),

@@ -1,4 +1,5 @@
--- The laws of demand 3: parts of a page, its reading, its strips one after the other, its levels, what a write picks, and what does not depend on the weights.
+-- The laws of demand 3: parts of a page, its reading, its strips one after the other, its levels, what a write picks, and what does not
+-- depend on the weights.
 pub mod Jobs
 pub mod Reading
 pub mod Strips

@@ -168,7 +168,8 @@ table-passes : allPass cases ≡ true
 unfolding allPass passes isDone isSpent sameList answerTabled pageTabled stripTabled write-table table step look grow stages labels
     quotient register push dot branch next wanted sums joined better beats before lexltb parity-choice keep-or-raise odd weightOf
     cellsOf encoderOf digit listOf bitOf level dataBits stripCells stageCount cellCount byteCount part all first-none numbered writeGround
-    weightsGround freeStep lengthsGround isCode codeGround limitsGround sizesGround bytesGround stripsGround pageGround dataGround oneTo64 startIn startOf raisedTo bytesOf
+    weightsGround freeStep lengthsGround isCode codeGround limitsGround sizesGround bytesGround stripsGround pageGround dataGround oneTo64
+    startIn startOf raisedTo bytesOf
     number raisedTimes raise zeroFrom triple levelAt readPage readBy stripLevels dataBit sumBit codeBit sumOf ago costOf climb
 table-passes = refl
 

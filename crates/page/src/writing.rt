@@ -223,7 +223,7 @@ pub fn write_weighted(
     }
 }
 
-// What a write of the same data would answer; nothing is changed.
+// What a write of the same data with the house's weights would answer; nothing is changed.
 pub fn price(code: u32, bytes: u32, strips: u32, page: &[u8], data: &[u8]) -> Answer
     ensures { λ r. ⌜ r ≡ answerOf house code bytes strips (now (page .entry)) (now («data» .entry)) ⌝ }
     ensures { λ r. ⌜ Wrote house code bytes strips (now (page .entry)) (now («data» .entry)) (pageOf house code bytes strips (now (page .entry)) (now («data» .entry))) r ⌝ }
@@ -233,7 +233,7 @@ pub fn price(code: u32, bytes: u32, strips: u32, page: &[u8], data: &[u8]) -> An
     price_weighted(code, bytes, strips, w[0], w[1], w[2], page, data)
 }
 
-// Writes the data at the least cost.
+// Writes the data at the least cost in the house's weights.
 pub fn write(code: u32, bytes: u32, strips: u32, page: &mut [u8], data: &[u8]) -> Answer
     ensures { λ r. ⌜ r ≡ answerOf house code bytes strips (now (page .entry)) (now («data» .entry)) ⌝ }
     ensures { λ r. ⌜ now (page .exit) ≡ pageOf house code bytes strips (now (page .entry)) (now («data» .entry)) ⌝ }

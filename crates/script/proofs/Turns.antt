@@ -78,7 +78,13 @@ unfolding ground lengthsGround pageGround dataGround
 write-in-order v page content e p c =
     let s = size-given v e in
     let ep : page ≡ 6 * v .bytes * v .strips = p ∙ oneBit-bytes (sizeOf v) ∙ rw (s, mul-assoc) in
-    rw (house-ground (v .code) (v .bytes) (v .strips) page content, e, oneBit-bytes (v .bytes), eq-eqb page (6 * v .bytes * v .strips) ep, eq-eqb content (v .bytes * v .strips) (c ∙ s))
+    rw (
+      house-ground (v .code) (v .bytes) (v .strips) page content,
+      e,
+      oneBit-bytes (v .bytes),
+      eq-eqb page (6 * v .bytes * v .strips) ep,
+      eq-eqb content (v .bytes * v .strips) (c ∙ s),
+    )
 
 -- an answer without a ground is 0 or 7
 zero-or-seven : (w : Option Solution) (k : ℕ) → (numberOf (callAnswer none w k) ≡ 0) ⊎ (numberOf (callAnswer none w k) ≡ 7)

@@ -45,7 +45,8 @@ returns-2 c =
     let lengths = lengthsGround (a .bytes) (a .strips) (a .page) (a .«data») in
     done-next (sizesGround (a .code) (a .bytes) (a .strips)) (first-of (weightsGround (a .weights)) lengths)
     (j .judge-sizes .ensures) (t .enum-told .given .1)
-    (c .earlier .ensures (weightsGround (a .weights)) lengths (c .before .before .judge-weights .ensures) (c .before .judge-lengths .ensures))
+    (c .earlier .ensures (weightsGround (a .weights)) lengths (c .before .before .judge-weights .ensures)
+    (c .before .judge-lengths .ensures))
 
 pub judge-write-spec : {M : Type 1} → statement M
 judge-write-spec =
