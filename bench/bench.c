@@ -46,7 +46,8 @@ typedef uint64_t price_call(uint32_t, uint32_t, uint32_t, const uint8_t *, size_
 typedef uint64_t write_call(uint32_t, uint32_t, uint32_t, uint8_t *, size_t, const uint8_t *, size_t);
 
 /* The calls with weights, given the house's, so that they answer as the others do. */
-static uint64_t weighted_price(uint32_t code, uint32_t bytes, uint32_t strips, const uint8_t *page, size_t page_len, const uint8_t *data, size_t data_len)
+static uint64_t weighted_price(uint32_t code, uint32_t bytes, uint32_t strips, const uint8_t *page, size_t page_len, const uint8_t *data,
+                               size_t data_len)
 {
     return segrunov_price_weighted(code, bytes, strips, SEGRUNOV_HOUSE_W1, SEGRUNOV_HOUSE_W2, SEGRUNOV_HOUSE_W3, page, page_len, data, data_len);
 }

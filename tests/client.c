@@ -1,6 +1,6 @@
 /*
- * The known cells of document 01 and writes with other weights, through include/segrunov.h, as a firmware would call it: refusals in their order, nothing changed by them, guard
- * bytes around every buffer. The exit status is 0 where every check holds.
+ * The known cells of document 01 and writes with other weights, through include/segrunov.h, as a firmware would call it: refusals in their order,
+ * nothing changed by them, guard bytes around every buffer. The exit status is 0 where every check holds.
  *
  * With FREESTANDING it is built with no C library: it brings the two functions that the archive needs, and ends by the system's exit.
  */
@@ -335,10 +335,10 @@ static void known_weight_refusals(void)
         }
         fill(&page, before, k->page_len);
         fill(&data, bytes, k->data_len);
-        check(k->what,
-              segrunov_price_weighted(k->code, k->bytes, k->strips, w->w1, w->w2, w->w3, inside(&page), k->page_len, data_at, k->data_len) == expected);
-        check(k->what,
-              segrunov_write_weighted(k->code, k->bytes, k->strips, w->w1, w->w2, w->w3, inside(&page), k->page_len, data_at, k->data_len) == expected);
+        check(k->what, expected == segrunov_price_weighted(k->code, k->bytes, k->strips, w->w1, w->w2, w->w3, inside(&page), k->page_len, data_at,
+                                                           k->data_len));
+        check(k->what, expected == segrunov_write_weighted(k->code, k->bytes, k->strips, w->w1, w->w2, w->w3, inside(&page), k->page_len, data_at,
+                                                           k->data_len));
         check(k->what, holds(&page, before, k->page_len));
         check(k->what, holds(&data, bytes, k->data_len));
     }

@@ -2,11 +2,11 @@
 //
 //   compare [SEED [FACTOR]]
 //
-// The graph and the reading are made from document 01 alone, and from what document 02 says of the weights. A vertex is a stage of a strip with the bits of the cells of the last m stages, all
-// that the sum for a data bit needs of the past. An edge is a choice of levels for the two cells of a stage: neither below its old level, the data
-// bit right. Its weight is the cost of the two climbs. Boost gives the distance of every vertex to the end of the strip; a walk from the start along
-// edges that lose no cost, the lowest levels first, is then the write that document 01 asks for, ties included. At the first disagreement the whole
-// case is printed and the exit status is 1. FACTOR multiplies the number of random cases.
+// The graph and the reading are made from document 01 alone, and from what document 02 says of the weights. A vertex is a stage of a strip with the
+// bits of the cells of the last m stages, all that the sum for a data bit needs of the past. An edge is a choice of levels for the two cells of a
+// stage: neither below its old level, the data bit right. Its weight is the cost of the two climbs. Boost gives the distance of every vertex to the
+// end of the strip; a walk from the start along edges that lose no cost, the lowest levels first, is then the write that document 01 asks for, ties
+// included. At the first disagreement the whole case is printed and the exit status is 1. FACTOR multiplies the number of random cases.
 
 #include "segrunov.h"
 
@@ -164,7 +164,12 @@ struct StripPath {
 class StripSearch {
  public:
   StripSearch(const Trellis& trellis, const Weights& weights, Levels old, const Bytes& data)
-      : trellis_(trellis), step_cost_(weights), old_(std::move(old)), data_(data), stages_(8 * data.size()), numbers_((stages_ + 1) * trellis.states(), kEnd) {}
+      : trellis_(trellis),
+        step_weights_(weights),
+        old_(std::move(old)),
+        data_(data),
+        stages_(8 * data.size()),
+        numbers_((stages_ + 1) * trellis.states(), kEnd) {}
 
   StripPath least() {
     collect();
@@ -189,7 +194,7 @@ class StripSearch {
       for (unsigned y = old_[2 * t + 1]; y <= kFull; ++y) {
         const Trellis::Step& step = trellis_.step(state, x, y);
         if (step.data_bit != bit_at(data_, t)) continue;
-        visit(x, y, step.next, climb_cost(step_cost_, old_[2 * t], x) + climb_cost(step_cost_, old_[2 * t + 1], y));
+        visit(x, y, step.next, climb_cost(step_weights_, old_[2 * t], x) + climb_cost(step_weights_, old_[2 * t + 1], y));
       }
     }
   }
@@ -257,7 +262,7 @@ class StripSearch {
   }
 
   const Trellis& trellis_;
-  const Weights step_cost_;
+  const Weights step_weights_;
   const Levels old_;
   const Bytes& data_;
   const std::size_t stages_;
@@ -351,7 +356,8 @@ void print_outcome(const char* whose, const Outcome& outcome) {
 [[noreturn]] void disagree(const char* what, const Call& call, const Outcome& expected, const Outcome& got) {
   std::printf("compare: DISAGREEMENT: %s\n%s code %lu L %lu S %lu weights %u %u %u tenths %d page length %zu data length %zu\n", what,
               kFunctionName[call.function], static_cast<unsigned long>(call.code), static_cast<unsigned long>(call.bytes),
-              static_cast<unsigned long>(call.strips), call.weights[0], call.weights[1], call.weights[2], call.tenths, call.page.size(), call.data.size());
+              static_cast<unsigned long>(call.strips), call.weights[0], call.weights[1], call.weights[2], call.tenths, call.page.size(),
+              call.data.size());
   print_outcome("before", Outcome{0, call.page, call.data});
   print_outcome("expected", expected);
   print_outcome("got", got);
@@ -481,7 +487,7 @@ class Judge {
     PageSearch least;
     least.page = page;
     judge_read(code, shape, page, data);
-    price_and_write(code, shape, random_tariff(), page, data, least);
+    for (const Tariff& tariff : {kPlain, random_weighted()}) price_and_write(code, shape, tariff, page, data, least);
     ++counts_.kept[code_index(code)];
   }
 
@@ -492,7 +498,7 @@ class Judge {
     return weights;
   }
 
-  Tariff random_tariff() { return chance(1, 2) ? kPlain : Tariff{true, random_weights()}; }
+  Tariff random_weighted() { return Tariff{true, random_weights()}; }
 
   Bytes random_bytes(std::size_t length) {
     Bytes bytes(length);
@@ -689,13 +695,13 @@ void small_pages(Judge& judge, unsigned rounds) {
   for (const Code& code : kCodes) {
     for (const Bytes& page : {Bytes(6, 0), Bytes(6, 0xff)}) {
       every_data_byte(judge, code, kPlain, page);
-      every_data_byte(judge, code, Tariff{true, judge.random_weights()}, page);
+      every_data_byte(judge, code, judge.random_weighted(), page);
     }
     for (unsigned round = 0; round < rounds; ++round) {
       for (std::uint64_t kind = 1; kind + 1 < Judge::kStripKinds; ++kind) {
         const Bytes page = judge.strip_of_kind(kind, 6);
         every_data_byte(judge, code, kPlain, page);
-        every_data_byte(judge, code, Tariff{true, judge.random_weights()}, page);
+        every_data_byte(judge, code, judge.random_weighted(), page);
       }
       if (round % 10 == 9) progress(judge, "one-byte strips");
     }
@@ -707,7 +713,7 @@ void one_page(Judge& judge, const Code& code, Shape shape) {
   judge.judge_kept(code, shape, page);
   const Bytes after = judge.judge_write(code, shape, kPlain, page, judge.random_data(code, shape, page));
   judge.judge_kept(code, shape, after);
-  judge.judge_write(code, shape, Tariff{true, judge.random_weights()}, after, judge.random_data(code, shape, after));
+  judge.judge_write(code, shape, judge.random_weighted(), after, judge.random_data(code, shape, after));
 }
 
 // Any L and S with few bytes in all: the search of the long code has 4096 states a stage.
@@ -737,51 +743,52 @@ void fitting_write(Judge& judge, const Code& code, const Tariff& tariff, Shape s
   judge.judge_kept(code, shape, after);
 }
 
+// Without weights, with some, and with the dearest.
+void fitting_writes(Judge& judge, const Code& code, Shape shape, std::uint64_t kind) {
+  for (const Tariff& tariff : {kPlain, judge.random_weighted(), Tariff{true, {255, 255, 255}}}) fitting_write(judge, code, tariff, shape, kind);
+}
+
 // Every strip but the last takes its data, and that one hardly ever does.
 void late_write(Judge& judge, const Code& code, Shape shape) {
   const Bytes page = judge.random_full_cells(page_length(shape), 3, 4);
-  judge.judge_write(code, shape, judge.random_tariff(), page, judge.late_data(code, shape, page));
+  for (const Tariff& tariff : {kPlain, judge.random_weighted()}) judge.judge_write(code, shape, tariff, page, judge.late_data(code, shape, page));
 }
-
-constexpr Tariff kDearest = {true, {255, 255, 255}};
 
 // The limits of L and S. With the long code the widest page has half its cells full, or the search would not end in time.
 void large_pages(Judge& judge, unsigned rounds) {
   for (const Shape shape : {Shape{64, 64}, Shape{64, 1}, Shape{1, 64}, Shape{63, 64}, Shape{64, 63}}) {
-    for (const std::uint64_t kind : {0, 1, 4, 5, 6}) {
-      fitting_write(judge, kCodes[0], kPlain, shape, kind);
-      fitting_write(judge, kCodes[0], Tariff{true, judge.random_weights()}, shape, kind);
-      fitting_write(judge, kCodes[0], kDearest, shape, kind);
-    }
-    for (const std::uint64_t kind : {4, 5}) fitting_write(judge, kCodes[1], kind == 4 ? kPlain : kDearest, shape, kind);
+    for (const std::uint64_t kind : {0, 1, 4, 5, 6}) fitting_writes(judge, kCodes[0], shape, kind);
+    for (const std::uint64_t kind : {4, 5}) fitting_writes(judge, kCodes[1], shape, kind);
     for (const Code& code : kCodes) {
       judge.judge_kept(code, shape, judge.random_page(shape));
       late_write(judge, code, shape);
     }
     progress(judge, "large pages");
   }
-  for (const std::uint64_t kind : {0, 1, 2, 6}) fitting_write(judge, kCodes[1], judge.random_tariff(), Shape{1, 64}, kind);
-  for (const std::uint64_t kind : {0, 1, 2, 6}) fitting_write(judge, kCodes[1], judge.random_tariff(), Shape{64, 1}, kind);
-  for (const std::uint64_t kind : {0, 1}) fitting_write(judge, kCodes[1], kDearest, Shape{8, 8}, kind);
+  for (const std::uint64_t kind : {0, 1, 2, 6}) fitting_writes(judge, kCodes[1], Shape{1, 64}, kind);
+  for (const std::uint64_t kind : {0, 1, 2, 6}) fitting_writes(judge, kCodes[1], Shape{64, 1}, kind);
+  for (const std::uint64_t kind : {0, 1}) fitting_writes(judge, kCodes[1], Shape{8, 8}, kind);
   for (unsigned round = 0; round < rounds; ++round) {
     for (const Code& code : kCodes) late_write(judge, code, Shape{1, 64});
     one_page(judge, kCodes[0], any_shape(judge));
-    for (const std::uint64_t kind : {4, 5}) fitting_write(judge, kCodes[1], judge.random_tariff(), any_shape(judge), kind);
+    for (const std::uint64_t kind : {4, 5}) fitting_writes(judge, kCodes[1], any_shape(judge), kind);
   }
   progress(judge, "large pages");
 }
 
 std::uint64_t spent_writes(const Judge& judge) { return judge.counts().spent[0] + judge.counts().spent[1]; }
 
-// From erased until spent and some writes beyond, with and without weights as it falls, then an erase. The page is carried along; the judged calls have shown it to be the library's.
-void run_until_spent(Judge& judge, const Code& code, Shape shape, bool small_changes) {
+// From erased until spent and some writes beyond, then an erase; with mixed, each write with or without weights as it falls. The page is carried
+// along; the judged calls have shown it to be the library's.
+void run_until_spent(Judge& judge, const Code& code, Shape shape, bool small_changes, bool mixed) {
   const Bytes erased(page_length(shape), 0);
   Bytes page = erased;
   unsigned beyond = 0;
   while (beyond < 4) {
     const Bytes data = small_changes ? judge.near_data(code, shape, page) : judge.random_bytes(data_length(shape));
+    const Tariff tariff = mixed && judge.chance(1, 2) ? judge.random_weighted() : kPlain;
     const std::uint64_t spent_before = spent_writes(judge);
-    page = judge.judge_write(code, shape, judge.random_tariff(), page, data);
+    page = judge.judge_write(code, shape, tariff, page, data);
     if (beyond > 0 || spent_writes(judge) > spent_before) ++beyond;
   }
   judge.judge_kept(code, shape, page);
@@ -790,17 +797,19 @@ void run_until_spent(Judge& judge, const Code& code, Shape shape, bool small_cha
 }
 
 void runs(Judge& judge, unsigned rounds) {
-  for (unsigned round = 0; round < rounds; ++round) {
-    for (const bool small_changes : {false, true}) {
-      run_until_spent(judge, kCodes[0], random_shape(judge, 16), small_changes);
-      run_until_spent(judge, kCodes[1], random_shape(judge, 2), small_changes);
+  for (const bool mixed : {false, true}) {
+    for (unsigned round = 0; round < rounds; ++round) {
+      for (const bool small_changes : {false, true}) {
+        run_until_spent(judge, kCodes[0], random_shape(judge, 16), small_changes, mixed);
+        run_until_spent(judge, kCodes[1], random_shape(judge, 2), small_changes, mixed);
+      }
+      if (round % 25 == 24) progress(judge, "runs until spent");
     }
-    if (round % 25 == 24) progress(judge, "runs until spent");
+    run_until_spent(judge, kCodes[0], Shape{64, 2}, false, mixed);
+    run_until_spent(judge, kCodes[0], Shape{3, 20}, false, mixed);
+    run_until_spent(judge, kCodes[1], Shape{1, 16}, false, mixed);
+    run_until_spent(judge, kCodes[1], Shape{6, 1}, false, mixed);
   }
-  run_until_spent(judge, kCodes[0], Shape{64, 2}, false);
-  run_until_spent(judge, kCodes[0], Shape{3, 20}, false);
-  run_until_spent(judge, kCodes[1], Shape{1, 16}, false);
-  run_until_spent(judge, kCodes[1], Shape{6, 1}, false);
   progress(judge, "runs until spent");
 }
 

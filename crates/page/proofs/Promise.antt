@@ -1,11 +1,11 @@
 -- THE PROMISE IS KEPT by the computed write, on every input.
 --   promise-kept                    of any job that is in order where it has no ground
 --   numbered-sound, oneBit-whole    both codes and every L go with one bit a cell
---   job-in-order, wrote             so the calls' jobs keep it, with any weights
+--   job-in-order, dear-by, wrote    so the calls' jobs keep it, with any weights
 --   page-length                     a write keeps the page's length
---   spent-any-weights               whether a page is spent does not depend on the weights
 --   could-done                      a call with no ground is done where some page could be
 --   done-not-spent, spent-no-page   spent exactly when there is no page
+--   spent-any-weights               and whether it is does not depend on the weights
 use mathlib.Core.Path.{_≡_, refl, sym, _∙_, ap}
 use mathlib.Core.Bool.{Bool, true, false, cond}
 use mathlib.Core.List.{List}
