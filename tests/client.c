@@ -123,22 +123,21 @@ struct weights {
 
 static const struct weights HOUSE = {SEGRUNOV_HOUSE_W1, SEGRUNOV_HOUSE_W2, SEGRUNOV_HOUSE_W3};
 
-/* A price of what is in the two buffers; without weights where there are none. */
-static uint64_t call_price(const struct known_write *k, const struct weights *w, struct guarded *page, struct guarded *data)
-{
-    const size_t page_len = SEGRUNOV_PAGE_BYTES(k->bytes, k->strips);
-    const size_t data_len = SEGRUNOV_DATA_BYTES(k->bytes, k->strips);
-    return w == NULL ? segrunov_price(k->code, k->bytes, k->strips, inside(page), page_len, inside(data), data_len)
-                     : segrunov_price_weighted(k->code, k->bytes, k->strips, w->w1, w->w2, w->w3, inside(page), page_len, inside(data), data_len);
-}
+enum call { PRICE, WRITE };
 
-/* And a write. */
-static uint64_t call_write(const struct known_write *k, const struct weights *w, struct guarded *page, struct guarded *data)
+/* A call on what is in the two buffers, with weights where there are some. */
+static uint64_t made(enum call call, const struct known_write *k, const struct weights *w, struct guarded *page, struct guarded *data)
 {
     const size_t page_len = SEGRUNOV_PAGE_BYTES(k->bytes, k->strips);
     const size_t data_len = SEGRUNOV_DATA_BYTES(k->bytes, k->strips);
-    return w == NULL ? segrunov_write(k->code, k->bytes, k->strips, inside(page), page_len, inside(data), data_len)
-                     : segrunov_write_weighted(k->code, k->bytes, k->strips, w->w1, w->w2, w->w3, inside(page), page_len, inside(data), data_len);
+    uint8_t *const p = inside(page);
+    const uint8_t *const d = inside(data);
+    if (w == NULL) {
+        return call == PRICE ? segrunov_price(k->code, k->bytes, k->strips, p, page_len, d, data_len)
+                             : segrunov_write(k->code, k->bytes, k->strips, p, page_len, d, data_len);
+    }
+    return call == PRICE ? segrunov_price_weighted(k->code, k->bytes, k->strips, w->w1, w->w2, w->w3, p, page_len, d, data_len)
+                         : segrunov_write_weighted(k->code, k->bytes, k->strips, w->w1, w->w2, w->w3, p, page_len, d, data_len);
 }
 
 static void known_write(const struct known_write *k, const struct weights *w)
@@ -149,9 +148,9 @@ static void known_write(const struct known_write *k, const struct weights *w)
     struct guarded page, data, back;
     fill(&page, k->before, page_len);
     fill(&data, k->data, data_len);
-    check(k->what, call_price(k, w, &page, &data) == expected);
+    check(k->what, made(PRICE, k, w, &page, &data) == expected);
     check(k->what, holds(&page, k->before, page_len));
-    check(k->what, call_write(k, w, &page, &data) == expected);
+    check(k->what, made(WRITE, k, w, &page, &data) == expected);
     check(k->what, holds(&page, k->after, page_len));
     check(k->what, holds(&data, k->data, data_len));
     if (k->number == SEGRUNOV_DONE) {
@@ -183,7 +182,10 @@ struct known_weighted {
     struct known_write write;
 };
 
-/* Costs and pages by write_page, the model in tests/run.py. With the house's weights each of the first five writes another page. */
+/* The first of these lead to another page than the house's weights do. */
+enum { DECIDED = 5 };
+
+/* Costs and pages by write_page, the model in tests/run.py. */
 static const struct known_weighted KNOWN_WEIGHTED[] = {
     {{255, 1, 2},
      {"weights 255 1 2", 3, 2, 3, WORN, {0xfe, 0xed, 0xc0, 0xff, 0xee, 0x42}, 0, 1290,
@@ -216,6 +218,15 @@ static void known_weighted(void)
     size_t i;
     for (i = 0; i < sizeof KNOWN_WEIGHTED / sizeof *KNOWN_WEIGHTED; i++) {
         known_write(&KNOWN_WEIGHTED[i].write, &KNOWN_WEIGHTED[i].weights);
+    }
+    for (i = 0; i < DECIDED; i++) {
+        const struct known_write *k = &KNOWN_WEIGHTED[i].write;
+        const size_t page_len = SEGRUNOV_PAGE_BYTES(k->bytes, k->strips);
+        struct guarded page, data;
+        fill(&page, k->before, page_len);
+        fill(&data, k->data, SEGRUNOV_DATA_BYTES(k->bytes, k->strips));
+        check(k->what, SEGRUNOV_NUMBER(made(WRITE, k, NULL, &page, &data)) == SEGRUNOV_DONE);
+        check(k->what, !holds(&page, k->after, page_len));
     }
 }
 

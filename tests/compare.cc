@@ -421,11 +421,11 @@ struct Counts {
 };
 
 // How a price and a write are asked for: without weights, which means the house's, or with these.
-struct Tariff {
+struct Weighing {
   bool given;
   Weights weights;
 };
-constexpr Tariff kPlain = {false, kHouse};
+constexpr Weighing kPlain = {false, kHouse};
 
 class Judge {
  public:
@@ -468,11 +468,11 @@ class Judge {
 
   // Judges a price and a write of the data, and the read after it. Gives back the page after them. Without weights the calls that take them are
   // judged too, with the house's.
-  Bytes judge_write(const Code& code, Shape shape, const Tariff& tariff, const Bytes& page, const Bytes& data) {
-    const PageSearch least = search_page(code, shape, tariff.weights, page, data);
-    price_and_write(code, shape, tariff, page, data, least);
-    if (!tariff.given) price_and_write(code, shape, Tariff{true, kHouse}, page, data, least);
-    if (tariff.given) judge_weights(code, shape, tariff.weights, page, data, least);
+  Bytes judge_write(const Code& code, Shape shape, const Weighing& weighing, const Bytes& page, const Bytes& data) {
+    const PageSearch least = search_page(code, shape, weighing.weights, page, data);
+    price_and_write(code, shape, weighing, page, data, least);
+    if (!weighing.given) price_and_write(code, shape, Weighing{true, kHouse}, page, data, least);
+    if (weighing.given) judge_weights(code, shape, weighing.weights, page, data, least);
     count_write(code, least);
     if (SEGRUNOV_NUMBER(least.answer) == SEGRUNOV_DONE) {
       if (read_page(code, shape, least.page) != data) give_up("the search itself is wrong: its page does not read as the data");
@@ -487,7 +487,7 @@ class Judge {
     PageSearch least;
     least.page = page;
     judge_read(code, shape, page, data);
-    for (const Tariff& tariff : {kPlain, random_weighted()}) price_and_write(code, shape, tariff, page, data, least);
+    for (const Weighing& weighing : {kPlain, random_weighted()}) price_and_write(code, shape, weighing, page, data, least);
     ++counts_.kept[code_index(code)];
   }
 
@@ -498,7 +498,7 @@ class Judge {
     return weights;
   }
 
-  Tariff random_weighted() { return Tariff{true, random_weights()}; }
+  Weighing random_weighted() { return Weighing{true, random_weights()}; }
 
   Bytes random_bytes(std::size_t length) {
     Bytes bytes(length);
@@ -602,11 +602,11 @@ class Judge {
     }
   }
 
-  void price_and_write(const Code& code, Shape shape, const Tariff& tariff, const Bytes& page, const Bytes& data, const PageSearch& least) {
-    const Function price = tariff.given ? kPriceWeighted : kPrice;
-    const Function write = tariff.given ? kWriteWeighted : kWrite;
-    judge(Call{price, code.name, shape.bytes, shape.strips, tariff.weights, page, data, 0}, Outcome{least.answer, page, data});
-    judge(Call{write, code.name, shape.bytes, shape.strips, tariff.weights, page, data, 0}, Outcome{least.answer, least.page, data});
+  void price_and_write(const Code& code, Shape shape, const Weighing& weighing, const Bytes& page, const Bytes& data, const PageSearch& least) {
+    const Function price = weighing.given ? kPriceWeighted : kPrice;
+    const Function write = weighing.given ? kWriteWeighted : kWrite;
+    judge(Call{price, code.name, shape.bytes, shape.strips, weighing.weights, page, data, 0}, Outcome{least.answer, page, data});
+    judge(Call{write, code.name, shape.bytes, shape.strips, weighing.weights, page, data, 0}, Outcome{least.answer, least.page, data});
   }
 
   // Beside a write with weights, the library's own without: spent with the same strip, or neither is; and whether the weights decided the page.
@@ -684,9 +684,9 @@ void progress(const Judge& judge, const char* section) {
   std::fflush(stdout);
 }
 
-void every_data_byte(Judge& judge, const Code& code, const Tariff& tariff, const Bytes& page) {
+void every_data_byte(Judge& judge, const Code& code, const Weighing& weighing, const Bytes& page) {
   const Shape shape = {1, 1};
-  for (unsigned byte = 0; byte < 256; ++byte) judge.judge_write(code, shape, tariff, page, Bytes{static_cast<std::uint8_t>(byte)});
+  for (unsigned byte = 0; byte < 256; ++byte) judge.judge_write(code, shape, weighing, page, Bytes{static_cast<std::uint8_t>(byte)});
   judge.judge_kept(code, shape, page);
 }
 
@@ -737,21 +737,24 @@ Shape any_shape(Judge& judge) {
   return Shape{bytes, static_cast<std::uint32_t>(1 + judge.below(kMost))};
 }
 
-void fitting_write(Judge& judge, const Code& code, const Tariff& tariff, Shape shape, std::uint64_t kind) {
+void fitting_write(Judge& judge, const Code& code, const Weighing& weighing, Shape shape, std::uint64_t kind) {
   const Bytes page = judge.strip_of_kind(kind, page_length(shape));
-  const Bytes after = judge.judge_write(code, shape, tariff, page, judge.fitting_data(code, shape, page));
+  const Bytes after = judge.judge_write(code, shape, weighing, page, judge.fitting_data(code, shape, page));
   judge.judge_kept(code, shape, after);
 }
 
 // Without weights, with some, and with the dearest.
 void fitting_writes(Judge& judge, const Code& code, Shape shape, std::uint64_t kind) {
-  for (const Tariff& tariff : {kPlain, judge.random_weighted(), Tariff{true, {255, 255, 255}}}) fitting_write(judge, code, tariff, shape, kind);
+  const Weighing dearest = {true, {255, 255, 255}};
+  for (const Weighing& weighing : {kPlain, judge.random_weighted(), dearest}) fitting_write(judge, code, weighing, shape, kind);
 }
 
 // Every strip but the last takes its data, and that one hardly ever does.
 void late_write(Judge& judge, const Code& code, Shape shape) {
   const Bytes page = judge.random_full_cells(page_length(shape), 3, 4);
-  for (const Tariff& tariff : {kPlain, judge.random_weighted()}) judge.judge_write(code, shape, tariff, page, judge.late_data(code, shape, page));
+  for (const Weighing& weighing : {kPlain, judge.random_weighted()}) {
+    judge.judge_write(code, shape, weighing, page, judge.late_data(code, shape, page));
+  }
 }
 
 // The limits of L and S. With the long code the widest page has half its cells full, or the search would not end in time.
@@ -786,9 +789,9 @@ void run_until_spent(Judge& judge, const Code& code, Shape shape, bool small_cha
   unsigned beyond = 0;
   while (beyond < 4) {
     const Bytes data = small_changes ? judge.near_data(code, shape, page) : judge.random_bytes(data_length(shape));
-    const Tariff tariff = mixed && judge.chance(1, 2) ? judge.random_weighted() : kPlain;
+    const Weighing weighing = mixed && judge.chance(1, 2) ? judge.random_weighted() : kPlain;
     const std::uint64_t spent_before = spent_writes(judge);
-    page = judge.judge_write(code, shape, tariff, page, data);
+    page = judge.judge_write(code, shape, weighing, page, data);
     if (beyond > 0 || spent_writes(judge) > spent_before) ++beyond;
   }
   judge.judge_kept(code, shape, page);

@@ -138,16 +138,18 @@ pub spent-no-page : {g : Option Refusal} {J : Job} {after : List ℕ} {k : ℕ} 
     → Could J other → ⊥
 spent-no-page (spent e p f) = p .no-page
 
--- WHETHER A PAGE IS SPENT DOES NOT DEPEND ON THE WEIGHTS: spent with some weights, it is spent with any others that are permitted, and with
--- the same strip
-pub spent-any-weights : (U W : List ℕ) → weightsGround U ≡ none → weightsGround W ≡ none → (code L S : ℕ) (before content : List ℕ)
-    → Octets content → (k : ℕ) → answerOf U code L S before content ≡ A.Spent k → answerOf W code L S before content ≡ A.Spent k
-spent-any-weights U W u w code L S before content b k e =
+-- WHETHER A PAGE IS SPENT DOES NOT DEPEND ON THE WEIGHTS: spent with some weights, it is spent with any that are permitted, and with the
+-- same strip. That the first are permitted need not be asked: they were not refused
+pub spent-any-weights : (U W : List ℕ) → weightsGround W ≡ none → (code L S : ℕ) (before content : List ℕ) → Octets content → (k : ℕ)
+    → answerOf U code L S before content ≡ A.Spent k → answerOf W code L S before content ≡ A.Spent k
+spent-any-weights U W w code L S before content b k e =
     go (rw e at (wrote U code L S before content b)) _ refl (wrote W code L S before content b)
   where
-    -- both have the grounds of a read
-    same : writeGround U code L S (length before) (length content) ≡ writeGround W code L S (length before) (length content)
-    same = permitted-ground U code L S (length before) (length content) u
+    -- both are refused as a read is
+    same : writeGround U code L S (length before) (length content) ≡ none
+        → writeGround U code L S (length before) (length content) ≡ writeGround W code L S (length before) (length content)
+    same f =
+        permitted-ground U code L S (length before) (length content) (no-free-step U code L S (length before) (length content) f)
         ∙ sym (permitted-ground W code L S (length before) (length content) w)
 
     go : Wrote U code L S before content (pageOf U code L S before content) (A.Spent k) → (r : Answer)
@@ -158,5 +160,5 @@ spent-any-weights U W u w code L S before content b k e =
     go (spent f p h) r g (spent i q j) =
         g ∙ ap A.Spent (spent-once q (spent-any-strip U W (jobOf U code L S before content) p))
     go (spent f p h) r g (refused {r = s} i j) =
-        let z : none ≡ some s = sym f ∙ same ∙ i in
+        let z : none ≡ some s = sym f ∙ same f ∙ i in
         let y : _≡_ {A = ℕ} 0 1 = cc in absurd (omega arith)

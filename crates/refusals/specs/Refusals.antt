@@ -3,7 +3,8 @@
 --   first-of                    of two grounds, the one that is tested first
 --   limitsGround, sizesGround   the grounds of L and S; of the code, L and S
 --   freeStep, weightsGround     whether a weight is 0, and the ground of that
---   shapeGround, ground         the grounds of erase and census; of read
+--   shapeGround, lengthsGround  the grounds of erase and census; of both lengths
+--   ground                      the grounds of read
 --   writeGround                 the grounds of price and write
 --   tooCold, tooWarm            an erase outside 50 to 400
 --   eraseGround                 from the state: such an erase
@@ -11,8 +12,8 @@
 --   textNumber                  the number of the refusal that no call has
 --   completionOf                done, or the refusal; completionNumber, the paper's number of it
 use mathlib.Core.Bool.{Bool, cond, _&&_, _||_}
-use mathlib.Core.Option.{Option, none, some}
 use mathlib.Core.List.{List}
+use mathlib.Core.Option.{Option, none, some}
 use Prim.Native.Nat.{ℕ, _*_}
 use lib.Dec.{eqb, leb}
 use lib.IntN.{ℤ, pos}
