@@ -2,17 +2,22 @@
 --   level-bound     a level is at most 3
 --   level-same      the same three bits, the same level
 --   raisesOf-more   the levels of one cell more, added up
+--   level-past      past the end a level is 0
+--   same-level      pages with the same levels: each level, also past the end; both ways round (same-sym); a page and itself (same-self)
 --   three-bits      three bits in a row are the ones of three digits of two bytes
 use mathlib.Core.Path.{_≡_, refl, sym, _∙_, ap}
+use mathlib.Core.Bool.{Bool, true, false}
 use mathlib.Core.List.{List}
 use Prim.Native.Nat.{ℕ, suc, _<_, _≤_, _+_, _*_, _/_, _%_, _^_}
 use native.Mathlib.Omega.{arith}
-use native.Mathlib.Nat.{mod-lt, zero-lt-suc}
-use lib.ListN.{getD}
+use native.Mathlib.Nat.{mod-lt, zero-lt-suc, zero-div}
+use lib.Dec.{ltb}
+use lib.ListN.{length, getD, List·getD-eq-default}
 use lib.Count.{ones, onesIn}
 use lib.Pow.{shr-shr}
+use borrow.Author.Tests.{ltb-true, ltb-false}
 use Rattle.cells.specs.Bytes.{bitOf}
-use Rattle.cells.specs.Levels.{level, raisesOf}
+use Rattle.cells.specs.Levels.{level, raisesOf, SameLevels}
 use Rattle.cells.proofs.Places.{sumOf-more}
 use Rattle.cells.proofs.Bytes.{bit-bound, cases8, word-bit}
 
@@ -34,6 +39,37 @@ level-same x y c d e =
 pub raisesOf-more : (n : ℕ) (bytes : List ℕ) → raisesOf (suc n) bytes ≡ raisesOf n bytes + level bytes n
 unfolding raisesOf
 raisesOf-more n bytes = sumOf-more n (level bytes)
+
+-- THE SAME LEVELS. Past the end a bit is 0
+bit-past : (bytes : List ℕ) (k : ℕ) → 8 * length bytes ≤ k → bitOf bytes k ≡ 0
+unfolding bitOf
+bit-past bytes k h =
+    let e : getD bytes (k / 8) 0 ≡ 0 = List·getD-eq-default bytes 0 (omega arith) in
+    ap (λ (x : ℕ). (x / 2 ^ (k % 8)) % 2) e ∙ ap (λ (x : ℕ). x % 2) (zero-div (2 ^ (k % 8)))
+
+-- and so is a level
+level-past : (bytes : List ℕ) (c : ℕ) → 8 * length bytes ≤ 3 * c → level bytes c ≡ 0
+unfolding level
+level-past bytes c h =
+    omega (arith, bit-past bytes (3 * c) h, bit-past bytes (3 * c + 1) (omega arith), bit-past bytes (3 * c + 2) (omega arith))
+
+-- so pages with the same levels have each level in common
+pub same-level : {x y : List ℕ} → SameLevels x y → (c : ℕ) → level x c ≡ level y c
+same-level {x} {y} s c = go (ltb (3 * c) (8 * length x)) refl
+  where
+    go : (b : Bool) → ltb (3 * c) (8 * length x) ≡ b → level x c ≡ level y c
+    go true e = s .same c (ltb-true _ _ e)
+    go false e =
+        let h : 8 * length x ≤ 3 * c = ltb-false _ _ e in
+        level-past x c h ∙ sym (level-past y c (omega (arith, s .size)))
+
+-- both ways round
+pub same-sym : {x y : List ℕ} → SameLevels x y → SameLevels y x
+same-sym s = record { size = sym (s .size); same = λ c h. sym (same-level s c) }
+
+-- a page and itself
+pub same-self : {x : List ℕ} → SameLevels x x
+same-self = record { size = refl; same = λ c h. refl }
 
 -- TWO BYTES. The ones of a number of three digits
 ones3 : (t : ℕ) → t < 8 → ones t ≡ t % 2 + (t / 2) % 2 + (t / 4) % 2

@@ -9,6 +9,8 @@
 --   raisedTo-none     to raise each cell to its own level changes nothing
 --   canRise-yes       which cells can rise, and which cannot (-outside, -full)
 --   withBit-raises    to set the first zero of a cell, which is there (zeroFrom-unset), is to raise the cell
+--   start-in-strip    the start of a cell of a page is that of its number in its strip
+--   worn-evenly       neighbouring cells raised once each wear the three bits evenly
 use mathlib.Core.Path.{_≡_, refl, sym, _∙_, ap, ap₂}
 use mathlib.Core.Logic.{⊎-elim}
 use mathlib.Core.Bool.{Bool, true, false, _&&_, and-false}
@@ -21,8 +23,10 @@ use lib.Seq.{getD-set-same, getD-set-other}
 use borrow.Author.Tests.{lt-ltb, le-ltb, eq-eqb, ne-eqb}
 use Rattle.cells.specs.Bytes.{bitOf, Octets, Unset, withBit}
 use Rattle.cells.specs.Levels.{level}
-use Rattle.cells.specs.Raising.{zeroFrom, raise, raisedTimes, triple, raisedTo, oneHigher, raisedCell, canRise}
-use Rattle.cells.proofs.Places.{same?}
+use Rattle.cells.specs.Raising.{startOf, startIn, zeroFrom, raise, raisedTimes, triple, raisedTo, oneHigher, raisedCell, canRise}
+use Rattle.cells.specs.Places.{sumOf}
+use Rattle.cells.proofs.Places.{same?, sumOf-more}
+use Rattle.cells.proofs.Parts.{place-mod}
 use Rattle.cells.proofs.Bytes.{bit-bound, length-bytesOf, bytesOf-bit, bytesOf-same, bytes-bits}
 use Rattle.cells.proofs.Bytes.{length-withBit, bit-same, bit-other, octets-withBit}
 
@@ -272,3 +276,48 @@ withBit-raises start page c inside low o =
     (λ n. bit-other page (3 * c + z) u (3 * c + i) (λ e. n (omega arith)) ∙ sym (triple-bit page c i h) ∙ sym (getD-set-other t z i 1 0 n))
     (same? i z))
     (λ e i n h k. bit-other page (3 * c + z) u (3 * e + i) (λ f. n (omega arith)))
+
+-- THE STARTS. Cell i of strip k starts where cell i of a strip does, whichever strip it is
+pub start-in-strip : (start : ℕ → ℕ) (n k i : ℕ) → i < n → startIn start n (n * k + i) ≡ start i
+unfolding startIn
+start-in-strip start n k i h = ap start (place-mod n k i h)
+
+-- what the first raise of cell c leaves in bit i
+abbrev worn : ℕ → ℕ → ℕ
+worn i c = getD (raise (startOf c) (0 ∷ 0 ∷ 0 ∷ [])) i 0
+
+-- of three neighbours one sets it
+worn-once : (n i : ℕ) → i < 3 → worn i (3 * n) + worn i (3 * n + 1) + worn i (3 * n + 2) ≡ 1
+unfolding startOf raise zeroFrom
+worn-once n i h =
+    let a : (3 * n) % 3 ≡ 0 = omega arith in
+    let b : (3 * n + 1) % 3 ≡ 1 = omega arith in
+    let c : (3 * n + 2) % 3 ≡ 2 = omega arith in
+    rw (a, b, c) (each i h)
+  where
+    each : (i : ℕ) → i < 3
+        → getD (raise 0 (0 ∷ 0 ∷ 0 ∷ [])) i 0 + getD (raise 1 (0 ∷ 0 ∷ 0 ∷ [])) i 0 + getD (raise 2 (0 ∷ 0 ∷ 0 ∷ [])) i 0 ≡ 1
+    each zero h = refl
+    each (suc zero) h = refl
+    each (suc (suc zero)) h = refl
+    each (suc (suc (suc i))) h = absurd (let z : ⊥ = omega arith in z)
+
+-- 'neighbouring bits worn evenly': where the cells 0 to 3·n − 1 are raised once each from level 0, each of the three bits is set n times
+pub worn-evenly : (n i : ℕ) → i < 3 → sumOf (3 * n) (λ c. getD (raise (startOf c) (0 ∷ 0 ∷ 0 ∷ [])) i 0) ≡ n
+unfolding sumOf
+worn-evenly zero i h = refl
+worn-evenly (suc n) i h =
+    let e : 3 * suc n ≡ suc (suc (suc (3 * n))) = omega arith in
+    let x : suc (3 * n) ≡ 3 * n + 1 = omega arith in
+    let y : suc (suc (3 * n)) ≡ 3 * n + 2 = omega arith in
+    ap (λ (m : ℕ). sumOf m (worn i)) e
+    ∙ omega (
+      arith,
+      sumOf-more (suc (suc (3 * n))) (worn i),
+      sumOf-more (suc (3 * n)) (worn i),
+      sumOf-more (3 * n) (worn i),
+      ap (worn i) x,
+      ap (worn i) y,
+      worn-once n i h,
+      worn-evenly n i h,
+    )

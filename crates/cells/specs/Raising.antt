@@ -1,6 +1,7 @@
 -- Raising: which bit of a cell becomes one, and the bytes after it.
 --   startOf c                 the bit at which the raises of a cell start to look for a zero, by the cell's number in its strip
---   startIn n c               the same for cell c of a page whose strips have n cells each
+--   olderStart c              the same in the releases before request K7
+--   startIn start n c         the same for cell c of a page whose strips have n cells each, by any such order of its cells
 --   zeroFrom s bits           the place of the first zero from bit s on, going round the three
 --   raise s bits              the bits of a cell raised by one
 --   raisedTimes s n bits      raised n times
@@ -17,16 +18,20 @@ use lib.ListN.{getD, length, set}
 use Rattle.cells.specs.Bytes.{bitOf, bytesOf}
 use Rattle.cells.specs.Levels.{level}
 
--- 'A cell raised by one turns its lowest-numbered zero bit into a one': the raises of every cell look for a zero from bit 0 on. Request K7
--- makes it the cell's number mod 3, here and in the function `raise`.
+-- 'From this release a raise starts at the cell's bit number (cell number in its strip mod 3)' (document 02, K7)
 unfoldable pub startOf : ℕ → ℕ
-startOf c = 0
+startOf c = c % 3
 
--- the start of cell c of a page, whose number in its strip of n cells is c mod n
-unfoldable pub startIn : ℕ → ℕ → ℕ
-startIn n c = startOf (c % n)
+-- in the releases before, 'a cell raised by one turns its lowest-numbered zero bit into a one': every raise starts at bit 0
+unfoldable pub olderStart : ℕ → ℕ
+olderStart c = 0
 
--- the place of the first zero of three bits from bit s on, going round the three; the third of them where the first two are ones
+-- cell c of a page has the number c mod n in its strip of n cells
+unfoldable pub startIn : (ℕ → ℕ) → ℕ → ℕ → ℕ
+startIn start n c = start (c % n)
+
+-- it 'goes round the three until it meets a zero': the place of the first zero of three bits from bit s on; the third of them where the
+-- first two are ones
 unfoldable pub zeroFrom : ℕ → List ℕ → ℕ
 zeroFrom s bits =
     cond (eqb (getD bits (s % 3) 0) 0) (s % 3) (cond (eqb (getD bits ((s + 1) % 3) 0) 0) ((s + 1) % 3) ((s + 2) % 3))

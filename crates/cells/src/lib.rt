@@ -78,8 +78,8 @@ fn zero_from(bytes: &[u8], cell: u32, start: u32) -> usize
     k + (first + 2) % 3
 }
 
-// Raises a cell by one: its lowest-numbered zero bit becomes one, the first zero from bit 0 (`startOf`) on. A cell at level 3, or one that
-// does not lie in the slice whole, is not raised, and nothing changes. The answer is whether it was raised.
+// Raises a cell of a strip by one: of its three bits the first zero from bit `cell` mod 3 on, going round, becomes one. A cell at level 3,
+// or one that does not lie in the slice whole, is not raised, and nothing changes. The answer is whether it was raised.
 pub fn raise(bytes: &mut [u8], cell: u32) -> bool
     ensures { λ r. ⌜ r ≡ canRise (now (bytes .entry)) cell ⌝ }
     ensures { λ r. ⌜ now (bytes .exit) ≡ cond r (raisedCell startOf (now (bytes .entry)) cell) (now (bytes .entry)) ⌝ }
@@ -91,7 +91,7 @@ pub fn raise(bytes: &mut [u8], cell: u32) -> bool
     if level(bytes, cell) == 3 {
         return false;
     }
-    let z = zero_from(bytes, cell, 0);
+    let z = zero_from(bytes, cell, cell % 3);
     set_bit(bytes, z);
     true
 }
