@@ -1,7 +1,8 @@
 -- DEMAND 3, proved: where the computed write of a page has a solution, the page raised to its levels is the cheapest of ALL pages that read
 -- as the data with no cell lowered and marked cells kept; where it has none, no page is, and the strip named is the lowest that takes no
--- pattern. For any layout, code, weights and marks, any L and S, and every content.
+-- pattern. For any layout, code, weights and marks, any L and S, every content, and wherever the raises of a cell start.
 --   problem-solves    the write of a strip is its best
+--   page-cell         what lies in a page is one of its cells
 --   solution-raised   the page raised to a solution's levels has these levels
 --   cheapest          a solution is the cheapest
 --   spent-at          no solution: the page is spent, at the first strip that has none
@@ -18,7 +19,7 @@ use lib.Seq.{take-all}
 use borrow.Author.Tests.{ltb-true, ltb-false}
 use Rattle.cells.specs.Places.{listOf, sumOf, Each, no-more, and-each}
 use Rattle.cells.specs.Levels.{level}
-use Rattle.cells.specs.Raising.{startIn, raisedTo}
+use Rattle.cells.specs.Raising.{startOf, startIn, raisedTo}
 use Rattle.cells.specs.Climbs.{climb, costOf, weightOf}
 use Rattle.cells.proofs.Places.{length-listOf, listOf-at, sumOf-same}
 use Rattle.cells.proofs.Levels.{level-bound}
@@ -115,8 +116,8 @@ module _ (J : Job) (I : InOrder J) where
       omega arith
 
   -- and what lies in it is a cell
-  outside : (c : ℕ) → 3 * c < 8 * length (J .page) → c < pageCells J
-  outside c h =
+  pub page-cell : (c : ℕ) → 3 * c < 8 * length (J .page) → c < pageCells J
+  page-cell c h =
       let e : 3 * pageCells J ≡ 8 * length (J .page) =
       sym (mul-assoc 3 (width J) (J .strips)) ∙ ap (λ (x : ℕ). x * J .strips) (I .whole .cells-fill) ∙ mul-assoc 8 _ (J .strips)
       ∙ ap (λ (x : ℕ). 8 * x) (sym (I .page-is)) in
@@ -138,13 +139,33 @@ module _ (J : Job) (I : InOrder J) where
             ∙ reads-only (J .layout) (J .code) (J .bytes) (J .strips) other (J .content) (p .reads) j h t l;
       }))
 
+  -- what a solution's levels are
+  solution-levels : (a : Solution) → pageWrite J ≡ some a
+      → (length (a .levels) ≡ pageCells J) × PageLevels J (levelAt (a .levels))
+      × (a .cost ≡ sumOf (pageCells J) (climbs J (levelAt (a .levels))))
+  solution-levels a e = all-levels J (I .sound) (I .whole) (a .cost) (a .levels) (the-best (rw e at solved) .valid)
+
+  -- a page that could be has a solution for each of its strips
+  no-page : pageWrite J ≡ none → (other : List ℕ) → Could J other → ⊥
+  no-page e other p = none-valid (rw e at solved) _ _ (could-all other p)
+
+  -- where there is no solution, the first strip that has none
+  first-closed : pageWrite J ≡ none → ClosedAt (stripProblem J) (J .strips) (λ k. k) (spentStrip J)
+  unfolding pageWrite spentStrip
+  first-closed e =
+      closed-at (stripProblem J) (J .strips) (λ k. k) _
+      (none-first (stripWrite J) (stripProblem J) (λ k. width J) Any (λ k n. problem-solves k) (problem-width J (I .sound) (I .whole))
+      (any (listOf (J .strips) (λ k. k))) e)
+
+-- RAISED TO LEVELS, the raises of a cell starting where `start` says
+module _ (start : ℕ → ℕ) (J : Job) (I : InOrder J) where
   -- the page raised to levels
   abbrev raised : List ℕ → List ℕ
-  raised y = raisedTo (startIn (width J)) (J .page) (levelAt y)
+  raised y = raisedTo (startIn start (width J)) (J .page) (levelAt y)
 
   -- levels that the page admits: the page raised to them has just these levels
   raised-level : (y : List ℕ) → PageLevels J (levelAt y) → (c : ℕ) → c < pageCells J → level (raised y) c ≡ levelAt y c
-  raised-level y v c h = raisedTo-level (startIn (width J)) (J .page) (levelAt y) c (inside c h) (v .up c h) (v .high c h)
+  raised-level y v c h = raisedTo-level (startIn start (width J)) (J .page) (levelAt y) c (inside J I c h) (v .up c h) (v .high c h)
 
   -- and could be
   levels-could : (y : List ℕ) → PageLevels J (levelAt y) → Could J (raised y)
@@ -159,49 +180,31 @@ module _ (J : Job) (I : InOrder J) where
     marked-stay = λ c h m. raised-level y v c h ∙ v .kept c h m;
   }
 
-  -- what a solution's levels are
-  solution-levels : (a : Solution) → pageWrite J ≡ some a
-      → (length (a .levels) ≡ pageCells J) × PageLevels J (levelAt (a .levels))
-      × (a .cost ≡ sumOf (pageCells J) (climbs J (levelAt (a .levels))))
-  solution-levels a e = all-levels J (I .sound) (I .whole) (a .cost) (a .levels) (the-best (rw e at solved) .valid)
-
-  -- the page raised to them has them
+  -- the page raised to a solution's levels has them
   pub solution-raised : (a : Solution) → pageWrite J ≡ some a → (c : ℕ) → c < pageCells J
       → level (raised (a .levels)) c ≡ levelAt (a .levels) c
-  solution-raised a e = raised-level (a .levels) (solution-levels a e .1)
+  solution-raised a e = raised-level (a .levels) (solution-levels J I a e .1)
 
   -- AN ANSWER: the page raised to its levels is the cheapest
-  pub cheapest : (a : Solution) → pageWrite J ≡ some a → Cheapest J (raised (a .levels)) (a .cost)
+  pub cheapest : (a : Solution) → pageWrite J ≡ some a → Cheapest start J (raised (a .levels)) (a .cost)
   cheapest a e = record {
     could = levels-could (a .levels) (v .1);
     raised = raisedTo-same _ (J .page) (levelAt (a .levels)) (level (raised (a .levels)))
-        (λ c h. sym (raised-level (a .levels) (v .1) c (outside c h)));
+        (λ c h. sym (raised-level (a .levels) (v .1) c (page-cell J I c h)));
     paid = costIn-levels J (raised (a .levels)) (levelAt (a .levels)) (raised-level (a .levels) (v .1)) ∙ sym (v .2);
-    least = λ other p. cost-least best _ _ (could-all other p);
+    least = λ other p. cost-least best _ _ (could-all J I other p);
     among-equals = λ other p f c h n.
         lower-at-first (pageCells J) (raised (a .levels)) other (a .levels) (λ i k. sym (raised-level (a .levels) (v .1) i k))
-        (levels-first (pageCells J) page-width best _ _ (could-all other p) f
+        (levels-first (pageCells J) (page-width J I) best _ _ (could-all J I other p) f
         (λ q. n (raised-level (a .levels) (v .1) c h ∙ ap (λ (l : List ℕ). levelAt l c) q ∙ level-there (pageCells J) other c h)));
   }
     where
       best : Best (All (stripProblem J) (listOf (J .strips) (λ k. k))) a
-      best = the-best (rw e at solved)
+      best = the-best (rw e at (solved J I))
 
       v : (length (a .levels) ≡ pageCells J) × PageLevels J (levelAt (a .levels))
           × (a .cost ≡ sumOf (pageCells J) (climbs J (levelAt (a .levels))))
-      v = solution-levels a e
-
-  -- a page that could be has a solution for each of its strips
-  no-page : pageWrite J ≡ none → (other : List ℕ) → Could J other → ⊥
-  no-page e other p = none-valid (rw e at solved) _ _ (could-all other p)
-
-  -- where there is no solution, the first strip that has none
-  first-closed : pageWrite J ≡ none → ClosedAt (stripProblem J) (J .strips) (λ k. k) (spentStrip J)
-  unfolding pageWrite spentStrip
-  first-closed e =
-      closed-at (stripProblem J) (J .strips) (λ k. k) _
-      (none-first (stripWrite J) (stripProblem J) (λ k. width J) Any (λ k n. problem-solves k) (problem-width J (I .sound) (I .whole))
-      (any (listOf (J .strips) (λ k. k))) e)
+      v = solution-levels J I a e
 
 -- A STRIP ALONE is a job of one strip
 part-zero : (n : ℕ) (x : List ℕ) → length x ≡ n → part n 0 x ≡ x
@@ -250,8 +253,8 @@ module _ (J : Job) (I : InOrder J) where
     write-pattern : (d : ℕ) (y : List ℕ) → stripProblem J k d y → Fits J k
     unfolding stripJob
     write-pattern d y w = record {
-      pattern = raisedTo (startIn (width J)) (part (byteCount (J .layout) (J .bytes)) k (J .page)) (levelAt y);
-      could = levels-could (stripJob J k) alone y (all-levels (stripJob J k) (I .sound) (I .whole) _ y one .1);
+      pattern = raisedTo (startIn startOf (width J)) (part (byteCount (J .layout) (J .bytes)) k (J .page)) (levelAt y);
+      could = levels-could startOf (stripJob J k) alone y (all-levels (stripJob J k) (I .sound) (I .whole) _ y one .1);
     }
       where
         long : length y ≡ width J

@@ -33,11 +33,11 @@ unfoldable pub jobCost : Job → List ℕ → ℕ
 jobCost J after = costOf (weightOf (J .weights)) (pageCells J) (J .page) after
 
 -- 'Write picks the page of least cost that reads as the data with no cell lowered. Among equals it takes the one with the lower level at
--- the first cell whose levels differ.' 'A cell raised by one turns its lowest-numbered zero bit into a one; a cell that isn't raised keeps
--- its bits.'
-pub record Cheapest (J : Job) (after : List ℕ) (cost : ℕ) : Type 0 where
+-- the first cell whose levels differ.' 'A cell that isn't raised keeps its bits'; the raises of a cell start at the bit `start` of its
+-- number in its strip
+pub record Cheapest (start : ℕ → ℕ) (J : Job) (after : List ℕ) (cost : ℕ) : Type 0 where
   pub could : Could J after
-  pub raised : after ≡ raisedTo (startIn (width J)) (J .page) (level after)
+  pub raised : after ≡ raisedTo (startIn start (width J)) (J .page) (level after)
   pub paid : jobCost J after ≡ cost
   pub least : (other : List ℕ) → Could J other → cost ≤ jobCost J other
   pub among-equals : (other : List ℕ) → Could J other → jobCost J other ≡ cost
