@@ -5,4 +5,5 @@ pub mod Ways
 pub mod Labels
 pub mod Plans
 pub mod Digits
+pub mod Shown
 pub mod Carried

@@ -2,9 +2,11 @@
 --   digitIn digits t            the digit of stage t: eight a byte, the first worth most
 --   wantedFirst, wantedSecond   the bits that the digits want of a stage's cells
 --   carriedTo                   the level of each cell after the digits are carried out
---   shownCell, shownPair        the bits of a cell, and of two, that are to show given bits
---   Shows                       the program's table of such pairs
---   placeIn, shownBits          the 48 bits of a block by that table
+--   shownCell                   the bits of a cell that is to show a given bit
+--   cellIn word j               cell j of a word, three bits a cell
+--   wantedBits, Wants           the bits that are wanted of the cells of a block, as a word
+--   Onward                      marks on bits of cells, each moved to the next bit
+--   Shown                       the word of a block whose cells show what is wanted
 --   withBits                    a strip with these bits in a block
 --   CarryAsked                  what carrying out asks
 use mathlib.Core.Path.{_≡_}
@@ -13,7 +15,7 @@ use Prim.Native.Nat.{ℕ, suc, _+_, _-_, _*_, _/_, _%_, _^_, _<_, _≤_}
 use lib.ListN.{length, getD, set}
 use Rattle.cells.specs.Places.{number}
 use Rattle.cells.specs.Levels.{level}
-use Rattle.cells.specs.Raising.{raisedTimes}
+use Rattle.cells.specs.Raising.{startOf, raisedTimes}
 use Rattle.codes.specs.Generators.{Generators, g2}
 use Rattle.codes.specs.Layouts.{oneBit, byteCount}
 use Rattle.codes.specs.Taps.{tapsOf, parityOf, windowOf}
@@ -46,23 +48,31 @@ unfoldable pub shownCell : (start x v : ℕ) → ℕ
 shownCell start x v =
     number 3 (λ i. getD (raisedTimes start ((onesOf x + v) % 2) (x % 2 ∷ x / 2 % 2 ∷ x / 4 % 2 ∷ [])) i 0)
 
--- two cells by their six bits, and the bits that they are to show, worth 64 and 128
-unfoldable pub shownPair : (first second k : ℕ) → ℕ
-shownPair first second k = shownCell first (k % 8) (k / 64 % 2) + 8 * shownCell second (k / 8 % 8) (k / 128)
+-- cell j of a word of three bits a cell, the first cell worth least
+unfoldable pub cellIn : ℕ → ℕ → ℕ
+cellIn word j = word / 2 ^ (3 * j) % 8
 
--- the table of all pairs
-pub record Shows (first second : ℕ) (pairs : List ℕ) : Type 0 where
-  pub at : (k : ℕ) → k < 256 → getD pairs k 0 ≡ shownPair first second k
-  pub less : (k : ℕ) → getD pairs k 0 < 64
+-- the bits that are wanted of the two cells of stage i of a block, each at its cell's lowest bit: `first` and `second` have the first
+-- stage's worth most
+abbrev pub wantedPair : (first second i : ℕ) → ℕ
+wantedPair first second i = first / 2 ^ (7 - i) % 2 + 8 * (second / 2 ^ (7 - i) % 2)
 
--- the place in the table of the pair of stage i of a block, where its cells are to show the bits `first` and `second`, the first stage's
--- worth most
-abbrev pub placeIn : (bits first second i : ℕ) → ℕ
-placeIn bits first second i = bits / 2 ^ (6 * i) % 64 + 64 * (first / 2 ^ (7 - i) % 2 + 2 * (second / 2 ^ (7 - i) % 2))
+-- those of its first n stages as a word
+abbrev pub wantedBits : (first second n : ℕ) → ℕ
+wantedBits first second = packedOf 6 (wantedPair first second)
 
--- the bits of its first n stages, six a stage
-abbrev pub shownBits : (pairs : List ℕ) (bits first second n : ℕ) → ℕ
-shownBits pairs bits first second = packedOf 6 (λ i. getD pairs (placeIn bits first second i) 0)
+-- a word with a bit, 0 or 1, for each of sixteen cells
+pub record Wants (wanted : ℕ) : Type 0 where
+  pub less : wanted < 2 ^ 48
+  pub bit : (j : ℕ) → cellIn wanted j ≤ 1
+
+-- each mark in sixteen cells on the next bit of its cell, going round the three
+pub record Onward (marks r : ℕ) : Type 0 where
+  pub moved : (j : ℕ) → j < 16 → cellIn r j ≡ cellIn marks j * 2 % 8 + cellIn marks j / 4
+
+-- the sixteen cells of block q, each showing the bit that is wanted of it
+pub record Shown (q bits wanted r : ℕ) : Type 0 where
+  pub cells : (j : ℕ) → j < 16 → cellIn r j ≡ shownCell (startOf (16 * q + j)) (cellIn bits j) (cellIn wanted j)
 
 -- byte j of 48 bits
 unfoldable pub byteIn : ℕ → ℕ → ℕ

@@ -1,6 +1,6 @@
-// Carrying the digits of a strip out, eight stages at a time: each cell that does not show the bit that they want is raised by one.
-// Which bit of a cell a raise sets is a matter of the bit at which it starts to look for a zero (`startOf`): the table is made for any
-// start.
+// Carrying the digits of a strip out, eight stages at a time: each cell that does not show the bit that they want is raised by one. Which
+// bit of a cell a raise sets is a matter of the bit at which it starts to look for a zero (`startOf`). Sixteen cells are raised at once, as
+// one word of three bits a cell.
 use crate::backward::data_window;
 use crate::rows::bits_of;
 use codes::Code;
@@ -9,57 +9,54 @@ ghost use Prim.Native.Nat.{ℕ, _+_, _*_, _/_, _%_, _^_, _<_, _≤_};
 ghost use lib.ListN.{length, getD};
 ghost use Rattle.cells.specs.Raising.{startOf, raisedTo};
 ghost use Rattle.codes.specs.Codes.{generatorsOf};
-ghost use Rattle.trellis.specs.Carrying.{shownCell, shownBits, withBits, digitIn, carriedTo, CarryAsked, Shows};
+ghost use Rattle.trellis.specs.Carrying.{wantedBits, Onward, Wants, Shown, withBits, digitIn, carriedTo, CarryAsked};
 
-// The three bits of a cell that is to show the bit v, its raises starting at the bit `start`.
-fn shown_cell(start: u32, bits: u32, v: u32) -> u32
-    requires { ⌜ (start < 3) × (bits < 8) × (v ≤ 1) ⌝ }
-    ensures { λ r. ⌜ (r ≡ shownCell start bits v) × (r < 8) ⌝ }
-{
-    if u32::count_ones(bits) % 2 == v {
-        return bits;
-    }
-    if (bits >> start) % 2 == 0 {
-        return bits + (1u32 << start);
-    }
-    let second = (start + 1) % 3;
-    if (bits >> second) % 2 == 0 {
-        return bits + (1u32 << second);
-    }
-    7
-}
+// The lowest bit of each of sixteen cells, and the two others.
+const LOWEST: u64 = 0o1111_1111_1111_1111;
 
-// What becomes of two cells: by their six bits, and the bits that they are to show, the first's worth 64 and the second's 128.
-pub fn shown_pairs(first: u32, second: u32) -> [u8; 256]
-    requires { ⌜ (first < 3) × (second < 3) ⌝ }
-    ensures { λ r. ⌜ Shows first second r ⌝ }
-{
-    let mut pairs = [0u8; 256];
-    let mut k: usize = 0;
-    while k < 256 {
-        let x = k as u32;
-        let a = shown_cell(first, x % 8, x / 64 % 2);
-        let b = shown_cell(second, x / 8 % 8, x / 128);
-        pairs[k] = (a + 8 * b) as u8;
-        k += 1;
-    }
-    pairs
-}
+const OTHERS: u64 = 0o6666_6666_6666_6666;
 
-// The 48 bits of eight stages, where the cells are to show these bits: the first stage's worth most.
-fn shown_bits(pairs: &[u8; 256], bits: u64, first: u32, second: u32) -> u64
-    requires { ⌜ ((k : ℕ) → getD (now pairs) k 0 < 64) ⌝ }
-    ensures { λ r. ⌜ r ≡ shownBits (now (pairs .entry)) bits first second 8 ⌝ }
+// The starts of sixteen cells, each one bit on from the cell's before it: the first cell's is bit 0, 1, 2.
+const STARTS: [u64; 3] = [
+    0o1421_4214_2142_1421,
+    0o2142_1421_4214_2142,
+    0o4214_2142_1421_4214,
+];
+
+// The bits that are wanted of the cells of eight stages, each at the lowest bit of its cell; those of the first cells and of the second
+// come with the first stage's worth most.
+fn wanted_bits(first: u32, second: u32) -> u64
+    ensures { λ r. ⌜ r ≡ wantedBits first second 8 ⌝ }
 {
     let mut out: u64 = 0;
     let mut i: u32 = 0;
     while i < 8 {
-        let v = (first >> (7 - i)) % 2 + 2 * ((second >> (7 - i)) % 2);
-        let k = ((bits >> (6 * i)) % 64) as usize + 64 * (v as usize);
-        out += (pairs[k] as u64) << (6 * i);
+        let v = (first >> (7 - i)) % 2 + 8 * ((second >> (7 - i)) % 2);
+        out += (v as u64) << (6 * i);
         i += 1;
     }
     out
+}
+
+// Each mark on the next bit of its cell, going round the three.
+fn onward(marks: u64) -> u64
+    requires { ⌜ marks < 2 ^ 48 ⌝ }
+    ensures { λ r. ⌜ Onward marks r ⌝ }
+{
+    ((marks << 1) & OTHERS) | ((marks >> 2) & LOWEST)
+}
+
+// The 48 bits of block q, where each cell that does not show the bit wanted of it is raised: a mark on its start goes on where it meets a
+// one, twice at most. Three ones stay as they are.
+fn shown_bits(q: usize, bits: u64, wanted: u64) -> u64
+    requires { ⌜ (bits < 2 ^ 48) × Wants wanted ⌝ }
+    ensures { λ r. ⌜ Shown q bits wanted r ⌝ }
+{
+    let raises = ((bits ^ (bits >> 1) ^ (bits >> 2)) & LOWEST) ^ wanted;
+    let first = (7 * raises) & STARTS[q % 3];
+    let second = onward(bits & first);
+    let third = onward(bits & second);
+    bits | first | second | third
 }
 
 // Puts 48 bits into block q of a strip.
@@ -77,9 +74,8 @@ fn put_bits(strip: &mut [u8], q: usize, bits: u64)
 }
 
 // Carries the digits out: each cell that does not show the bit that they want is raised by one.
-pub fn carry_strip(code: Code, pairs: &[u8; 256], strip: &mut [u8], data: &[u8], digits: &[u8])
+pub fn carry_strip(code: Code, strip: &mut [u8], data: &[u8], digits: &[u8])
     requires { ⌜ CarryAsked (now strip) (now «data») (now digits) ⌝ }
-    requires { ⌜ Shows (startOf 0) (startOf 1) (now pairs) ⌝ }
     ensures { λ _. ⌜ now (strip .exit) ≡ raisedTo startOf (now (strip .entry))
         (carriedTo (generatorsOf code) (now (strip .entry)) (now («data» .entry)) (digitIn (now (digits .entry)))) ⌝ }
 {
@@ -92,7 +88,7 @@ pub fn carry_strip(code: Code, pairs: &[u8; 256], strip: &mut [u8], data: &[u8],
         let w = before * 256 + digit;
         let first = code.first_bits(w);
         let second = code.second_bits(w) ^ labels;
-        let bits = shown_bits(pairs, bits_of(strip, q), first, second);
+        let bits = shown_bits(q, bits_of(strip, q), wanted_bits(first, second));
         put_bits(strip, q, bits);
         before = digit;
         q += 1;

@@ -1,0 +1,390 @@
+-- WORDS OF CELLS, three bits a cell: what the operations on words do to each cell, and that a word so made shows what is wanted of its cells.
+--   shown-less, shown-bit    what is shown of a cell is three bits, those of the cell raised
+--   cell-bit                 the bits of a cell of a word
+--   low-cell, high-cell      the two cells of a stage of six bits
+--   wanted-wants             the bits that are wanted of a block are a word of them
+--   onward-moves             how the program moves marks
+--   shown-cells              how the program raises the cells of a block
+use mathlib.Core.Path.{_≡_, refl, sym, _∙_, ap, ap₂}
+use mathlib.Core.Logic.{⊎-elim}
+use mathlib.Core.Bool.{Bool, true, false}
+use mathlib.Core.List.{List, [], _∷_}
+use Prim.Native.Nat.{ℕ, zero, suc, _+_, _*_, _-_, _/_, _%_, _^_, _<_, _≤_}
+use native.Mathlib.Omega.{arith}
+use native.Mathlib.Nat.{mod-lt, mod-eq-of-lt, div-eq-of-lt, mul-le-mul-left, zero-lt-suc}
+use lib.Bits.{bitAnd, bitOr, bitXor, and-shr, and-mod, or-shr, or-mod, xor-shr, xor-mod, and-mask, xor-lt, xor-add-and, and-le-r}
+use lib.Dec.{ltb}
+use lib.ListN.{getD, set}
+use lib.Pow.{pow-mono, shr-shr, mod-pow-add, mod-mod-pow}
+use borrow.Author.Tests.{ltb-true, ltb-false}
+use Rattle.cells.specs.Places.{number}
+use Rattle.cells.specs.Raising.{startOf, zeroFrom, raise, raisedTimes}
+use Rattle.cells.proofs.Places.{same?, number-less}
+use Rattle.cells.proofs.Bytes.{number-bit, cases8}
+use Rattle.codes.proofs.Taps.{low-bit}
+use Rattle.codes.proofs.Divisions.{xor-bit}
+use Rattle.trellis.specs.Rows.{onesOf, packedOf}
+use Rattle.trellis.specs.Carrying.{shownCell, cellIn, wantedPair, wantedBits, Wants, Onward, Shown}
+use Rattle.trellis.proofs.Digits.{packed-bits, packed-fits}
+
+-- CELLS. A place of some bits set to 1 leaves bits
+set-bits : (l : List ℕ) (k : ℕ) → ((i : ℕ) → getD l i 0 < 2) → (i : ℕ) → getD (set l k 1) i 0 < 2
+set-bits [] k b i = b i
+set-bits (x ∷ l) zero b zero = omega arith
+set-bits (x ∷ l) zero b (suc i) = b (suc i)
+set-bits (x ∷ l) (suc k) b zero = b zero
+set-bits (x ∷ l) (suc k) b (suc i) = set-bits l k (λ i. b (suc i)) i
+
+-- and so do raises
+raised-bits : (s n : ℕ) (l : List ℕ) → ((i : ℕ) → getD l i 0 < 2) → (i : ℕ) → getD (raisedTimes s n l) i 0 < 2
+unfolding raisedTimes raise
+raised-bits s zero l b = b
+raised-bits s (suc n) l b = set-bits (raisedTimes s n l) (zeroFrom s (raisedTimes s n l)) (raised-bits s n l b)
+
+-- the three bits of a number
+abbrev pub threeBits : ℕ → List ℕ
+threeBits x = x % 2 ∷ x / 2 % 2 ∷ x / 4 % 2 ∷ []
+
+-- are bits
+threeBits-small : (x i : ℕ) → getD (threeBits x) i 0 < 2
+threeBits-small x zero = mod-lt _ (zero-lt-suc 1)
+threeBits-small x (suc zero) = mod-lt _ (zero-lt-suc 1)
+threeBits-small x (suc (suc zero)) = mod-lt _ (zero-lt-suc 1)
+threeBits-small x (suc (suc (suc i))) = omega arith
+
+module _ (s x v : ℕ) where
+  -- a cell that is to show a bit is left with bits
+  shown-raised-bits : (i : ℕ) → getD (raisedTimes s ((onesOf x + v) % 2) (threeBits x)) i 0 < 2
+  shown-raised-bits = raised-bits s ((onesOf x + v) % 2) (threeBits x) (threeBits-small x)
+
+  -- what is shown is three bits
+  pub shown-less : shownCell s x v < 8
+  unfolding shownCell
+  shown-less = number-less 3 _ shown-raised-bits
+
+  -- those of the cell raised
+  pub shown-bit : (r : ℕ) → r < 3 → shownCell s x v / 2 ^ r % 2 ≡ getD (raisedTimes s ((onesOf x + v) % 2) (threeBits x)) r 0
+  unfolding shownCell
+  shown-bit r h = number-bit 3 _ (λ i l. shown-raised-bits i) r h
+
+-- CELLS OF A WORD. The bits of a cell are three of the word's
+pub cell-bit : (word j r : ℕ) → r < 3 → cellIn word j / 2 ^ r % 2 ≡ word / 2 ^ (3 * j + r) % 2
+unfolding cellIn
+cell-bit word j r h = low-bit 3 r (word / 2 ^ (3 * j)) h ∙ ap (λ (y : ℕ). y % 2) (shr-shr word (3 * j) r)
+
+-- a cell is three bits
+cell-less : (word j : ℕ) → cellIn word j < 8
+unfolding cellIn
+cell-less word j = mod-lt _ (zero-lt-suc 7)
+
+-- past the sixteenth cell of 48 bits there is none
+cell-past : (word j : ℕ) → word < 2 ^ 48 → 16 ≤ j → cellIn word j ≡ 0
+unfolding cellIn
+cell-past word j h l =
+    let m : 48 ≤ 3 * j = mul-le-mul-left 3 l in
+    ap (λ (y : ℕ). y % 8) (div-eq-of-lt (omega (arith, pow-mono m)))
+
+-- the operations on words work on each cell apart
+module _ (a b j : ℕ) where
+  cell-and : cellIn (bitAnd a b) j ≡ bitAnd (cellIn a j) (cellIn b j)
+  unfolding cellIn
+  cell-and = ap (λ (y : ℕ). y % 8) (and-shr a b (3 * j)) ∙ and-mod (a / 2 ^ (3 * j)) (b / 2 ^ (3 * j)) 3
+
+  cell-or : cellIn (bitOr a b) j ≡ bitOr (cellIn a j) (cellIn b j)
+  unfolding cellIn
+  cell-or = ap (λ (y : ℕ). y % 8) (or-shr a b (3 * j)) ∙ or-mod (a / 2 ^ (3 * j)) (b / 2 ^ (3 * j)) 3
+
+  cell-xor : cellIn (bitXor a b) j ≡ bitXor (cellIn a j) (cellIn b j)
+  unfolding cellIn
+  cell-xor = ap (λ (y : ℕ). y % 8) (xor-shr a b (3 * j)) ∙ xor-mod (a / 2 ^ (3 * j)) (b / 2 ^ (3 * j)) 3
+
+-- cell j of a word that is packed from cells
+cell-packed : (f : ℕ → ℕ) → ((i : ℕ) → f i < 8) → (n j : ℕ) → j < n → cellIn (packedOf 3 f n) j ≡ f j
+unfolding cellIn
+cell-packed f less n j h =
+    let z : 3 * j + 0 ≡ 3 * j = omega arith in
+    let y : f j / 1 ≡ f j = omega arith in
+    ap (λ (k : ℕ). packedOf 3 f n / 2 ^ k % 8) (sym z)
+    ∙ packed-bits 3 f less n j 0 3 h (omega arith)
+    ∙ ap (λ (x : ℕ). x % 8) y
+    ∙ mod-eq-of-lt (less j)
+
+-- a word is packed from its cells
+word-cells : (word n : ℕ) → packedOf 3 (cellIn word) n ≡ word % 2 ^ (3 * n)
+unfolding packedOf cellIn
+word-cells word zero = omega arith
+word-cells word (suc n) =
+    let e : 3 * suc n ≡ 3 + 3 * n = omega arith in
+    rw (e, mod-pow-add word 3 (3 * n)) (omega (arith, word-cells word n))
+
+-- a multiple of a packed word
+packed-times : (k : ℕ) (f : ℕ → ℕ) (n : ℕ) → k * packedOf 3 f n ≡ packedOf 3 (λ i. k * f i) n
+unfolding packedOf
+packed-times k f zero = omega arith
+packed-times k f (suc n) = omega (arith, packed-times k f n)
+
+-- a word of bits, times seven: three ones in each cell that has a one
+cell-seven : (word : ℕ) → Wants word → (j : ℕ) → j < 16 → cellIn (7 * word) j ≡ 7 * cellIn word j
+cell-seven word w j h =
+    ap (λ (x : ℕ). cellIn (7 * x) j) (sym (word-cells word 16 ∙ mod-eq-of-lt (w .less)))
+    ∙ ap (λ (x : ℕ). cellIn x j) (packed-times 7 (cellIn word) 16)
+    ∙ cell-packed (λ i. 7 * cellIn word i) (λ i. omega (arith, w .bit i)) 16 j h
+
+-- THE PROGRAM'S WORDS. The lowest bit of each cell
+abbrev pub lowest : ℕ
+lowest = 40210710958665
+
+lowest-cell : (j : ℕ) → j < 16 → cellIn lowest j ≡ 1
+unfolding packedOf
+lowest-cell j h = cell-packed (λ i. 1) (λ i. omega arith) 16 j h
+
+-- the two others
+abbrev pub others : ℕ
+others = 241264265751990
+
+others-cell : (j : ℕ) → j < 16 → cellIn others j ≡ 6
+unfolding packedOf
+others-cell j h = cell-packed (λ i. 6) (λ i. omega arith) 16 j h
+
+-- the starts of sixteen cells by the first one's
+abbrev pub startWords : List ℕ
+startWords = 53981502382865 ∷ 77116431975522 ∷ 150377042352268 ∷ []
+
+-- a cell of them has its start
+start-small : (i : ℕ) → 2 ^ (i % 3) < 8
+start-small i = go (i % 3) (mod-lt i (zero-lt-suc 2))
+  where
+    go : (r : ℕ) → r < 3 → 2 ^ r < 8
+    go zero h = omega arith
+    go (suc zero) h = omega arith
+    go (suc (suc zero)) h = omega arith
+    go (suc (suc (suc r))) h = absurd (let z : ⊥ = omega arith in z)
+
+starts-cell : (s j : ℕ) → s < 3 → j < 16 → cellIn (getD startWords s 0) j ≡ 2 ^ ((s + j) % 3)
+unfolding packedOf
+starts-cell zero j h l = cell-packed (λ i. 2 ^ ((0 + i) % 3)) (λ i. start-small (0 + i)) 16 j l
+starts-cell (suc zero) j h l = cell-packed (λ i. 2 ^ ((1 + i) % 3)) (λ i. start-small (1 + i)) 16 j l
+starts-cell (suc (suc zero)) j h l = cell-packed (λ i. 2 ^ ((2 + i) % 3)) (λ i. start-small (2 + i)) 16 j l
+starts-cell (suc (suc (suc s))) j h l = absurd (let z : ⊥ = omega arith in z)
+
+-- MARKS. Three bits without the lowest
+without-lowest : (y : ℕ) → y < 8 → bitAnd y 6 ≡ y / 2 * 2
+without-lowest = cases8 (λ (y : ℕ). bitAnd y 6 ≡ y / 2 * 2) refl refl refl refl refl refl refl refl
+
+-- and moved to the bit above
+bit-or-low : (y : ℕ) → y < 8 → bitOr (y * 2 % 8) (y / 4) ≡ y * 2 % 8 + y / 4
+bit-or-low = cases8 (λ (y : ℕ). bitOr (y * 2 % 8) (y / 4) ≡ y * 2 % 8 + y / 4) refl refl refl refl refl refl refl refl
+
+module _ (marks j : ℕ) (h : j < 16) where
+  -- each mark one bit up, where that is in its cell
+  moved-up : cellIn (bitAnd (marks * 2) others) j ≡ cellIn marks j * 2 % 8
+  unfolding cellIn
+  moved-up =
+      let y = marks * 2 / 2 ^ (3 * j) in
+      let c : 3 * j + 1 ≡ 1 + 3 * j = omega arith in
+      let d : marks * 2 / 2 ≡ marks = omega arith in
+      let half : y / 2 ≡ marks / 2 ^ (3 * j) =
+      shr-shr (marks * 2) (3 * j) 1 ∙ ap (λ (k : ℕ). marks * 2 / 2 ^ k) c ∙ sym (shr-shr (marks * 2) 1 (3 * j))
+      ∙ ap (λ (x : ℕ). x / 2 ^ (3 * j)) d in
+      cell-and (marks * 2) others j ∙ ap (bitAnd (y % 8)) (others-cell j h) ∙ without-lowest (y % 8) (mod-lt y (zero-lt-suc 7))
+      ∙ omega arith
+
+  -- and from the highest bit to the lowest
+  moved-round : cellIn (bitAnd (marks / 4) lowest) j ≡ cellIn marks j / 4
+  unfolding cellIn
+  moved-round =
+      let c : 2 + 3 * j ≡ 3 * j + 2 = omega arith in
+      let quarter : marks / 4 / 2 ^ (3 * j) ≡ marks / 2 ^ (3 * j) / 4 =
+      shr-shr marks 2 (3 * j) ∙ ap (λ (k : ℕ). marks / 2 ^ k) c ∙ sym (shr-shr marks (3 * j) 2) in
+      cell-and (marks / 4) lowest j ∙ ap (bitAnd (marks / 4 / 2 ^ (3 * j) % 8)) (lowest-cell j h)
+      ∙ and-mask (marks / 4 / 2 ^ (3 * j) % 8) 1
+      ∙ omega arith
+
+-- so the program moves marks
+pub onward-moves : (marks : ℕ) → Onward marks (bitOr (bitAnd (marks * 2) others) (bitAnd (marks / 4) lowest))
+onward-moves marks = record {
+  moved = λ j h.
+      cell-or _ _ j ∙ ap₂ bitOr (moved-up marks j h) (moved-round marks j h) ∙ bit-or-low (cellIn marks j) (cell-less marks j);
+}
+
+-- WHAT IS WANTED of the two cells of a stage are bits
+pair-small : (first second i : ℕ) → wantedPair first second i < 64
+pair-small first second i = let a : first / 2 ^ (7 - i) % 2 < 2 = mod-lt _ (zero-lt-suc 1) in
+    let b : second / 2 ^ (7 - i) % 2 < 2 = mod-lt _ (zero-lt-suc 1) in omega arith
+
+module _ (first second i : ℕ) (h : i < 8) where
+  -- the first cell's
+  pub low-cell : cellIn (wantedBits first second 8) (2 * i) ≡ first / 2 ^ (7 - i) % 2
+  unfolding cellIn
+  low-cell =
+      let e : 3 * (2 * i) ≡ 6 * i + 0 = omega arith in
+      let a : first / 2 ^ (7 - i) % 2 < 2 = mod-lt _ (zero-lt-suc 1) in
+      let f : wantedPair first second i / 1 ≡ wantedPair first second i = omega arith in
+      ap (λ (k : ℕ). wantedBits first second 8 / 2 ^ k % 8) e
+      ∙ packed-bits 6 (wantedPair first second) (pair-small first second) 8 i 0 3 h (omega arith)
+      ∙ ap (λ (x : ℕ). x % 8) f ∙ omega arith
+
+  -- and the second's
+  pub high-cell : cellIn (wantedBits first second 8) (2 * i + 1) ≡ second / 2 ^ (7 - i) % 2
+  unfolding cellIn
+  high-cell =
+      let e : 3 * (2 * i + 1) ≡ 6 * i + 3 = omega arith in
+      let a : first / 2 ^ (7 - i) % 2 < 2 = mod-lt _ (zero-lt-suc 1) in
+      let b : second / 2 ^ (7 - i) % 2 < 2 = mod-lt _ (zero-lt-suc 1) in
+      ap (λ (k : ℕ). wantedBits first second 8 / 2 ^ k % 8) e
+      ∙ packed-bits 6 (wantedPair first second) (pair-small first second) 8 i 3 3 h (omega arith)
+      ∙ omega arith
+
+-- so they are a word of bits
+pub wanted-wants : (first second : ℕ) → Wants (wantedBits first second 8)
+wanted-wants first second = record { less = fits; bit = λ j. go j (ltb j 16) refl }
+  where
+    fits : wantedBits first second 8 < 2 ^ 48
+    fits = packed-fits 6 (wantedPair first second) (pair-small first second) 8 8 (omega arith)
+
+    small : (x : ℕ) → x % 2 ≤ 1
+    small x = omega arith
+
+    go : (j : ℕ) (b : Bool) → ltb j 16 ≡ b → cellIn (wantedBits first second 8) j ≤ 1
+    go j true e =
+        let h : j / 2 < 8 = omega (arith, ltb-true j 16 e) in
+        ⊎-elim
+        (λ z.
+        let d : j ≡ 2 * (j / 2) = omega arith in
+        rw (d, low-cell first second (j / 2) h) (small _))
+        (λ z.
+        let d : j ≡ 2 * (j / 2) + 1 = omega arith in
+        rw (d, high-cell first second (j / 2) h) (small _))
+        (same? (j % 2) 0)
+    go j false e = omega (arith, cell-past (wantedBits first second 8) j fits (ltb-false j 16 e))
+
+-- RAISES. Two bits without a carry
+differ-bits : (a b : ℕ) → a ≤ 1 → b ≤ 1 → bitXor a b ≡ (a + b) % 2
+differ-bits a b h l = omega (arith, xor-add-and a b, xor-lt 1 a b (omega arith) (omega arith))
+
+-- three bits are added without a carry
+three-differ : (x : ℕ) → ((x % 2 + x / 2 % 2) % 2 + x / 4 % 2) % 2 ≡ onesOf (x % 8) % 2
+unfolding onesOf
+three-differ x =
+    let a : x % 8 % 2 ≡ x % 2 = omega arith in
+    let b : x % 8 / 2 % 2 ≡ x / 2 % 2 = low-bit 3 1 x (omega arith) in
+    let c : x % 8 / 4 % 2 ≡ x / 4 % 2 = low-bit 3 2 x (omega arith) in
+    rw (a, b, c) (sums (x % 2) (x / 2 % 2) (x / 4 % 2))
+  where
+    sums : (a b c : ℕ) → ((a + b) % 2 + c) % 2 ≡ (a + b + c) % 2
+    sums a b c = omega arith
+
+module _ (bits wanted : ℕ) where
+  -- a bit for each cell that shows another bit than is wanted of it
+  abbrev raises : ℕ
+  raises = bitXor (bitAnd (bitXor (bitXor bits (bits / 2)) (bits / 4)) lowest) wanted
+
+  -- the bit that cell j shows
+  shows-cell : (j : ℕ) → j < 16 → cellIn (bitAnd (bitXor (bitXor bits (bits / 2)) (bits / 4)) lowest) j ≡ onesOf (cellIn bits j) % 2
+  unfolding cellIn
+  shows-cell j h =
+      let p = 3 * j in
+      let x = bits / 2 ^ p in
+      let z = bitXor (bitXor bits (bits / 2)) (bits / 4) in
+      let c : 1 + p ≡ p + 1 = omega arith in
+      let d : 2 + p ≡ p + 2 = omega arith in
+      let half : bits / 2 / 2 ^ p ≡ x / 2 = shr-shr bits 1 p ∙ ap (λ (k : ℕ). bits / 2 ^ k) c ∙ sym (shr-shr bits p 1) in
+      let quarter : bits / 4 / 2 ^ p ≡ x / 4 = shr-shr bits 2 p ∙ ap (λ (k : ℕ). bits / 2 ^ k) d ∙ sym (shr-shr bits p 2) in
+      cell-and z lowest j ∙ ap (bitAnd (z / 2 ^ p % 8)) (lowest-cell j h) ∙ and-mask (z / 2 ^ p % 8) 1
+      ∙ mod-mod-pow (z / 2 ^ p) 2 1
+      ∙ xor-bit (bitXor bits (bits / 2)) (bits / 4) p
+      ∙ ap₂ (λ (a b : ℕ). (a + b % 2) % 2) (xor-bit bits (bits / 2) p ∙ ap (λ (b : ℕ). (x % 2 + b % 2) % 2) half) quarter
+      ∙ three-differ x
+
+  module _ (w : Wants wanted) where
+    -- so cell j is raised where it differs from the one that is wanted
+    raises-cell : (j : ℕ) → j < 16 → cellIn raises j ≡ (onesOf (cellIn bits j) + cellIn wanted j) % 2
+    raises-cell j h =
+        cell-xor _ wanted j ∙ ap (λ (n : ℕ). bitXor n (cellIn wanted j)) (shows-cell j h)
+        ∙ differ-bits (onesOf (cellIn bits j) % 2) (cellIn wanted j) (omega arith) (w .bit j)
+        ∙ omega arith
+
+    -- they are a word of bits
+    pub raises-less : raises < 2 ^ 48
+    raises-less =
+        let z = bitAnd (bitXor (bitXor bits (bits / 2)) (bits / 4)) lowest in
+        xor-lt 48 z wanted (omega (arith, and-le-r (bitXor (bitXor bits (bits / 2)) (bits / 4)) lowest)) (w .less)
+
+    raises-wants : Wants raises
+    raises-wants = record { less = raises-less; bit = λ j. go j (ltb j 16) refl }
+      where
+        go : (j : ℕ) (b : Bool) → ltb j 16 ≡ b → cellIn raises j ≤ 1
+        go j true e = rw (raises-cell j (ltb-true j 16 e)) (let z : (onesOf (cellIn bits j) + cellIn wanted j) % 2 ≤ 1 = omega arith in z)
+        go j false e = omega (arith, cell-past raises j raises-less (ltb-false j 16 e))
+
+-- THE MARKS of a cell with the bits x that starts at bit s, where n says whether it is raised: the first, and what it leads to
+abbrev marked : (s n : ℕ) → ℕ
+marked s n = bitAnd (7 * n) (2 ^ s)
+
+abbrev next : ℕ → ℕ
+next m = m * 2 % 8 + m / 4
+
+-- the cell after it
+abbrev risen : (s n x : ℕ) → ℕ
+risen s n x = bitOr (bitOr (bitOr x (marked s n)) (next (bitAnd x (marked s n)))) (next (bitAnd x (next (bitAnd x (marked s n)))))
+
+-- is the cell raised, in each of the 48 cases
+each-risen : (s v : ℕ) → s < 3 → v ≤ 1 → (x : ℕ) → x < 8 → risen s ((onesOf x + v) % 2) x ≡ shownCell s x v
+unfolding shownCell onesOf number raisedTimes raise zeroFrom
+each-risen zero zero h k = cases8 (λ (x : ℕ). risen 0 ((onesOf x + 0) % 2) x ≡ shownCell 0 x 0) refl refl refl refl refl refl refl refl
+each-risen zero (suc zero) h k = cases8 (λ (x : ℕ). risen 0 ((onesOf x + 1) % 2) x ≡ shownCell 0 x 1) refl refl refl refl refl refl refl refl
+each-risen zero (suc (suc v)) h k = absurd (let z : ⊥ = omega arith in z)
+each-risen (suc zero) zero h k = cases8 (λ (x : ℕ). risen 1 ((onesOf x + 0) % 2) x ≡ shownCell 1 x 0) refl refl refl refl refl refl refl refl
+each-risen (suc zero) (suc zero) h k = cases8 (λ (x : ℕ). risen 1 ((onesOf x + 1) % 2) x ≡ shownCell 1 x 1) refl refl refl refl refl refl refl refl
+each-risen (suc zero) (suc (suc v)) h k = absurd (let z : ⊥ = omega arith in z)
+each-risen (suc (suc zero)) zero h k = cases8 (λ (x : ℕ). risen 2 ((onesOf x + 0) % 2) x ≡ shownCell 2 x 0) refl refl refl refl refl refl refl refl
+each-risen (suc (suc zero)) (suc zero) h k = cases8 (λ (x : ℕ). risen 2 ((onesOf x + 1) % 2) x ≡ shownCell 2 x 1) refl refl refl refl refl refl refl refl
+each-risen (suc (suc zero)) (suc (suc v)) h k = absurd (let z : ⊥ = omega arith in z)
+each-risen (suc (suc (suc s))) v h k = absurd (let z : ⊥ = omega arith in z)
+
+-- A BLOCK so made: the first marks, on the starts of the cells that are raised
+abbrev pub firstMarks : (q bits wanted : ℕ) → ℕ
+firstMarks q bits wanted = bitAnd (7 * raises bits wanted) (getD startWords (q % 3) 0)
+
+module _ (q bits wanted : ℕ) (w : Wants wanted) {second third : ℕ} (a : Onward (bitAnd bits (firstMarks q bits wanted)) second)
+    (b : Onward (bitAnd bits second) third) where
+  module _ (j : ℕ) (h : j < 16) where
+    -- cell j, whether it is raised, and its start
+    abbrev own : ℕ
+    own = cellIn bits j
+
+    abbrev rises : ℕ
+    rises = (onesOf own + cellIn wanted j) % 2
+
+    abbrev start : ℕ
+    start = (16 * q + j) % 3
+
+    -- the first marks
+    first-cell : cellIn (firstMarks q bits wanted) j ≡ marked start rises
+    first-cell =
+        let e : (q % 3 + j) % 3 ≡ start = omega arith in
+        cell-and (7 * raises bits wanted) (getD startWords (q % 3) 0) j
+        ∙ ap₂ bitAnd
+        (cell-seven (raises bits wanted) (raises-wants bits wanted w) j h ∙ ap (λ (k : ℕ). 7 * k) (raises-cell bits wanted w j h))
+        (starts-cell (q % 3) j (mod-lt q (zero-lt-suc 2)) h ∙ ap (λ (k : ℕ). 2 ^ k) e)
+
+    -- where they met a one
+    second-cell : cellIn second j ≡ next (bitAnd own (marked start rises))
+    second-cell = a .moved j h ∙ ap next (cell-and bits (firstMarks q bits wanted) j ∙ ap (bitAnd own) first-cell)
+
+    -- and a one again
+    third-cell : cellIn third j ≡ next (bitAnd own (next (bitAnd own (marked start rises))))
+    third-cell = b .moved j h ∙ ap next (cell-and bits second j ∙ ap (bitAnd own) second-cell)
+
+  -- it shows what is wanted of it
+  pub shown-cells : Shown q bits wanted (bitOr (bitOr (bitOr bits (firstMarks q bits wanted)) second) third)
+  unfolding startOf
+  shown-cells = record {
+    cells = λ j h.
+        cell-or (bitOr (bitOr bits (firstMarks q bits wanted)) second) third j
+        ∙ ap₂ bitOr
+        (cell-or (bitOr bits (firstMarks q bits wanted)) second j
+        ∙ ap₂ bitOr (cell-or bits (firstMarks q bits wanted) j ∙ ap (bitOr (cellIn bits j)) (first-cell j h)) (second-cell j h))
+        (third-cell j h)
+        ∙ each-risen (start j h) (cellIn wanted j) (mod-lt (16 * q + j) (zero-lt-suc 2)) (w .bit j) (cellIn bits j) (cell-less bits j);
+  }
