@@ -1,9 +1,8 @@
--- CARRYING THE DIGITS OUT: what the table of pairs shows, the bits of a block by it, and the strip after one block more.
---   shown-less                  what is shown of a cell is three bits
---   shows-all                   256 numbers that are the pairs of two cells are their table
+-- CARRYING THE DIGITS OUT: the bits of a block whose cells show what is wanted, and the strip after one block more.
 --   carriedBelow                the levels to reach where the cells before cell m are carried out
 --   carried-none                before the first cell the strip is as it was
---   carried-block               one block more is carried out where its 48 bits are those that the table shows
+--   left-bits                   before block q is carried out, its bits are as they were
+--   carried-block               one block more is carried out where its cells show what is wanted of them
 --   carried-all                 past the last cell all are carried out
 --   digits-window               the window of eight digits is their byte
 --   block-first, block-second   what the digits of a block want of its cells
@@ -35,97 +34,10 @@ use Rattle.codes.proofs.Divisions.{xor-bit}
 use Rattle.codes.proofs.Windows.{window-byte, window-parity, label-bound}
 use Rattle.trellis.specs.Rows.{onesOf, bitsAt}
 use Rattle.trellis.specs.Carrying.{digitIn, wantedFirst, wantedSecond, wantedOf, carriedTo}
-use Rattle.trellis.specs.Carrying.{shownCell, shownPair, Shows, placeIn, shownBits, byteIn, withBits}
-use Rattle.trellis.proofs.Digits.{packed-bits}
+use Rattle.trellis.specs.Carrying.{shownCell, cellIn, wantedBits, Shown, byteIn, withBits}
+use Rattle.trellis.proofs.Quotes.{bits-bit}
+use Rattle.trellis.proofs.Shown.{threeBits, shown-bit, cell-bit, low-cell, high-cell}
 use Rattle.trellis.proofs.Digits.{stored, length-stored, stored-at, stored-other}
-
--- CELLS. A place of some bits set to 1 leaves bits
-set-bits : (l : List ℕ) (k : ℕ) → ((i : ℕ) → getD l i 0 < 2) → (i : ℕ) → getD (set l k 1) i 0 < 2
-set-bits [] k b i = b i
-set-bits (x ∷ l) zero b zero = omega arith
-set-bits (x ∷ l) zero b (suc i) = b (suc i)
-set-bits (x ∷ l) (suc k) b zero = b zero
-set-bits (x ∷ l) (suc k) b (suc i) = set-bits l k (λ i. b (suc i)) i
-
--- and so do raises
-raised-bits : (s n : ℕ) (l : List ℕ) → ((i : ℕ) → getD l i 0 < 2) → (i : ℕ) → getD (raisedTimes s n l) i 0 < 2
-unfolding raisedTimes raise
-raised-bits s zero l b = b
-raised-bits s (suc n) l b = set-bits (raisedTimes s n l) (zeroFrom s (raisedTimes s n l)) (raised-bits s n l b)
-
--- the three bits of a number
-abbrev threeBits : ℕ → List ℕ
-threeBits x = x % 2 ∷ x / 2 % 2 ∷ x / 4 % 2 ∷ []
-
--- are bits
-threeBits-small : (x i : ℕ) → getD (threeBits x) i 0 < 2
-threeBits-small x zero = mod-lt _ (zero-lt-suc 1)
-threeBits-small x (suc zero) = mod-lt _ (zero-lt-suc 1)
-threeBits-small x (suc (suc zero)) = mod-lt _ (zero-lt-suc 1)
-threeBits-small x (suc (suc (suc i))) = omega arith
-
-module _ (s x v : ℕ) where
-  -- a cell that is to show a bit is left with bits
-  shown-raised-bits : (i : ℕ) → getD (raisedTimes s ((onesOf x + v) % 2) (threeBits x)) i 0 < 2
-  shown-raised-bits = raised-bits s ((onesOf x + v) % 2) (threeBits x) (threeBits-small x)
-
-  -- what is shown is three bits
-  pub shown-less : shownCell s x v < 8
-  unfolding shownCell
-  shown-less = number-less 3 _ shown-raised-bits
-
-  -- those of the cell raised
-  shown-bit : (r : ℕ) → r < 3 → shownCell s x v / 2 ^ r % 2 ≡ getD (raisedTimes s ((onesOf x + v) % 2) (threeBits x)) r 0
-  unfolding shownCell
-  shown-bit r h = number-bit 3 _ (λ i l. shown-raised-bits i) r h
-
--- PAIRS of three bits, as one number: the bits of the first
-first-bit : (a b r : ℕ) → a < 8 → r < 3 → (a + 8 * b) / 2 ^ r % 2 ≡ a / 2 ^ r % 2
-first-bit a b r l h =
-    let e : (a + 8 * b) % 8 ≡ a = omega arith in
-    sym (low-bit 3 r (a + 8 * b) h) ∙ ap (λ (y : ℕ). y / 2 ^ r % 2) e
-
--- and of the second
-second-bit : (a b r : ℕ) → a < 8 → (a + 8 * b) / 2 ^ (3 + r) % 2 ≡ b / 2 ^ r % 2
-second-bit a b r l =
-    let e : (a + 8 * b) / 8 ≡ b = omega arith in
-    ap (λ (y : ℕ). y % 2) (sym (shr-shr (a + 8 * b) 3 r) ∙ ap (λ (y : ℕ). y / 2 ^ r) e)
-
--- what is shown of two cells is six bits
-pair-less : (first second k : ℕ) → shownPair first second k < 64
-unfolding shownPair
-pair-less first second k = omega (arith, shown-less first (k % 8) (k / 64 % 2), shown-less second (k / 8 % 8) (k / 128))
-
--- the pair of cells x that are to show the bits v and w
-pair-of : (first second x v w : ℕ) → x < 64 → v < 2 → w < 2
-    → shownPair first second (x + 64 * (v + 2 * w)) ≡ shownCell first (x % 8) v + 8 * shownCell second (x / 8) w
-unfolding shownPair
-pair-of first second x v w h k l =
-    let place = x + 64 * (v + 2 * w) in
-    let a : place % 8 ≡ x % 8 = omega arith in
-    let b : place / 8 ≡ x / 8 + 8 * (v + 2 * w) = omega arith in
-    let c : place / 64 ≡ v + 2 * w = omega arith in
-    let b′ : place / 8 % 8 ≡ x / 8 = ap (λ (y : ℕ). y % 8) b ∙ omega arith in
-    let c′ : place / 64 % 2 ≡ v = ap (λ (y : ℕ). y % 2) c ∙ omega arith in
-    let d : place / 128 ≡ w = omega arith in
-    rw (a, b′, c′, d)
-
--- 256 numbers that are the pairs are the table of them
-pub shows-all : (first second : ℕ) (pairs : List ℕ) → length pairs ≡ 256 → ((k : ℕ) → k < 256 → getD pairs k 0 ≡ shownPair first second k)
-    → Shows first second pairs
-shows-all first second pairs e p = record {
-  at = p;
-  less = λ k. ⊎-elim
-      (λ h. rw (p k (omega arith)) (pair-less first second k))
-      (λ h. rw (List·getD-eq-default pairs 0 {n = k} (omega arith)) (omega arith))
-      (same? (k / 256) 0);
-}
-
--- A BLOCK. Bit r of stage i
-module _ (pairs : List ℕ) (less : (k : ℕ) → getD pairs k 0 < 64) (bits first second : ℕ) where
-  shown-stage : (i r : ℕ) → i < 8 → r < 6
-      → shownBits pairs bits first second 8 / 2 ^ (6 * i + r) % 2 ≡ getD pairs (placeIn bits first second i) 0 / 2 ^ r % 2
-  shown-stage i r h l = packed-bits 6 _ (λ j. less (placeIn bits first second j)) 8 i r 1 h (omega arith)
 
 -- A CELL by a number whose three bits are its own
 module _ (strip : List ℕ) (c x : ℕ) (bits : (r : ℕ) → r < 3 → x / 2 ^ r % 2 ≡ bitOf strip (3 * c + r)) where
@@ -188,11 +100,6 @@ with-stored : (strip : List ℕ) (q bits : ℕ) → withBits strip q bits ≡ st
 unfolding withBits stored
 with-stored strip q bits = let e : 6 * q + 0 ≡ 6 * q = omega arith in rw e
 
--- THE STARTS of the two cells of a stage are those of the first two cells
-starts : (t : ℕ) → (startOf 0 ≡ startOf (2 * t)) × (startOf 1 ≡ startOf (2 * t + 1))
-unfolding startOf
-starts t = (refl, refl)
-
 -- CARRYING OUT the digits u
 module _ (G : Generators) (strip content : List ℕ) (u : ℕ → ℕ) where
   -- the level of each cell where those before cell m are carried out
@@ -249,7 +156,7 @@ module _ (G : Generators) (strip content : List ℕ) (u : ℕ → ℕ) where
       ∙ ap (λ (l : List ℕ). getD l (6 * q + j) 0) (raisedTo-none startOf strip (record { below = λ i k. bytes i }))
 
   -- and so are its 48 bits
-  left-bits : (q : ℕ) → 6 * q + 6 ≤ length strip → ((i : ℕ) → getD strip i 0 < 256)
+  pub left-bits : (q : ℕ) → 6 * q + 6 ≤ length strip → ((i : ℕ) → getD strip i 0 < 256)
       → bitsAt (raisedTo startOf strip (carriedBelow (16 * q))) q ≡ bitsAt strip q
   unfolding bitsAt
   left-bits q h bytes =
@@ -281,107 +188,79 @@ module _ (G : Generators) (strip content : List ℕ) (u : ℕ → ℕ) where
       cell-shown strip c x bits (startOf c) v (carriedBelow m c) r l (below-wanted m c v h w)
       ∙ sym (raised-at strip (carriedBelow m) c r l)
 
-  -- BLOCK q, by the table and the bits that are wanted. `six` is the law `six-bit` of the rows, at this strip and block
-  module _ (q : ℕ) (pairs : List ℕ) (first second : ℕ) (shows : Shows (startOf 0) (startOf 1) pairs)
-      (six : (i r : ℕ) → i < 8 → r < 6 → bitsAt strip q / 2 ^ (6 * i) % 64 / 2 ^ r % 2 ≡ bitOf strip (48 * q + (6 * i + r)))
+  -- BLOCK q, by a word whose cells show the bits that are wanted
+  module _ (q first second word : ℕ) (shown : Shown q (bitsAt strip q) (wantedBits first second 8) word)
+      (bytes : (i : ℕ) → getD strip i 0 < 256)
       (wants-first : (i : ℕ) → i < 8 → first / 2 ^ (7 - i) % 2 ≡ wantedFirst G u (8 * q + i))
       (wants-second : (i : ℕ) → i < 8 → second / 2 ^ (7 - i) % 2 ≡ wantedSecond G content u (8 * q + i)) where
-    -- the two cells of stage i
-    stage-pair : (i : ℕ) → getD pairs (placeIn (bitsAt strip q) first second i) 0
-        ≡ shownCell (startOf (2 * (8 * q + i))) (bitsAt strip q / 2 ^ (6 * i) % 64 % 8) (first / 2 ^ (7 - i) % 2)
-        + 8 * shownCell (startOf (2 * (8 * q + i) + 1)) (bitsAt strip q / 2 ^ (6 * i) % 64 / 8) (second / 2 ^ (7 - i) % 2)
-    stage-pair i =
-        let x = bitsAt strip q / 2 ^ (6 * i) % 64 in
-        let v = first / 2 ^ (7 - i) % 2 in
-        let w = second / 2 ^ (7 - i) % 2 in
-        let x-less : x < 64 = mod-lt _ (zero-lt-suc 63) in
-        let v-less : v < 2 = mod-lt _ (zero-lt-suc 1) in
-        let w-less : w < 2 = mod-lt _ (zero-lt-suc 1) in
-        shows .at (x + 64 * (v + 2 * w)) (omega arith)
-        ∙ pair-of (startOf 0) (startOf 1) x v w x-less v-less w-less
-        ∙ ap₂ (λ (a b : ℕ). shownCell a (x % 8) v + 8 * shownCell b (x / 8) w) (starts (8 * q + i) .0) (starts (8 * q + i) .1)
-
-    -- bit r of the first
-    stage-first : (i r : ℕ) → i < 8 → r < 3 → getD pairs (placeIn (bitsAt strip q) first second i) 0 / 2 ^ r % 2
-        ≡ raisedBit strip (carriedBelow (16 * (q + 1))) (48 * q + (6 * i + r))
-    stage-first i r h l =
-        let c = 2 * (8 * q + i) in
-        let x = bitsAt strip q / 2 ^ (6 * i) % 64 in
-        let k : 3 * c + r ≡ 48 * q + (6 * i + r) = omega arith in
-        ap (λ (y : ℕ). y / 2 ^ r % 2) (stage-pair i)
-        ∙ first-bit _ _ r (shown-less (startOf c) (x % 8) (first / 2 ^ (7 - i) % 2)) l
-        ∙ cell-carried (16 * (q + 1)) c (x % 8) _ r (omega arith) l (wants-first i h ∙ sym (wanted-even (8 * q + i)))
-        (λ e m. low-bit 3 e x m ∙ six i e h (omega arith) ∙ ap (bitOf strip) (omega arith))
-        ∙ ap (raisedBit strip (carriedBelow (16 * (q + 1)))) k
-
-    -- and of the second
-    stage-second : (i r : ℕ) → i < 8 → r < 3 → getD pairs (placeIn (bitsAt strip q) first second i) 0 / 2 ^ (3 + r) % 2
-        ≡ raisedBit strip (carriedBelow (16 * (q + 1))) (48 * q + (6 * i + (3 + r)))
-    stage-second i r h l =
-        let c = 2 * (8 * q + i) in
-        let x = bitsAt strip q / 2 ^ (6 * i) % 64 in
-        let k : 3 * (c + 1) + r ≡ 48 * q + (6 * i + (3 + r)) = omega arith in
-        ap (λ (y : ℕ). y / 2 ^ (3 + r) % 2) (stage-pair i)
-        ∙ second-bit _ _ r (shown-less (startOf c) (x % 8) (first / 2 ^ (7 - i) % 2))
-        ∙ cell-carried (16 * (q + 1)) (c + 1) (x / 8) _ r (omega arith) l (wants-second i h ∙ sym (wanted-odd (8 * q + i)))
-        (λ e m. ap (λ (y : ℕ). y % 2) (shr-shr x 3 e) ∙ six i (3 + e) h (omega arith) ∙ ap (bitOf strip) (omega arith))
-        ∙ ap (raisedBit strip (carriedBelow (16 * (q + 1)))) k
+    -- the bit that is wanted of its cell j
+    cell-wanted : (j : ℕ) → j < 16 → cellIn (wantedBits first second 8) j ≡ wantedOf G content u (16 * q + j)
+    cell-wanted j h =
+        let i = j / 2 in
+        let l : i < 8 = omega arith in
+        ⊎-elim
+        (λ z.
+        let d : j ≡ 2 * i = omega arith in
+        let c : 2 * (8 * q + i) ≡ 16 * q + j = omega arith in
+        ap (cellIn (wantedBits first second 8)) d ∙ low-cell first second i l ∙ wants-first i l ∙ sym (wanted-even (8 * q + i))
+        ∙ ap (wantedOf G content u) c)
+        (λ z.
+        let d : j ≡ 2 * i + 1 = omega arith in
+        let c : 2 * (8 * q + i) + 1 ≡ 16 * q + j = omega arith in
+        ap (cellIn (wantedBits first second 8)) d ∙ high-cell first second i l ∙ wants-second i l ∙ sym (wanted-odd (8 * q + i))
+        ∙ ap (wantedOf G content u) c)
+        (same? (j % 2) 0)
 
     -- bit m of the block
-    block-bit : (m : ℕ) → m < 48 → shownBits pairs (bitsAt strip q) first second 8 / 2 ^ m % 2
-        ≡ raisedBit strip (carriedBelow (16 * (q + 1))) (48 * q + m)
+    block-bit : (m : ℕ) → m < 48 → word / 2 ^ m % 2 ≡ raisedBit strip (carriedBelow (16 * (q + 1))) (48 * q + m)
     block-bit m h =
-        let i = m / 6 in
-        let r = m % 6 in
-        let e : m ≡ 6 * i + r = omega arith in
-        ap (λ (k : ℕ). shownBits pairs (bitsAt strip q) first second 8 / 2 ^ k % 2) e
-        ∙ shown-stage pairs (shows .less) (bitsAt strip q) first second i r (omega arith) (omega arith)
-        ∙ ⊎-elim
-        (λ z. stage-first i r (omega arith) (omega arith))
-        (λ z.
-        let f : r ≡ 3 + (r - 3) = omega arith in
-        rw f (stage-second i (r - 3) (omega arith) (omega arith)))
-        (same? (r / 3) 0)
-        ∙ ap (λ (k : ℕ). raisedBit strip (carriedBelow (16 * (q + 1))) (48 * q + k)) (sym e)
+        let j = m / 3 in
+        let r = m % 3 in
+        let l : j < 16 = omega arith in
+        let k : r < 3 = omega arith in
+        let e : 3 * j + r ≡ m = omega arith in
+        let d : 3 * (16 * q + j) + r ≡ 48 * q + m = omega arith in
+        ap (λ (n : ℕ). word / 2 ^ n % 2) (sym e)
+        ∙ sym (cell-bit word j r k)
+        ∙ ap (λ (x : ℕ). x / 2 ^ r % 2) (shown .cells j l)
+        ∙ cell-carried (16 * (q + 1)) (16 * q + j) (cellIn (bitsAt strip q) j) (cellIn (wantedBits first second 8) j) r (omega arith) k
+        (cell-wanted j l)
+        (λ b n. cell-bit (bitsAt strip q) j b n ∙ bits-bit strip bytes q (3 * j + b) (omega arith) ∙ ap (bitOf strip) (omega arith))
+        ∙ ap (raisedBit strip (carriedBelow (16 * (q + 1)))) d
 
     -- byte j of the block
-    block-byte : (j : ℕ) → j < 6 → 6 * q + j < length strip → byteIn (shownBits pairs (bitsAt strip q) first second 8) j
+    block-byte : (j : ℕ) → j < 6 → 6 * q + j < length strip → byteIn word j
         ≡ getD (raisedTo startOf strip (carriedBelow (16 * (q + 1)))) (6 * q + j) 0
     unfolding byteIn
     block-byte j h l =
-        let x = shownBits pairs (bitsAt strip q) first second 8 in
-        sym (number-bits 8 (x / 2 ^ (8 * j) % 256) (mod-lt _ (zero-lt-suc 255)))
+        sym (number-bits 8 (word / 2 ^ (8 * j) % 256) (mod-lt _ (zero-lt-suc 255)))
         ∙ number-same 8 _ _ (λ e k.
         let d : 48 * q + (8 * j + e) ≡ 8 * (6 * q + j) + e = omega arith in
-        low-bit 8 e (x / 2 ^ (8 * j)) k ∙ ap (λ (y : ℕ). y % 2) (shr-shr x (8 * j) e) ∙ block-bit (8 * j + e) (omega arith)
+        low-bit 8 e (word / 2 ^ (8 * j)) k ∙ ap (λ (y : ℕ). y % 2) (shr-shr word (8 * j) e) ∙ block-bit (8 * j + e) (omega arith)
         ∙ ap (raisedBit strip (carriedBelow (16 * (q + 1)))) d)
         ∙ sym (raised-byte strip (carriedBelow (16 * (q + 1))) (6 * q + j) l)
 
     -- one block more is carried out: the loop's turn
-    pub carried-block : (n : ℕ) (s : List ℕ) → ((i : ℕ) → getD strip i 0 < 256) → length strip ≡ 6 * n → q < n
-        → s ≡ raisedTo startOf strip (carriedBelow (16 * q))
-        → withBits s q (shownBits pairs (bitsAt s q) first second 8) ≡ raisedTo startOf strip (carriedBelow (16 * (q + 1)))
-    carried-block n s bytes size inside e =
+    pub carried-block : (n : ℕ) → length strip ≡ 6 * n → q < n
+        → withBits (raisedTo startOf strip (carriedBelow (16 * q))) q word ≡ raisedTo startOf strip (carriedBelow (16 * (q + 1)))
+    carried-block n size inside =
         let now = raisedTo startOf strip (carriedBelow (16 * q)) in
         let next = raisedTo startOf strip (carriedBelow (16 * (q + 1))) in
-        let x = shownBits pairs (bitsAt strip q) first second 8 in
         let now-length : length now ≡ length strip = raisedTo-length startOf strip (carriedBelow (16 * q)) in
         let next-length : length next ≡ length strip = raisedTo-length startOf strip (carriedBelow (16 * (q + 1))) in
-        let same-length : length (stored now (6 * q) (byteIn x) 6) ≡ length next =
-        length-stored now (6 * q) (byteIn x) 6 ∙ now-length ∙ sym next-length in
-        ap₂ (λ (l : List ℕ) (b : ℕ). withBits l q (shownBits pairs b first second 8)) e
-        (ap (λ (l : List ℕ). bitsAt l q) e ∙ left-bits q (omega arith) bytes)
-        ∙ with-stored now q x
+        let same-length : length (stored now (6 * q) (byteIn word) 6) ≡ length next =
+        length-stored now (6 * q) (byteIn word) 6 ∙ now-length ∙ sym next-length in
+        with-stored now q word
         ∙ ext-getD 0 _ next same-length (λ i h.
         ⊎-elim
         (λ z.
         let d : i ≡ 6 * q + i % 6 = omega arith in
-        ap (λ (k : ℕ). getD (stored now (6 * q) (byteIn x) 6) k 0) d
-        ∙ stored-at now (6 * q) (byteIn x) 6 (i % 6) (omega arith) (omega arith)
+        ap (λ (k : ℕ). getD (stored now (6 * q) (byteIn word) 6) k 0) d
+        ∙ stored-at now (6 * q) (byteIn word) 6 (i % 6) (omega arith) (omega arith)
         ∙ block-byte (i % 6) (omega arith) (omega arith)
         ∙ ap (λ (k : ℕ). getD next k 0) (sym d))
         (λ z.
-        stored-other now (6 * q) (byteIn x) 6 i (λ j k f. z (omega arith))
+        stored-other now (6 * q) (byteIn word) 6 i (λ j k f. z (omega arith))
         ∙ raised-byte-same strip (carriedBelow (16 * q)) (carriedBelow (16 * (q + 1))) i (omega arith) (λ c a b. below-other q i c z a b))
         (same? (i / 6) q))
 

@@ -208,9 +208,11 @@ onward-moves marks = record {
 }
 
 -- WHAT IS WANTED of the two cells of a stage are bits
-pair-small : (first second i : ℕ) → wantedPair first second i < 64
-pair-small first second i = let a : first / 2 ^ (7 - i) % 2 < 2 = mod-lt _ (zero-lt-suc 1) in
-    let b : second / 2 ^ (7 - i) % 2 < 2 = mod-lt _ (zero-lt-suc 1) in omega arith
+pub pair-small : (first second i : ℕ) → wantedPair first second i < 64
+pair-small first second i =
+    let a : first / 2 ^ (7 - i) % 2 < 2 = mod-lt _ (zero-lt-suc 1) in
+    let b : second / 2 ^ (7 - i) % 2 < 2 = mod-lt _ (zero-lt-suc 1) in
+    omega arith
 
 module _ (first second i : ℕ) (h : i < 8) where
   -- the first cell's

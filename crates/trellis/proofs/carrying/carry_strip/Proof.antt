@@ -1,5 +1,6 @@
 -- The invariant: the cells of the first q blocks are carried out and no other, and the labels and the digits are those before block q.
 use mathlib.Core.Path.{_≡_, refl, sym, _∙_, ap}
+use mathlib.Core.List.{List}
 use Prim.Native.Nat.{ℕ, _≤_, _<_, _+_, _*_, _-_}
 use native.Mathlib.Omega.{arith}
 use lib.Bits.{bitXor}
@@ -12,15 +13,17 @@ use Rattle.codes.specs.Taps.{windowOf}
 use Rattle.codes.specs.Blocks.{labelAt}
 use Rattle.codes.proofs.Codes.{proper, memory-bounds}
 use Rattle.codes.proofs.Layouts.{oneBit-bytes}
-use Rattle.trellis.specs.Carrying.{digitIn, shownBits, withBits}
-use Rattle.trellis.proofs.Quotes.{six-bit}
+use Rattle.trellis.specs.Rows.{bitsAt}
+use Rattle.trellis.specs.Carrying.{digitIn, withBits}
+use Rattle.trellis.proofs.Quotes.{bits-less}
 use Rattle.trellis.proofs.Labels.{labels-forth}
-use Rattle.trellis.proofs.Carried.{carriedBelow, carried-none, carried-block, carried-all, digits-window, block-first, block-second}
+use Rattle.trellis.proofs.Carried.{carriedBelow, carried-none, left-bits, carried-block, carried-all, digits-window, block-first, block-second}
+use Rattle.trellis.proofs.Shown.{wanted-wants}
 use Rattle.trellis.proofs.carrying.carry_strip.Statement.{statement}
 use Rattle.trellis.proofs.carrying.carry_strip.Tie as tie
 
 abbrev Inv-loop : tie.InvT-loop
-Inv-loop code pairs strip₀ «data» digits labels₀ before₀ q₀ strip labels before q =
+Inv-loop code strip₀ «data» digits labels₀ before₀ q₀ strip labels before q =
     (q ≤ length «data»)
     × (labels < 256)
     × (labels ≡ windowOf 8 (labelAt (generatorsOf code) «data») (8 * q))
@@ -29,7 +32,7 @@ Inv-loop code pairs strip₀ «data» digits labels₀ before₀ q₀ strip labe
     × (strip ≡ raisedTo startOf strip₀ (carriedBelow (generatorsOf code) strip₀ «data» (digitIn digits) (16 * q)))
 
 abbrev μ-loop : tie.MeasureT-loop
-μ-loop code pairs strip₀ «data» digits labels₀ before₀ q₀ strip labels before q = length «data» - q
+μ-loop code strip₀ «data» digits labels₀ before₀ q₀ strip labels before q = length «data» - q
 
 -- in a turn the strip is as long as it was
 same-size : (c : tie.In-loop Inv-loop μ-loop)
@@ -37,7 +40,7 @@ same-size : (c : tie.In-loop Inv-loop μ-loop)
 same-size c =
     let s = c .before .before .before .before .before in
     let a = s .args in
-    ap length (c .before .loop .inv .5) ∙ raisedTo-length startOf (a .strip .now) _ ∙ s .pre .0 .size
+    ap length (c .before .loop .inv .5) ∙ raisedTo-length startOf (a .strip .now) _ ∙ s .pre .size
     ∙ oneBit-bytes (length (a .«data» .now))
 
 -- so the block lies in it
@@ -48,9 +51,25 @@ block-inside c = (
   omega (
     arith,
     c .loop-test .taken,
-    c .before .before .before .before .before .pre .0 .most,
+    c .before .before .before .before .before .pre .most,
   ),
 )
+
+-- the strip was bytes
+octets : (c : tie.In-loop Inv-loop μ-loop) → (i : ℕ) → getD (c .before .before .before .before .before .args .strip .now) i 0 < 256
+octets c i = omega (arith, c .before .before .before .before .slice-known .given i)
+
+-- and its block is as it was
+same-bits : (c : tie.In-loop Inv-loop μ-loop)
+    → bitsAt (c .before .loop .strip) (c .before .loop .q)
+    ≡ bitsAt (c .before .before .before .before .before .args .strip .now) (c .before .loop .q)
+same-bits c =
+    let s = c .before .before .before .before .before in
+    let a = s .args in
+    let l = c .before .loop in
+    ap (λ (x : List ℕ). bitsAt x (l .q)) (l .inv .5)
+    ∙ left-bits (generatorsOf (a .code)) (a .strip .now) (a .«data» .now) (digitIn (a .digits .now)) (l .q)
+    (omega (arith, s .pre .size, oneBit-bytes (length (a .«data» .now)), c .loop-test .taken)) (octets c)
 
 loop-holds : tie.Need-loop-holds Inv-loop μ-loop
 unfolding windowOf
@@ -93,11 +112,18 @@ second-bits-requires c κs =
 bits-of-requires : tie.Need-bits-of-requires Inv-loop μ-loop
 bits-of-requires c κs = block-inside (c .before .before .before .before .before .before)
 
+wanted-bits-requires : tie.Need-wanted-bits-requires Inv-loop μ-loop
+wanted-bits-requires c κs = search needs
+
 shown-bits-requires : tie.Need-shown-bits-requires Inv-loop μ-loop
-shown-bits-requires c κs = c .before .before .before .before .before .before .before .before .before .before .before .before .pre .1 .less
+shown-bits-requires c κs =
+    let t = c .before .before .before .before .before .before .before .before in
+    let bits = c .before .bits-of .ensures ∙ same-bits t in
+    let want = c .wanted-bits .ensures in
+    (rw bits (bits-less _ (octets t) (t .before .loop .q)), rw want (wanted-wants _ _))
 
 put-bits-requires : tie.Need-put-bits-requires Inv-loop μ-loop
-put-bits-requires c κs = block-inside (c .before .before .before .before .before .before .before .before .before)
+put-bits-requires c κs = block-inside (c .before .before .before .before .before .before .before .before .before .before)
 
 add-q : tie.Need-add-q Inv-loop μ-loop
 add-q c = search needs
@@ -107,40 +133,36 @@ loop-less c = search needs
 
 loop-again : tie.Need-loop-again Inv-loop μ-loop
 loop-again c =
-    let t = c .before .before .before .before .before .before .before .before .before .before .before .before in
+    let shown = c .before .before .before .before in
+    let want = shown .before in
+    let bits = want .before in
+    let second = bits .before .before in
+    let first = second .before in
+    let digit = first .before in
+    let divide = digit .before in
+    let window = divide .before in
+    let t = window .before in
     let l = t .before .loop in
-    let k = t .before .before .before .before in
-    let s = k .before in
+    let s = t .before .before .before .before .before in
     let a = s .args in
     let G = generatorsOf (a .code) in
     let reach = memory-bounds (a .code .name) .1 in
-    let octets : (i : ℕ) → getD (a .strip .now) i 0 < 256 = λ i. omega (arith, k .slice-known .given i) in
-    let byte : getD (a .digits .now) (l .q) 0 < 256 = omega (
-      arith,
-      c .before .before .before .before .before .before .before .before .before .shared-slice-known3 .given (l .q),
-    ) in
-    let labels = labels-forth (proper (a .code)) reach (a .«data» .now) (l .q) (l .inv .2)
-    (c .before .before .before .before .before .before .before .before .before .before .before .data-window .ensures .0)
-    (c .before .before .before .before .before .before .before .before .before .before .divide .ensures .1) in
-    let wants = block-first G reach (a .«data» .now) (a .digits .now) (l .q) byte (l .inv .4) refl _
-    (c .before .before .before .before .before .before .before .before .first-bits .ensures .1) in
+    let byte : getD (a .digits .now) (l .q) 0 < 256 = omega (arith, digit .shared-slice-known3 .given (l .q)) in
+    let labels = labels-forth (proper (a .code)) reach (a .«data» .now) (l .q) (l .inv .2) (window .data-window .ensures .0)
+    (divide .divide .ensures .1) in
+    let wants = block-first G reach (a .«data» .now) (a .digits .now) (l .q) byte (l .inv .4) refl _ (first .first-bits .ensures .1) in
     let wants-second = block-second G reach (a .«data» .now) (a .digits .now) (l .q) byte (l .inv .4) refl _
-    (c .before .before .before .before .before .before .before .second-bits .ensures .1) labels in
-    let size = s .pre .0 .size ∙ oneBit-bytes (length (a .«data» .now)) in
-    let bits = c .before .before .before .before .shown-bits .ensures
-    ∙ ap (λ (b : ℕ). shownBits (a .pairs .now) b (c .before .before .before .before .before .before .before .before .first-bits .result)
-    (bitXor (c .before .before .before .before .before .before .before .second-bits .result)
-    (c .before .before .before .before .before .before .before .before .before .before .divide .result)) 8)
-    (c .before .before .before .before .before .bits-of .ensures) in (
+    (second .second-bits .ensures .1) labels in
+    let shows = rw (bits .bits-of .ensures ∙ same-bits t, want .wanted-bits .ensures) at (shown .shown-bits .ensures) in (
       search needs,
-      c .before .before .before .before .before .before .before .before .before .before .divide .ensures .0,
+      divide .divide .ensures .0,
       labels,
       byte,
       sym (digits-window (a .digits .now) (l .q) byte),
-      c .before .before .put-bits .ensures ∙ ap (withBits (l .strip) (l .q)) bits
-          ∙ carried-block G (a .strip .now) (a .«data» .now) (digitIn (a .digits .now)) (l .q) (a .pairs .now) _ _ (s .pre .1)
-          (six-bit (a .strip .now) octets (l .q)) wants wants-second (length (a .«data» .now)) (l .strip) octets size
-          (t .loop-test .taken) (l .inv .5),
+      c .before .before .put-bits .ensures ∙ ap (λ (x : List ℕ). withBits x (l .q) (shown .shown-bits .result)) (l .inv .5)
+          ∙ carried-block G (a .strip .now) (a .«data» .now) (digitIn (a .digits .now)) (l .q) _ _ (shown .shown-bits .result) shows
+          (octets t) wants wants-second (length (a .«data» .now)) (s .pre .size ∙ oneBit-bytes (length (a .«data» .now)))
+          (t .loop-test .taken),
     )
 
 same-length : tie.Need-same-length Inv-loop μ-loop
@@ -155,7 +177,7 @@ returns c =
     let a = s .args in
     let n : ℕ = length (a .«data» .now) in
     let e : l .q ≡ n = omega arith in
-    let size = s .pre .0 .size ∙ oneBit-bytes n in
+    let size = s .pre .size ∙ oneBit-bytes n in
     l .inv .5 ∙ ap (λ (q : ℕ). raisedTo startOf (a .strip .now) (carriedBelow (generatorsOf (a .code)) (a .strip .now) (a .«data» .now)
     (digitIn (a .digits .now)) (16 * q))) e
     ∙ carried-all (generatorsOf (a .code)) (a .strip .now) (a .«data» .now) (digitIn (a .digits .now)) (16 * n) (omega arith)
@@ -176,6 +198,7 @@ carry-strip-spec =
     first-bits-requires
     second-bits-requires
     bits-of-requires
+    wanted-bits-requires
     shown-bits-requires
     put-bits-requires
     add-q
