@@ -14,7 +14,7 @@ use native.Mathlib.Nat.{mul-le-mul}
 use lib.ListN.{length, getD}
 use Rattle.cells.specs.Bytes.{Octets}
 use Rattle.cells.specs.Levels.{level}
-use Rattle.cells.specs.Raising.{startIn, raisedTo}
+use Rattle.cells.specs.Raising.{startOf, startIn, raisedTo}
 use Rattle.cells.specs.Climbs.{climb, costOf, house, weightOf}
 use Rattle.cells.proofs.Places.{sumOf-le}
 use Rattle.cells.proofs.Climbs.{climb-stay, climb-step}
@@ -26,7 +26,7 @@ use Rattle.demand.specs.Demand.{jobCost}
 use Rattle.demand.specs.Computed.{pageWrite}
 use Rattle.demand.proofs.Demand.{solution-raised}
 use Rattle.refusals.specs.Refusals.{writeGround, numbered}
-use Rattle.page.specs.Answers.{callPage, jobPage, jobOf, pageOf, answerOf, valueOf, largestCost, largestWeightedCost}
+use Rattle.page.specs.Answers.{callPage, jobPage, jobOf, pageBy, pageOf, answerOf, valueOf, largestCost, largestWeightedCost}
 use Rattle.page.specs.Promise.{Wrote, done, spent}
 use Rattle.refusals.specs.declared.Refusal.{Refusal}
 use Rattle.page.specs.declared.Answer.{Answer}
@@ -61,16 +61,16 @@ climb-most weight w b from to h k = go (to - from) refl
 module _ (W : List ℕ) (K : Weights W) (code L S : ℕ) (before content : List ℕ) (b : Octets content) where
   -- NO CELL RISES BY MORE THAN ONE in a write
   pub write-near : (c : ℕ) → c < cellCount oneBit L * S → level (pageOf W code L S before content) c ≤ suc (level before c)
-  unfolding pageOf jobPage
+  unfolding pageOf pageBy jobPage
   write-near c h = go (writeGround W code L S (length before) (length content)) refl (pageWrite (jobOf W code L S before content)) refl
     where
       go : (g : Option Refusal) → writeGround W code L S (length before) (length content) ≡ g → (w : Option Solution)
           → pageWrite (jobOf W code L S before content) ≡ w
-          → level (callPage g w (λ a. raisedTo (startIn (cellCount oneBit L)) before (levelAt (a .levels))) before) c ≤ suc (level before c)
+          → level (callPage g w (λ a. raisedTo (startIn startOf (cellCount oneBit L)) before (levelAt (a .levels))) before) c ≤ suc (level before c)
       go (some r) e w f = omega arith
       go none e none f = omega arith
       go none e (some a) f =
-          rw (solution-raised (jobOf W code L S before content) (job-in-order W code L S before content b e) a f c h)
+          rw (solution-raised startOf (jobOf W code L S before content) (job-in-order W code L S before content b e) a f c h)
           (page-near (numbered code) W (numbered-suits code W (K .three) (K .bytes))
           (dear-by W code L S (length before) (length content) e) L S
           (one-to-64 L (weighted-in-order W code L S (length before) (length content) e .0) .1) before content a f c h)

@@ -42,7 +42,7 @@ use Rattle.demand.specs.Computed.{stripBytes, stripWrite, pageWrite, spentStrip
 use Rattle.refusals.specs.Refusals.{oneTo64, isCode, codeGround, bytesGround, stripsGround, limitsGround, sizesGround, pageGround}
 use Rattle.refusals.specs.Refusals.{dataGround, freeStep, weightsGround, lengthsGround, writeGround, numbered}
 use Rattle.page.specs.Reading.{readPage}
-use Rattle.page.specs.Answers.{callAnswer, callPage, jobAnswer, jobPage, jobOf, answerOf, pageOf}
+use Rattle.page.specs.Answers.{callAnswer, callPage, jobAnswer, jobPage, jobOf, answerOf, pageBy, pageOf}
 use Rattle.page.specs.Known.{Case, Expected, reads, done, also, spent, Expects, Says, cases}
 use Rattle.page.specs.declared.Answer.{Answer}
 use Rattle.page.specs.declared.Answer.the-variants as A
@@ -73,7 +73,7 @@ module _ (code L S : ℕ) (page content : List ℕ) where
   unfoldable pub pageTabled : List ℕ
   pageTabled =
       callPage (writeGround house code L S (length page) (length content)) (all stripTabled (listOf S (λ k. k)))
-      (λ a. raisedTo (startIn (cellCount oneBit L)) page (levelAt (a .levels))) page
+      (λ a. raisedTo (startIn startOf (cellCount oneBit L)) page (levelAt (a .levels))) page
 
   -- THE EVALUATED DEFINITION IS THE ONE OF DEMAND 3: the answer
   pub answer-tabled : answerOf house code L S page content ≡ answerTabled
@@ -84,10 +84,10 @@ module _ (code L S : ℕ) (page content : List ℕ) where
 
   -- and the page
   pub page-tabled : pageOf house code L S page content ≡ pageTabled
-  unfolding pageOf jobPage pageTabled pageWrite
+  unfolding pageOf pageBy jobPage pageTabled pageWrite
   page-tabled =
       ap (λ (w : ℕ → Option Solution). callPage (writeGround house code L S (length page) (length content)) (all w (listOf S (λ k. k)))
-      (λ a. raisedTo (startIn (cellCount oneBit L)) page (levelAt (a .levels))) page) strip-tabled
+      (λ a. raisedTo (startIn startOf (cellCount oneBit L)) page (levelAt (a .levels))) page) strip-tabled
 
 -- TESTS. Whether an answer is done with this cost, or spent with this strip
 isDone : Answer → ℕ → Bool

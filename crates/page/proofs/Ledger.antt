@@ -1,5 +1,5 @@
--- THE LEDGER: from an erased page, over any sequence of calls with any weights, the sum of the levels is the raises of the accepted writes
--- since the last accepted erase.
+-- THE LEDGER: from an erased page, over any sequence of calls with any weights and by releases of any order, the sum of the levels is the
+-- raises of the accepted writes since the last accepted erase.
 --   erased-level, erased-raises   an erased page has no level
 --   counts                        a fair event keeps the ledger
 --   call-fair                     every call is a fair event
@@ -7,7 +7,7 @@
 use mathlib.Core.Path.{_≡_, sym, _∙_, ap}
 use mathlib.Core.List.{List, [], _∷_}
 use mathlib.Core.Option.{Option, none, some}
-use Prim.Native.Nat.{ℕ, _<_, _≤_, _+_, _*_, _-_, _/_, _%_, _^_}
+use Prim.Native.Nat.{ℕ, suc, _<_, _≤_, _+_, _*_, _-_, _/_, _%_, _^_}
 use native.Mathlib.Omega.{arith}
 use native.Mathlib.Nat.{zero-div}
 use lib.ListN.{length, getD, replicate}
@@ -15,16 +15,17 @@ use Rattle.cells.specs.Bytes.{bitOf}
 use Rattle.cells.specs.Levels.{level, raisesOf}
 use Rattle.cells.proofs.Places.{zeros-at, sumOf-same, sumOf-add, sumOf-zero}
 use Rattle.codes.proofs.Layouts.{oneBit-cells, oneBit-bytes}
-use Rattle.page.specs.Answers.{kept}
-use Rattle.page.specs.Promise.{Wrote, done, spent, refused}
+use Rattle.refusals.specs.Refusals.{writeGround}
+use Rattle.page.specs.Answers.{kept, jobOf}
+use Rattle.page.specs.Promise.{Promised, done, spent, refused}
 use Rattle.page.specs.Ledger.{cellsOn, raisesMade, Event, raised, erased, looked, Fair, fair-raise, fair-erase, fair-look, pageAfter, counted, Call, write, erase, look, erasing, eventOf, played, tallied}
 use Rattle.refusals.specs.declared.Refusal.{Refusal}
 use Rattle.page.specs.declared.Answer.{Answer}
 use Rattle.refusals.proofs.Refusals.{weighted-in-order}
-use Rattle.page.proofs.Promise.{wrote}
+use Rattle.page.proofs.Promise.{wrote-by}
 
 -- ERASED PAGES. Every level is 0
-erased-level : (n c : ℕ) → level (replicate n 0) c ≡ 0
+pub erased-level : (n c : ℕ) → level (replicate n 0) c ≡ 0
 unfolding level bitOf
 erased-level n c = omega (arith, bit (3 * c), bit (3 * c + 1), bit (3 * c + 2))
   where
@@ -62,37 +63,39 @@ unfolding cellsOn
 all-cells L S page e = omega arith
 
 -- a write lowers no cell and keeps the page's length, whatever its answer
-write-fair : (W : List ℕ) (code L S : ℕ) (before content after : List ℕ) (r : Answer) → Wrote W code L S before content after r
+write-fair : (start : ℕ → ℕ) (W : List ℕ) (code L S : ℕ) (before content after : List ℕ) (r : Answer)
+    → Promised start (writeGround W code L S (length before) (length content)) (jobOf W code L S before content) after r
     → Fair 0 before (raised after)
-write-fair W code L S before content after r (done e p) =
+write-fair start W code L S before content after r (done e p) =
     let i = weighted-in-order W code L S (length before) (length content) e in
     let s : length before ≡ 6 * L * S = rw (oneBit-bytes L) at (i .2) in
     fair-raise (p .could .size) (λ c h. p .could .no-lower c (rw (oneBit-cells L) (rw (all-cells L S before s) at h)))
-write-fair W code L S before content after r (spent e p f) = fair-raise {after = after} (ap length f) (λ c h. rw f (omega arith))
-write-fair W code L S before content after r (refused e f) = fair-raise {after = after} (ap length f) (λ c h. rw f (omega arith))
+write-fair start W code L S before content after r (spent e p f) = fair-raise {after = after} (ap length f) (λ c h. rw f (omega arith))
+write-fair start W code L S before content after r (refused e f) = fair-raise {after = after} (ap length f) (λ c h. rw f (omega arith))
 
 -- so every call is a fair event
-pub call-fair : (c : Call) (page : List ℕ) → Fair 0 page (eventOf c page)
+pub call-fair : (start : ℕ → ℕ) (c : Call) (page : List ℕ) → Fair 0 page (eventOf start c page)
 unfolding eventOf
-call-fair (write W code L S content b) page = write-fair W code L S page content _ _ (wrote W code L S page content b)
-call-fair (erase L S tenths) page = go (erasing L S tenths page)
+call-fair start (write W code L S content b) page = write-fair start W code L S page content _ _ (wrote-by start W code L S page content b)
+call-fair start (erase L S tenths) page = go (erasing L S tenths page)
   where
     go : (g : Option Refusal) → Fair 0 page (kept g (erased (replicate (length page) 0)) looked)
     go none = fair-erase (erased-raises (length page) _)
     go (some r) = fair-look
-call-fair look page = fair-look
+call-fair start look page = fair-look
 
 -- ANY SEQUENCE OF CALLS
-pub ledger-from : (cs : List Call) (page : List ℕ) (n : ℕ) → raisesOf (cellsOn page) page ≡ n
-    → raisesOf (cellsOn (played cs page)) (played cs page) ≡ tallied cs page n
+pub ledger-from : (starts : ℕ → ℕ → ℕ) (cs : List Call) (page : List ℕ) (n : ℕ) → raisesOf (cellsOn page) page ≡ n
+    → raisesOf (cellsOn (played starts cs page)) (played starts cs page) ≡ tallied starts cs page n
 unfolding played tallied
-ledger-from [] page n e = e
-ledger-from (c ∷ cs) page n e =
+ledger-from starts [] page n e = e
+ledger-from starts (c ∷ cs) page n e =
+    let v = eventOf (starts 0) c page in
     let z : 0 + n ≡ n = omega arith in
-    let y : 0 + counted (eventOf c page) page n ≡ counted (eventOf c page) page n = omega arith in
-    ledger-from cs (pageAfter (eventOf c page) page) (counted (eventOf c page) page n) (counts 0 n page (call-fair c page) (e ∙ sym z) ∙ y)
+    let y : 0 + counted v page n ≡ counted v page n = omega arith in
+    ledger-from (λ n. starts (suc n)) cs (pageAfter v page) (counted v page n) (counts 0 n page (call-fair (starts 0) c page) (e ∙ sym z) ∙ y)
 
 -- from an erased page of any length
-pub ledger : (size : ℕ) (cs : List Call)
-    → raisesOf (cellsOn (played cs (replicate size 0))) (played cs (replicate size 0)) ≡ tallied cs (replicate size 0) 0
-ledger size cs = ledger-from cs (replicate size 0) 0 (erased-raises size _)
+pub ledger : (starts : ℕ → ℕ → ℕ) (size : ℕ) (cs : List Call)
+    → raisesOf (cellsOn (played starts cs (replicate size 0))) (played starts cs (replicate size 0)) ≡ tallied starts cs (replicate size 0) 0
+ledger starts size cs = ledger-from starts cs (replicate size 0) 0 (erased-raises size _)

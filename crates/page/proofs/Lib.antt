@@ -7,5 +7,6 @@ pub mod Promise
 pub mod Plans
 pub mod Loops
 pub mod Ledger
+pub mod Orders
 pub mod Bounds
 pub mod Known

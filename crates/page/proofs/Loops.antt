@@ -37,7 +37,7 @@ use Rattle.demand.proofs.Jobs.{part-length}
 use Rattle.page.specs.Shape.{stripOf, Sized}
 use Rattle.page.specs.Totals.{noTotal, added, totalFrom, answerFor}
 use Rattle.refusals.specs.Refusals.{writeGround, numbered, completionOf}
-use Rattle.page.specs.Answers.{callAnswer, callPage, plainJob, jobAnswer, jobPage, answerOf, pageOf}
+use Rattle.page.specs.Answers.{callAnswer, callPage, plainJob, jobAnswer, jobPage, answerOf, pageBy, pageOf}
 use Rattle.page.specs.Promise.{Wrote}
 use Rattle.page.specs.Plans.{stripPart, Planned, Carried}
 use Rattle.refusals.specs.declared.Refusal.{Refusal}
@@ -261,12 +261,12 @@ module _ {G : Generators} {W : List ℕ} (K : Suits G W) (D : Dear (stepsOf W)) 
 
   -- the page raised to the levels of a write
   abbrev raised : Solution → List ℕ
-  raised a = raisedTo (startIn (cellCount oneBit L)) before (levelAt (a .levels))
+  raised a = raisedTo (startIn startOf (cellCount oneBit L)) before (levelAt (a .levels))
 
   -- where it is done, each strip is carried out as it was planned
   pub done-page : {digits after : List ℕ} {cost : ℕ} → r ≡ A.Done cost → Planned G W L S before content digits
       → Carried G L S before content digits after
-      → after ≡ jobPage none (plainJob G W L S before content)
+      → after ≡ jobPage none (plainJob G W L S before content) startOf
   unfolding jobPage jobAnswer
   done-page {digits} {after} {cost} f p c = go (pageWrite J) refl
     where
@@ -275,7 +275,7 @@ module _ {G : Generators} {W : List ℕ} (K : Suits G W) (D : Dear (stepsOf W)) 
       go none q = absurd (let z : _≡_ {A = ℕ} 0 1 = cc in omega arith)
 
   -- where it is spent, nothing is changed
-  pub spent-page : {n : ℕ} → r ≡ A.Spent n → before ≡ jobPage none (plainJob G W L S before content)
+  pub spent-page : {n : ℕ} → r ≡ A.Spent n → before ≡ jobPage none (plainJob G W L S before content) startOf
   unfolding jobPage jobAnswer
   spent-page {n} f = go (pageWrite J) e
     where
@@ -319,8 +319,8 @@ module _ {W : List ℕ} {code L S : ℕ} {before content : List ℕ} {j : Comple
 
   -- and leaves the page that they do
   pub in-order-page : j ≡ C.Done → {G : Generators} {after : List ℕ} → G ≡ numbered code
-      → after ≡ jobPage none (plainJob G W L S before content) → after ≡ pageOf W code L S before content
-  unfolding pageOf
+      → after ≡ jobPage none (plainJob G W L S before content) startOf → after ≡ pageOf W code L S before content
+  unfolding pageOf pageBy
   in-order-page e g f = rw (no-ground e, ← g) f
 
   -- where it is refused, that is the ground
@@ -334,7 +334,7 @@ module _ {W : List ℕ} {code L S : ℕ} {before content : List ℕ} {j : Comple
 
   -- and nothing is changed
   pub refused-page : {q : Refusal} → j ≡ C.Refused q → before ≡ pageOf W code L S before content
-  unfolding pageOf jobPage
+  unfolding pageOf pageBy jobPage
   refused-page e = rw (the-ground e)
 
 -- such an answer and such a page keep the promise

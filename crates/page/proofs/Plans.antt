@@ -12,8 +12,8 @@ use lib.ListN.{length, drop}
 use lib.Seq.{getD-take, getD-drop}
 use Rattle.cells.specs.Levels.{level}
 use Rattle.cells.specs.Raising.{startOf, startIn, raisedTo}
-use Rattle.cells.proofs.Raising.{raisedTo-length, raisedTo-same, raisedTo-start}
-use Rattle.cells.proofs.Parts.{place-mod, part-number, part-place}
+use Rattle.cells.proofs.Raising.{raisedTo-length, raisedTo-same, raisedTo-start, start-in-strip}
+use Rattle.cells.proofs.Parts.{part-number, part-place}
 use Rattle.codes.specs.Generators.{Generators}
 use Rattle.codes.specs.Layouts.{oneBit, byteCount, cellCount}
 use Rattle.search.specs.Best.{Solution}
@@ -71,11 +71,10 @@ module _ (G : Generators) (W : List ℕ) (K : Suits G W) (D : Dear (stepsOf W)) 
   pub carried-page : length before ≡ byteCount oneBit L * S → length content ≡ L * S → (digits after : List ℕ) (a : Solution)
       → pageWrite (plainJob G W L S before content) ≡ some a → Planned G W L S before content digits
       → Carried G L S before content digits after
-      → after ≡ raisedTo (startIn (cellCount oneBit L)) before (levelAt (a .levels))
-  unfolding startIn
+      → after ≡ raisedTo (startIn startOf (cellCount oneBit L)) before (levelAt (a .levels))
   carried-page size fill digits after a e p c =
-      parts-same b S after (raisedTo (startIn n) before (levelAt (a .levels))) (c .same-size ∙ size)
-      (raisedTo-length (startIn n) before _ ∙ size) strip
+      parts-same b S after (raisedTo (startIn startOf n) before (levelAt (a .levels))) (c .same-size ∙ size)
+      (raisedTo-length (startIn startOf n) before _ ∙ size) strip
     where
       n : ℕ
       n = cellCount oneBit L
@@ -87,13 +86,13 @@ module _ (G : Generators) (W : List ℕ) (K : Suits G W) (D : Dear (stepsOf W)) 
       cell : (k : ℕ) → k < S → (i : ℕ) → 3 * i < 8 * length (stripPart L k before) → i < n
       cell k h i l = omega (arith, part-length b S k before size h, oneBit-whole L .cells-fill)
 
-      strip : (k : ℕ) → k < S → part b k after ≡ part b k (raisedTo (startIn n) before (levelAt (a .levels)))
+      strip : (k : ℕ) → k < S → part b k after ≡ part b k (raisedTo (startIn startOf n) before (levelAt (a .levels)))
       strip k h =
           c .carried k h
           ∙ raisedTo-same startOf (stripPart L k before) _ (λ i. levelAt (a .levels) (n * k + i)) (λ i l. level-is i (cell k h i l))
-          ∙ raisedTo-start startOf (λ i. startIn n (n * k + i))
-          (stripPart L k before) _ (λ i l. ap startOf (sym (place-mod n k i (cell k h i l))))
-          ∙ sym (part-raised n b (oneBit-whole L .cells-fill) k before (startIn n) (levelAt (a .levels)) S size h)
+          ∙ raisedTo-start startOf (λ i. startIn startOf n (n * k + i))
+          (stripPart L k before) _ (λ i l. sym (start-in-strip startOf n k i (cell k h i l)))
+          ∙ sym (part-raised n b (oneBit-whole L .cells-fill) k before (startIn startOf n) (levelAt (a .levels)) S size h)
         where
           long : length (part L k content) ≡ L
           long = part-length L S k content fill h

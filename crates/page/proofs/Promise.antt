@@ -1,7 +1,8 @@
 -- THE PROMISE IS KEPT by the computed write, on every input.
 --   promise-kept                    of any job that is in order where it has no ground
 --   numbered-sound, oneBit-whole    both codes and every L go with one bit a cell
---   job-in-order, dear-by, wrote    so the calls' jobs keep it, with any weights
+--   job-in-order, dear-by           so the calls' jobs keep it, with any weights, and wherever the raises of a cell start
+--   wrote-by, wrote                 (wrote-by); and the calls of this release do (wrote)
 --   page-length                     a write keeps the page's length
 --   could-done                      a call with no ground is done where some page could be
 --   done-not-spent, spent-no-page   spent exactly when there is no page
@@ -15,7 +16,7 @@ use native.Mathlib.Omega.{arith}
 use lib.Dec.{eqb}
 use lib.ListN.{length, getD}
 use Rattle.cells.specs.Bytes.{Octets}
-use Rattle.cells.specs.Raising.{startIn, raisedTo}
+use Rattle.cells.specs.Raising.{startOf, startIn, raisedTo}
 use Rattle.cells.proofs.Raising.{raisedTo-length}
 use Rattle.codes.specs.Generators.{short, long, digit}
 use Rattle.codes.specs.Layouts.{oneBit}
@@ -35,7 +36,7 @@ use Rattle.demand.specs.Computed.{pageWrite, spentStrip}
 use Rattle.demand.proofs.Demand.{cheapest, spent-at}
 use Rattle.demand.proofs.Weights.{could-any-weights, spent-any-strip, spent-once}
 use Rattle.refusals.specs.Refusals.{weightsGround, writeGround, numbered}
-use Rattle.page.specs.Answers.{callAnswer, callPage, jobAnswer, jobPage, jobOf, answerOf, pageOf}
+use Rattle.page.specs.Answers.{callAnswer, callPage, jobAnswer, jobPage, jobOf, answerOf, pageBy, pageOf}
 use Rattle.page.specs.Promise.{Promised, Wrote, done, spent, refused}
 use Rattle.refusals.specs.declared.Refusal.{Refusal}
 use Rattle.page.specs.declared.Answer.{Answer}
@@ -43,15 +44,16 @@ use Rattle.page.specs.declared.Answer.the-variants as A
 use Rattle.refusals.proofs.Refusals.{weights-dear, no-free-step, permitted-ground, weighted-in-order}
 
 -- ANY JOB that is in order where it has no ground
-pub promise-kept : (g : Option Refusal) (J : Job) → (g ≡ none → InOrder J) → Promised g J (jobPage g J) (jobAnswer g J)
+pub promise-kept : (start : ℕ → ℕ) (g : Option Refusal) (J : Job) → (g ≡ none → InOrder J)
+    → Promised start g J (jobPage g J start) (jobAnswer g J)
 unfolding jobPage jobAnswer
-promise-kept g J I = go g refl (pageWrite J) refl
+promise-kept start g J I = go g refl (pageWrite J) refl
   where
     go : (h : Option Refusal) → g ≡ h → (w : Option Solution) → pageWrite J ≡ w
-        → Promised g J (callPage h w (λ a. raisedTo (startIn (width J)) (J .page) (levelAt (a .levels))) (J .page))
+        → Promised start g J (callPage h w (λ a. raisedTo (startIn start (width J)) (J .page) (levelAt (a .levels))) (J .page))
         (callAnswer h w (spentStrip J))
     go (some r) e w f = refused e refl
-    go none e (some a) f = done e (cheapest J (I e) a f)
+    go none e (some a) f = done e (cheapest start J (I e) a f)
     go none e none f = spent e (spent-at J (I e) f) refl
 
 -- ONE BIT A CELL. 16·L cells fill 6·L bytes, and 8·L stages take the data
@@ -98,35 +100,43 @@ pub dear-by : (W : List ℕ) (code L S page content : ℕ) → writeGround W cod
 dear-by W code L S page content e = record { dear = weights-dear W (no-free-step W code L S page content e) }
 
 -- so the computed answer and page keep the promise, with any weights
+-- and wherever the raises start
+pub wrote-by : (start : ℕ → ℕ) (W : List ℕ) (code L S : ℕ) (before content : List ℕ) → Octets content
+    → Promised start (writeGround W code L S (length before) (length content)) (jobOf W code L S before content)
+    (pageBy W code L S before content start) (answerOf W code L S before content)
+unfolding pageBy answerOf
+wrote-by start W code L S before content b =
+    promise-kept start (writeGround W code L S (length before) (length content)) (jobOf W code L S before content)
+    (job-in-order W code L S before content b)
+
+-- so do those of this release
 pub wrote : (W : List ℕ) (code L S : ℕ) (before content : List ℕ) → Octets content
     → Wrote W code L S before content (pageOf W code L S before content) (answerOf W code L S before content)
-unfolding pageOf answerOf
-wrote W code L S before content b =
-    promise-kept (writeGround W code L S (length before) (length content)) (jobOf W code L S before content)
-    (job-in-order W code L S before content b)
+unfolding pageOf
+wrote = wrote-by startOf
 
 -- A WRITE KEEPS THE PAGE'S LENGTH, whatever its answer
 pub page-length : (W : List ℕ) (code L S : ℕ) (before content : List ℕ) → length (pageOf W code L S before content) ≡ length before
-unfolding pageOf jobPage
+unfolding pageOf pageBy jobPage
 page-length W code L S before content =
     go (writeGround W code L S (length before) (length content)) (pageWrite (jobOf W code L S before content))
   where
     go : (g : Option Refusal) (w : Option Solution)
-        → length (callPage g w (λ a. raisedTo (startIn (width (jobOf W code L S before content))) before (levelAt (a .levels))) before)
+        → length (callPage g w (λ a. raisedTo (startIn startOf (width (jobOf W code L S before content))) before (levelAt (a .levels))) before)
         ≡ length before
     go (some r) w = refl
     go none none = refl
     go none (some a) = raisedTo-length _ before (levelAt (a .levels))
 
 -- 'A CALL WITH NONE OF THESE GROUNDS IS DONE': no ground from the input, and a page that could be, so that it is not spent
-pub could-done : {g : Option Refusal} {J : Job} {after : List ℕ} {r : Answer} → Promised g J after r → g ≡ none → (other : List ℕ)
-    → Could J other → (cost : ℕ) × (r ≡ A.Done cost)
+pub could-done : {start : ℕ → ℕ} {g : Option Refusal} {J : Job} {after : List ℕ} {r : Answer} → Promised start g J after r → g ≡ none
+    → (other : List ℕ) → Could J other → (cost : ℕ) × (r ≡ A.Done cost)
 could-done (done {cost = cost} e p) g other c = (cost, refl)
 could-done (spent e p f) g other c = absurd (p .no-page other c)
 could-done (refused {r = r} e f) g other c = let z : _≡_ {A = ℕ} 0 1 = cc in absurd (omega arith)
 
 -- SPENT EXACTLY WHEN there is no such page: of a call in order, done and spent exclude each other and there is no third
-pub done-not-spent : {g : Option Refusal} {J : Job} {after : List ℕ} {r : Answer} → Promised g J after r → g ≡ none
+pub done-not-spent : {start : ℕ → ℕ} {g : Option Refusal} {J : Job} {after : List ℕ} {r : Answer} → Promised start g J after r → g ≡ none
     → ((other : List ℕ) → Could J other → ⊥)
     → (k : ℕ) × (r ≡ A.Spent k)
 done-not-spent (done e p) g n = absurd (n _ (p .could))
@@ -134,8 +144,8 @@ done-not-spent (spent {k = k} e p f) g n = (k, refl)
 done-not-spent (refused {r = r} e f) g n = let z : _≡_ {A = ℕ} 0 1 = cc in absurd (omega arith)
 
 -- and where the answer is spent there is no such page
-pub spent-no-page : {g : Option Refusal} {J : Job} {after : List ℕ} {k : ℕ} → Promised g J after (A.Spent k) → (other : List ℕ)
-    → Could J other → ⊥
+pub spent-no-page : {start : ℕ → ℕ} {g : Option Refusal} {J : Job} {after : List ℕ} {k : ℕ} → Promised start g J after (A.Spent k)
+    → (other : List ℕ) → Could J other → ⊥
 spent-no-page (spent e p f) = p .no-page
 
 -- WHETHER A PAGE IS SPENT DOES NOT DEPEND ON THE WEIGHTS: spent with some weights, it is spent with any that are permitted, and with the

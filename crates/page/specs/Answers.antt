@@ -1,6 +1,7 @@
 -- The answers of the calls on every input, with the paper's number and values for each case.
 --   jobAnswer, jobPage   the answer of a job and the page after it, by the ground of a refusal
---   answerOf, pageOf     a write's answer, and the page after it
+--   answerOf             a write's answer
+--   pageBy, pageOf       the page after it, by any order of the raises, and by this release's
 --   numberOf, valueOf    an answer's number and value in the paper
 --   answerCost           an answer's cost
 --   largestCost          the most that one write costs with the house's weights
@@ -10,7 +11,7 @@ use mathlib.Core.List.{List}
 use mathlib.Core.Option.{Option, none, some}
 use Prim.Native.Nat.{ℕ}
 use lib.ListN.{length}
-use Rattle.cells.specs.Raising.{startIn, raisedTo}
+use Rattle.cells.specs.Raising.{startOf, startIn, raisedTo}
 use Rattle.codes.specs.Generators.{Generators}
 use Rattle.codes.specs.Layouts.{oneBit}
 use Rattle.search.specs.Best.{Solution}
@@ -59,9 +60,10 @@ module _ (g : Option Refusal) (J : Job) where
   unfoldable pub jobAnswer : Answer
   jobAnswer = callAnswer g (pageWrite J) (spentStrip J)
 
-  -- the page after it: its cells are raised to the levels of the computed write
-  unfoldable pub jobPage : List ℕ
-  jobPage = callPage g (pageWrite J) (λ a. raisedTo (startIn (width J)) (J .page) (levelAt (a .levels))) (J .page)
+  -- the page after it: its cells are raised to the levels of the computed write, the raises of a cell starting at the bit `start` of its
+  -- number in its strip
+  unfoldable pub jobPage : (start : ℕ → ℕ) → List ℕ
+  jobPage start = callPage g (pageWrite J) (λ a. raisedTo (startIn start (width J)) (J .page) (levelAt (a .levels))) (J .page)
 
 -- a call of write or price with these three weights, one bit a cell and no cell marked
 module _ (W : List ℕ) (code L S : ℕ) (before content : List ℕ) where
@@ -73,9 +75,13 @@ module _ (W : List ℕ) (code L S : ℕ) (before content : List ℕ) where
   unfoldable pub answerOf : Answer
   answerOf = jobAnswer (writeGround W code L S (length before) (length content)) jobOf
 
-  -- THE PAGE after a write
+  -- THE PAGE after a write whose raises start where `start` says
+  unfoldable pub pageBy : (start : ℕ → ℕ) → List ℕ
+  pageBy start = jobPage (writeGround W code L S (length before) (length content)) jobOf start
+
+  -- and after a write of this release
   unfoldable pub pageOf : List ℕ
-  pageOf = jobPage (writeGround W code L S (length before) (length content)) jobOf
+  pageOf = pageBy startOf
 
 -- the number of an answer: 0, 7 where the page is spent, or the refusal's
 abbrev pub numberOf : Answer → ℕ

@@ -67,24 +67,24 @@ abbrev pub cases : List Case
 cases =
     -- 'erased page, write 00: cost 0, unchanged'
     on 3 1 erased (0x00 ∷ []) (done 0 erased)
-    -- 'erased, write 01: cost 48, page 41 02 00 00 00 00'
-    ∷ on 3 1 erased (0x01 ∷ []) (done 48 (six 0x41 0x02 0 0 0 0))
+    -- 'erased, write 01: cost 48', and by request K7 'the bytes of the case 01 become 01 03 00 00 00 00; the cases 40 and 80 stay'
+    ∷ on 3 1 erased (0x01 ∷ []) (done 48 (six 0x01 0x03 0 0 0 0))
     -- 'erased, write 40: cost 16, page 00 00 00 00 10 00'
     ∷ on 3 1 erased (0x40 ∷ []) (done 16 (six 0 0 0 0 0x10 0))
     -- 'erased, write 80: cost 16, page 00 00 00 00 00 20.'
     ∷ on 3 1 erased (0x80 ∷ []) (done 16 (six 0 0 0 0 0 0x20))
     -- 'Raising cell 14 costs as much; cell 15 wins the tie.'
-    ∷ on 3 1 erased (0x80 ∷ []) (also 16 (six 0 0 0 0 0 0x04))
+    ∷ on 3 1 erased (0x80 ∷ []) (also 16 (six 0 0 0 0 0 0x10))
     -- 'the same write with code 7: same cost and page'
     ∷ on 7 1 erased (0x80 ∷ []) (done 16 (six 0 0 0 0 0 0x20))
     -- 'writes 80, 00, 80, 00, 80, 00, 80 from erased cost 16, 16, 20, 20, 28, 28, 32'
     ∷ on 3 1 erased (0x80 ∷ []) (done 16 (six 0 0 0 0 0 0x20))
-    ∷ on 3 1 (six 0 0 0 0 0 0x20) (0x00 ∷ []) (done 16 (six 0 0 0 0 0 0x24))
-    ∷ on 3 1 (six 0 0 0 0 0 0x24) (0x80 ∷ []) (done 20 (six 0 0 0 0 0 0x64))
-    ∷ on 3 1 (six 0 0 0 0 0 0x64) (0x00 ∷ []) (done 20 (six 0 0 0 0 0 0x6c))
-    ∷ on 3 1 (six 0 0 0 0 0 0x6c) (0x80 ∷ []) (done 28 (six 0 0 0 0 0 0xec))
-    ∷ on 3 1 (six 0 0 0 0 0 0xec) (0x00 ∷ []) (done 28 (six 0 0 0 0 0 0xfc))
-    ∷ on 3 1 (six 0 0 0 0 0 0xfc) (0x80 ∷ []) (done 32 (six 0 0 0 0 0x90 0xfc))
+    ∷ on 3 1 (six 0 0 0 0 0 0x20) (0x00 ∷ []) (done 16 (six 0 0 0 0 0 0x30))
+    ∷ on 3 1 (six 0 0 0 0 0 0x30) (0x80 ∷ []) (done 20 (six 0 0 0 0 0 0x70))
+    ∷ on 3 1 (six 0 0 0 0 0 0x70) (0x00 ∷ []) (done 20 (six 0 0 0 0 0 0x74))
+    ∷ on 3 1 (six 0 0 0 0 0 0x74) (0x80 ∷ []) (done 28 (six 0 0 0 0 0 0xf4))
+    ∷ on 3 1 (six 0 0 0 0 0 0xf4) (0x00 ∷ []) (done 28 (six 0 0 0 0 0 0xfc))
+    ∷ on 3 1 (six 0 0 0 0 0 0xfc) (0x80 ∷ []) (done 32 (six 0 0 0 0 0x10 0xfd))
     -- 'page of six ff reads fe with code 3 and 1e with code 7'
     ∷ on 3 1 full (0xfe ∷ []) reads
     ∷ on 7 1 full (0x1e ∷ []) reads

@@ -5,18 +5,20 @@
 --   pageAfter, counted   the page after an event, and the raises since the page was last erased
 --   Call, eventOf        a call on the page, and what it does
 --   played, tallied      the page and the count after a sequence of calls
+--   answered             what its writes answer
 use mathlib.Core.Path.{_≡_}
-use mathlib.Core.List.{List, [], _∷_}
+use mathlib.Core.List.{List, [], _∷_, _++_}
 use mathlib.Core.Option.{Option}
-use Prim.Native.Nat.{ℕ, _+_, _*_, _-_, _/_, _<_, _≤_}
+use Prim.Native.Nat.{ℕ, suc, _+_, _*_, _-_, _/_, _<_, _≤_}
 use lib.IntN.{ℤ}
 use lib.ListN.{length, replicate}
 use Rattle.cells.specs.Places.{sumOf}
 use Rattle.cells.specs.Bytes.{Octets}
 use Rattle.cells.specs.Levels.{level, raisesOf}
 use Rattle.refusals.specs.Refusals.{shapeGround, eraseGround, first-of}
-use Rattle.page.specs.Answers.{kept, pageOf}
+use Rattle.page.specs.Answers.{kept, answerOf, pageBy}
 use Rattle.refusals.specs.declared.Refusal.{Refusal}
+use Rattle.page.specs.declared.Answer.{Answer}
 
 -- every cell of a page of so many bytes
 unfoldable pub cellsOn : List ℕ → ℕ
@@ -62,18 +64,30 @@ pub data Call : Type 0 where
 unfoldable pub erasing : ℕ → ℕ → ℤ → List ℕ → Option Refusal
 erasing L S tenths page = first-of (shapeGround L S (length page)) (eraseGround tenths)
 
--- what a call does to the page: a refused write leaves it, and so makes no raise
-unfoldable pub eventOf : Call → List ℕ → Event
-eventOf (write W code L S content b) page = raised (pageOf W code L S page content)
-eventOf (erase L S tenths) page = kept (erasing L S tenths page) (erased (replicate (length page) 0)) looked
-eventOf look page = looked
+-- what a call does to the page: a refused write leaves it, and so makes no raise. Its raises start where the release that makes it says
+unfoldable pub eventOf : (start : ℕ → ℕ) → Call → List ℕ → Event
+eventOf start (write W code L S content b) page = raised (pageBy W code L S page content start)
+eventOf start (erase L S tenths) page = kept (erasing L S tenths page) (erased (replicate (length page) 0)) looked
+eventOf start look page = looked
 
--- a sequence of calls, the first one first
-unfoldable pub played : List Call → List ℕ → List ℕ
-played [] page = page
-played (c ∷ cs) page = played cs (pageAfter (eventOf c page) page)
+-- what it answers, if it is a write
+abbrev pub answerTo : Call → List ℕ → List Answer
+answerTo (write W code L S content b) page = answerOf W code L S page content ∷ []
+answerTo (erase L S tenths) page = []
+answerTo look page = []
 
--- and the count after it
-unfoldable pub tallied : List Call → List ℕ → ℕ → ℕ
-tallied [] page n = n
-tallied (c ∷ cs) page n = tallied cs (pageAfter (eventOf c page) page) (counted (eventOf c page) page n)
+-- a sequence of calls, the first one first; `starts n` is where the raises of call n start, so that releases of any order can take turns
+unfoldable pub played : (starts : ℕ → ℕ → ℕ) → List Call → List ℕ → List ℕ
+played starts [] page = page
+played starts (c ∷ cs) page = played (λ n. starts (suc n)) cs (pageAfter (eventOf (starts 0) c page) page)
+
+-- the count after it
+unfoldable pub tallied : (starts : ℕ → ℕ → ℕ) → List Call → List ℕ → ℕ → ℕ
+tallied starts [] page n = n
+tallied starts (c ∷ cs) page n =
+    tallied (λ n. starts (suc n)) cs (pageAfter (eventOf (starts 0) c page) page) (counted (eventOf (starts 0) c page) page n)
+
+-- and what its writes answer
+unfoldable pub answered : (starts : ℕ → ℕ → ℕ) → List Call → List ℕ → List Answer
+answered starts [] page = []
+answered starts (c ∷ cs) page = answerTo c page ++ answered (λ n. starts (suc n)) cs (pageAfter (eventOf (starts 0) c page) page)

@@ -1,11 +1,12 @@
 -- WHAT A WRITE PROMISES, on every input: for each case of its answer, what holds of the page before and after.
---   Promised g J after r                      of a job, by the ground of a refusal
+--   Promised start g J after r                of a job, by the ground of a refusal; `start` says where the raises of a cell start
 --   Wrote W code L S before content after r   of a write
 use mathlib.Core.Path.{_≡_}
 use mathlib.Core.List.{List}
 use mathlib.Core.Option.{Option, none, some}
 use Prim.Native.Nat.{ℕ}
 use lib.ListN.{length}
+use Rattle.cells.specs.Raising.{startOf}
 use Rattle.demand.specs.Jobs.{Job}
 use Rattle.demand.specs.Demand.{Cheapest, SpentAt}
 use Rattle.refusals.specs.Refusals.{writeGround}
@@ -17,12 +18,12 @@ use Rattle.page.specs.declared.Answer.the-variants as A
 -- 'The answer of a write is done with its cost, spent with the lowest number of a strip .., or refused with the refusal inside it.' Done:
 -- the page is the cheapest of all that could be. Spent: no page could be, and nothing is changed. Refused: by the first ground of the list,
 -- and nothing is changed; a call without a ground is not refused.
-pub data Promised (g : Option Refusal) (J : Job) (after : List ℕ) : Answer → Type 0 where
-  done : {cost : ℕ} → g ≡ none → Cheapest J after cost → Promised g J after (A.Done cost)
-  spent : {k : ℕ} → g ≡ none → SpentAt J k → after ≡ J .page → Promised g J after (A.Spent k)
-  refused : {r : Refusal} → g ≡ some r → after ≡ J .page → Promised g J after (A.Refused r)
+pub data Promised (start : ℕ → ℕ) (g : Option Refusal) (J : Job) (after : List ℕ) : Answer → Type 0 where
+  done : {cost : ℕ} → g ≡ none → Cheapest start J after cost → Promised start g J after (A.Done cost)
+  spent : {k : ℕ} → g ≡ none → SpentAt J k → after ≡ J .page → Promised start g J after (A.Spent k)
+  refused : {r : Refusal} → g ≡ some r → after ≡ J .page → Promised start g J after (A.Refused r)
 
 -- of a write with the weights W
 abbrev pub Wrote : (W : List ℕ) (code L S : ℕ) (before content after : List ℕ) → Answer → Type 0
 Wrote W code L S before content after r =
-    Promised (writeGround W code L S (length before) (length content)) (jobOf W code L S before content) after r
+    Promised startOf (writeGround W code L S (length before) (length content)) (jobOf W code L S before content) after r

@@ -6,7 +6,6 @@ use codes::Code;
 use refusals::Completion;
 use trellis::backward::price_strip;
 use trellis::carrying::carry_strip;
-use trellis::carrying::shown_pairs;
 use trellis::forward::plan_strip;
 use trellis::rows::rows_of;
 ghost use mathlib.Core.Path.{_≡_};
@@ -15,6 +14,7 @@ ghost use mathlib.Core.Option.{none};
 ghost use Prim.Native.Nat.{_*_, _≤_};
 ghost use lib.ListN.{length};
 ghost use Rattle.cells.specs.Places.{Free};
+ghost use Rattle.cells.specs.Raising.{startOf};
 ghost use Rattle.cells.specs.Climbs.{house};
 ghost use Rattle.codes.specs.Codes.{generatorsOf};
 ghost use Rattle.codes.specs.Layouts.{oneBit};
@@ -95,7 +95,7 @@ fn plan_strips(
     total.answer()
 }
 
-// Carries the digits out, strip by strip. The raises of every cell look for a zero from bit 0 on (`startOf`).
+// Carries the digits out, strip by strip.
 fn carry_strips(
     code: Code,
     bytes: usize,
@@ -109,7 +109,6 @@ fn carry_strips(
     ensures { λ _. ⌜ Carried (generatorsOf code) bytes strips
         (now (page .entry)) (now («data» .entry)) (now (digits .entry)) (now (page .exit)) ⌝ }
 {
-    let pairs = shown_pairs(0, 0);
     let n = codes::STRIP_BYTES * bytes;
     let mut k: usize = 0;
     while k < strips {
@@ -117,7 +116,6 @@ fn carry_strips(
         let b = bytes * k;
         carry_strip(
             code,
-            &pairs,
             &mut page[a..a + n],
             &data[b..b + bytes],
             &digits[b..b + bytes],
@@ -139,7 +137,7 @@ fn write_strips(
     requires { ⌜ Dear (stepsOf weights) ⌝ }
     ensures { λ r. ⌜ r ≡ jobAnswer none (plainJob (generatorsOf code) weights bytes strips (now (page .entry)) (now («data» .entry))) ⌝ }
     ensures { λ _. ⌜ now (page .exit)
-        ≡ jobPage none (plainJob (generatorsOf code) weights bytes strips (now (page .entry)) (now («data» .entry))) ⌝ }
+        ≡ jobPage none (plainJob (generatorsOf code) weights bytes strips (now (page .entry)) (now («data» .entry))) startOf ⌝ }
 {
     let mut digits = [0u8; 4096];
     let whole = bytes * strips;

@@ -4,7 +4,6 @@ use Prim.Native.Nat.{ℕ, _+_, _*_, _-_, _≤_}
 use native.Mathlib.Omega.{arith}
 use lib.ListN.{length}
 use borrow.Author.Needs.{needs}
-use Rattle.cells.specs.Raising.{startOf}
 use Rattle.codes.specs.Codes.{generatorsOf}
 use Rattle.codes.specs.Layouts.{oneBit, byteCount}
 use Rattle.codes.proofs.Layouts.{oneBit-bytes}
@@ -15,34 +14,31 @@ use Rattle.page.proofs.writing.carry_strips.Statement.{statement}
 use Rattle.page.proofs.writing.carry_strips.Tie as tie
 
 abbrev Inv-loop : tie.InvT-loop
-Inv-loop code bytes strips page₀ «data» digits pairs n k₀ page k = CarriedUpTo (generatorsOf code) bytes strips page₀ «data» digits page k
+Inv-loop code bytes strips page₀ «data» digits n k₀ page k = CarriedUpTo (generatorsOf code) bytes strips page₀ «data» digits page k
 
 abbrev μ-loop : tie.MeasureT-loop
-μ-loop code bytes strips page₀ «data» digits pairs n k₀ page k = strips - k
+μ-loop code bytes strips page₀ «data» digits n k₀ page k = strips - k
 
 -- in a turn the strip ends within the page
 fit : (c : tie.In-loop Inv-loop μ-loop)
-    → let a = c .before .before .before .before .before .before .args in
+    → let a = c .before .before .before .before .before .args in
     6 * a .bytes * c .before .loop .k + 6 * a .bytes ≤ length (c .before .loop .page)
 fit c =
-    let s = c .before .before .before .before .before .before in
+    let s = c .before .before .before .before .before in
     omega (arith, rw (oneBit-bytes (s .args .bytes)) at (strip-fits (s .pre .0) (c .loop-test .taken)), c .before .loop .inv .size)
 
 -- and its part within the data
 fit-data : (c : tie.In-loop Inv-loop μ-loop)
-    → let a = c .before .before .before .before .before .before .args in a .bytes * c .before .loop .k + a .bytes ≤ length (a .«data» .now)
-fit-data c = part-fits (c .before .before .before .before .before .before .pre .0) (c .loop-test .taken)
+    → let a = c .before .before .before .before .before .args in a .bytes * c .before .loop .k + a .bytes ≤ length (a .«data» .now)
+fit-data c = part-fits (c .before .before .before .before .before .pre .0) (c .loop-test .taken)
 
 -- and within the digits
 fit-digits : (c : tie.In-loop Inv-loop μ-loop)
-    → let a = c .before .before .before .before .before .before .args in a .bytes * c .before .loop .k + a .bytes ≤ length (a .digits .now)
-fit-digits c = let s = c .before .before .before .before .before .before in omega (arith, fit-data c, s .pre .0 .data-is, s .pre .1)
-
-shown-pairs-requires : tie.Need-shown-pairs-requires Inv-loop μ-loop
-shown-pairs-requires c κs = search needs
+    → let a = c .before .before .before .before .before .args in a .bytes * c .before .loop .k + a .bytes ≤ length (a .digits .now)
+fit-digits c = let s = c .before .before .before .before .before in omega (arith, fit-data c, s .pre .0 .data-is, s .pre .1)
 
 mul-n : tie.Need-mul-n Inv-loop μ-loop
-mul-n c = omega (arith, one-to-64 (c .before .before .before .before .args .bytes) (c .before .before .before .before .pre .0 .bytes-in))
+mul-n c = omega (arith, one-to-64 (c .before .before .before .args .bytes) (c .before .before .before .pre .0 .bytes-in))
 
 loop-holds : tie.Need-loop-holds Inv-loop μ-loop
 loop-holds c = carried-nothing
@@ -54,7 +50,7 @@ mul-b : tie.Need-mul-b Inv-loop μ-loop
 mul-b c = omega (arith, fit-data c)
 
 add-carry-strip : tie.Need-add-carry-strip Inv-loop μ-loop
-add-carry-strip c = omega (arith, fit (c .before))
+add-carry-strip c = omega (arith, fit c)
 
 sub-carry-strip : tie.Need-sub-carry-strip Inv-loop μ-loop
 sub-carry-strip c = search needs
@@ -63,10 +59,10 @@ part-carry-strip-start : tie.Need-part-carry-strip-start Inv-loop μ-loop
 part-carry-strip-start c = search needs
 
 part-carry-strip-end : tie.Need-part-carry-strip-end Inv-loop μ-loop
-part-carry-strip-end c = omega (arith, fit (c .before))
+part-carry-strip-end c = omega (arith, fit c)
 
 add-carry-strip-2 : tie.Need-add-carry-strip-2 Inv-loop μ-loop
-add-carry-strip-2 c = omega (arith, fit-data (c .before .before))
+add-carry-strip-2 c = omega (arith, fit-data (c .before))
 
 sub-carry-strip-2 : tie.Need-sub-carry-strip-2 Inv-loop μ-loop
 sub-carry-strip-2 c = search needs
@@ -75,10 +71,10 @@ part-carry-strip-start-2 : tie.Need-part-carry-strip-start-2 Inv-loop μ-loop
 part-carry-strip-start-2 c = search needs
 
 part-carry-strip-end-2 : tie.Need-part-carry-strip-end-2 Inv-loop μ-loop
-part-carry-strip-end-2 c = omega (arith, fit-data (c .before .before))
+part-carry-strip-end-2 c = omega (arith, fit-data (c .before))
 
 add-carry-strip-3 : tie.Need-add-carry-strip-3 Inv-loop μ-loop
-add-carry-strip-3 c = omega (arith, fit-data (c .before .before .before))
+add-carry-strip-3 c = omega (arith, fit-data (c .before .before))
 
 sub-carry-strip-3 : tie.Need-sub-carry-strip-3 Inv-loop μ-loop
 sub-carry-strip-3 c = search needs
@@ -87,25 +83,22 @@ part-carry-strip-start-3 : tie.Need-part-carry-strip-start-3 Inv-loop μ-loop
 part-carry-strip-start-3 c = search needs
 
 part-carry-strip-end-3 : tie.Need-part-carry-strip-end-3 Inv-loop μ-loop
-part-carry-strip-end-3 c = omega (arith, fit-digits (c .before .before .before))
+part-carry-strip-end-3 c = omega (arith, fit-digits (c .before .before))
 
 carry-strip-requires : tie.Need-carry-strip-requires Inv-loop μ-loop
-unfolding startOf
 carry-strip-requires c κs =
-    let t = c .before .before .before .before in
-    let s = t .before .before .before .before .before .before in
+    let t = c .before .before .before in
+    let s = t .before .before .before .before .before in
     let a = s .args in
-    let l = t .before .loop in (
-      record {
-        digits-are = lent-length (a .bytes) _ (a .digits .now) (omega (arith, fit-digits t))
-            ∙ sym (lent-length (a .bytes) _ (a .«data» .now) (omega (arith, fit-data t)));
-        most = subst⁻¹ (λ (n : ℕ). n ≤ 64) (lent-length (a .bytes) _ (a .«data» .now) (omega (arith, fit-data t)))
-            (one-to-64 (a .bytes) (s .pre .0 .bytes-in) .1);
-        size = lent-length (6 * a .bytes) _ (l .page) (omega (arith, fit t)) ∙ sym (oneBit-bytes (a .bytes))
-            ∙ ap (byteCount oneBit) (sym (lent-length (a .bytes) _ (a .«data» .now) (omega (arith, fit-data t))));
-      },
-      t .before .before .shown-pairs .ensures,
-    )
+    let l = t .before .loop in
+    record {
+      digits-are = lent-length (a .bytes) _ (a .digits .now) (omega (arith, fit-digits t))
+          ∙ sym (lent-length (a .bytes) _ (a .«data» .now) (omega (arith, fit-data t)));
+      most = subst⁻¹ (λ (n : ℕ). n ≤ 64) (lent-length (a .bytes) _ (a .«data» .now) (omega (arith, fit-data t)))
+          (one-to-64 (a .bytes) (s .pre .0 .bytes-in) .1);
+      size = lent-length (6 * a .bytes) _ (l .page) (omega (arith, fit t)) ∙ sym (oneBit-bytes (a .bytes))
+          ∙ ap (byteCount oneBit) (sym (lent-length (a .bytes) _ (a .«data» .now) (omega (arith, fit-data t))));
+    }
 
 add-k : tie.Need-add-k Inv-loop μ-loop
 add-k c = search needs
@@ -115,9 +108,9 @@ loop-less c = search needs
 
 loop-again : tie.Need-loop-again Inv-loop μ-loop
 loop-again c =
-    let t = c .before .before .before .before .before .before .before in
-    carried-more (t .before .loop .inv) (sym (oneBit-bytes (t .before .before .before .before .before .before .args .bytes)))
-    (t .before .before .before .before .before .before .pre .0 .page-is) (t .loop-test .taken) (c .before .before .carry-strip .ensures)
+    let t = c .before .before .before .before .before .before in
+    carried-more (t .before .loop .inv) (sym (oneBit-bytes (t .before .before .before .before .before .args .bytes)))
+    (t .before .before .before .before .before .pre .0 .page-is) (t .loop-test .taken) (c .before .before .carry-strip .ensures)
 
 same-length : tie.Need-same-length Inv-loop μ-loop
 same-length c = c .before .loop .inv .size
@@ -133,7 +126,6 @@ carry-strips-spec =
     (tie.spec
     Inv-loop
     μ-loop
-    shown-pairs-requires
     mul-n
     loop-holds
     mul-a

@@ -7,6 +7,7 @@ use native.Mathlib.Omega.{arith}
 use lib.ListN.{length, drop, replicate}
 use mir.Syntax.{w8}
 use borrow.Author.Needs.{needs, elem-fits}
+use Rattle.cells.specs.Raising.{startOf}
 use Rattle.codes.specs.Codes.{generatorsOf}
 use Rattle.trellis.proofs.Ways.{Suits, suits}
 use Rattle.page.specs.Answers.{plainJob, jobAnswer, jobPage}
@@ -38,7 +39,7 @@ spent-kept : (c : tie.After-enum-told3) →
     let p = c .before .before .before in
     let a = p .before .before .before .before .before .args in
     let J = plainJob (generatorsOf (a .code)) (a .weights) (a .bytes) (a .strips) (a .page .now) (a .«data» .now) in
-    (p .plan-strips .result ≡ jobAnswer none J) × (a .page .now ≡ jobPage none J)
+    (p .plan-strips .result ≡ jobAnswer none J) × (a .page .now ≡ jobPage none J startOf)
 spent-kept c =
     let p = c .before .before .before in
     let s = p .before .before .before .before .before in
