@@ -7,29 +7,33 @@
 --   releases-alike        any sequence of calls, by any releases
 --   older-reads           so a page that the releases before K7 wrote reads as one of this release, and the other way round
 use mathlib.Core.Path.{_≡_, refl, sym, _∙_, ap, ap₂, fun-ext}
+use mathlib.Core.Bool.{cond}
 use mathlib.Core.List.{List, [], _∷_, _++_}
 use mathlib.Core.Option.{Option, none, some}
 use Prim.Native.Nat.{ℕ, suc, _<_, _+_, _*_}
 use native.Mathlib.Omega.{arith}
 use lib.IntN.{ℤ}
+use lib.Dec.{ltb}
 use lib.ListN.{length, replicate}
+use Rattle.cells.specs.Places.{listOf}
 use Rattle.cells.specs.Bytes.{Octets}
 use Rattle.cells.specs.Levels.{level, SameLevels}
 use Rattle.cells.specs.Raising.{startOf, olderStart}
 use Rattle.cells.proofs.Levels.{same-level, same-sym, same-self}
 use Rattle.codes.specs.Generators.{Generators}
-use Rattle.codes.specs.Layouts.{oneBit}
+use Rattle.codes.specs.Layouts.{oneBit, cellCount}
 use Rattle.demand.specs.Jobs.{Job, InOrder}
 use Rattle.demand.specs.Reading.{stripLevels}
 use Rattle.demand.proofs.Weights.{spent-once}
 use Rattle.demand.proofs.Orders.{read-levels, onPage, could-levels, cheapest-levels, spent-levels}
-use Rattle.refusals.specs.Refusals.{writeGround, shapeGround}
+use Rattle.refusals.specs.Refusals.{writeGround, shapeGround, eraseGround, completionOf}
 use Rattle.page.specs.Reading.{readPage}
 use Rattle.page.specs.Answers.{kept, jobOf, answerOf, pageBy, pageOf}
 use Rattle.page.specs.Promise.{Promised, done, spent, refused}
-use Rattle.page.specs.Counting.{rowAt, rowsOf, censusOf}
+use Rattle.page.specs.Counting.{rowOf, zeroRow, rowAt, rowsOf, censusOf}
 use Rattle.page.specs.Ledger.{Event, raised, erased, looked, pageAfter, Call, write, erase, look, erasing, eventOf, answerTo, played, answered}
 use Rattle.refusals.specs.declared.Refusal.{Refusal}
+use Rattle.page.specs.declared.Row.{Row}
 use Rattle.page.specs.declared.Answer.{Answer}
 use Rattle.page.specs.declared.Answer.the-variants as A
 use Rattle.page.proofs.Promise.{job-in-order, wrote-by}
@@ -47,3 +51,67 @@ module _ (g : Option Refusal) (J : Job) {p q : List ℕ} (s : SameLevels p q) (I
   promised-alike (refused {r = r} e x) (done f d) = let z : none ≡ some r = sym f ∙ e in let w : _≡_ {A = ℕ} 0 1 = cc in absurd (omega arith)
   promised-alike (refused {r = r} e x) (spent f d y) = let z : none ≡ some r = sym f ∙ e in let w : _≡_ {A = ℕ} 0 1 = cc in absurd (omega arith)
   promised-alike (refused e x) (refused f y) = (cc, rw (x, y) s)
+
+-- TWO WRITES of the same data with any weights, in any two orders, on pages of one length with equal levels
+pub write-alike : (start start′ : ℕ → ℕ) (W : List ℕ) (code L S : ℕ) {p q : List ℕ} (content : List ℕ) → Octets content → SameLevels p q
+    → (answerOf W code L S p content ≡ answerOf W code L S q content)
+    × SameLevels (pageBy W code L S p content start) (pageBy W code L S q content start′)
+write-alike start start′ W code L S {p} {q} content b s =
+    promised-alike (writeGround W code L S (length p) (length content)) (jobOf W code L S p content) s (job-in-order W code L S p content b)
+    (wrote-by start W code L S p content b)
+    (rw (sym (s .size)) at (wrote-by start′ W code L S q content b))
+
+-- A WRITE OF THE RELEASES BEFORE K7, which raise from bit 0 on, and one of this release
+pub older-write : (W : List ℕ) (code L S : ℕ) {p q : List ℕ} (content : List ℕ) → Octets content → SameLevels p q
+    → (answerOf W code L S p content ≡ answerOf W code L S q content)
+    × SameLevels (pageBy W code L S p content olderStart) (pageOf W code L S q content)
+unfolding pageOf
+older-write W code L S content b s = write-alike olderStart startOf W code L S content b s
+
+-- THE CENSUS
+pub census-alike : (L S : ℕ) {x y : List ℕ} → SameLevels x y → censusOf L S x ≡ censusOf L S y
+unfolding censusOf rowsOf rowAt stripLevels
+census-alike L S {x} {y} s =
+    rw (s .size) (ap (λ (rows : List Row). record { answer = completionOf (shapeGround L S (length y)); rows = rows })
+    (same-rows (shapeGround L S (length y))))
+  where
+    n : ℕ
+    n = cellCount oneBit L
+
+    same-rows : (g : Option Refusal) → rowsOf oneBit g L S x ≡ rowsOf oneBit g L S y
+    same-rows none =
+        ap (λ (v : ℕ → ℕ). listOf 64 (λ k. cond (ltb k S) (rowOf n (λ c. v (n * k + c))) zeroRow)) (fun-ext (same-level s))
+    same-rows (some r) = refl
+
+-- ANY SEQUENCE OF CALLS. After a call the levels are the same
+call-alike : (start start′ : ℕ → ℕ) (c : Call) {p q : List ℕ} → SameLevels p q
+    → (answerTo c p ≡ answerTo c q) × SameLevels (pageAfter (eventOf start c p) p) (pageAfter (eventOf start′ c q) q)
+unfolding eventOf erasing
+call-alike start start′ (write W code L S content b) s =
+    let z = write-alike start start′ W code L S content b s in
+    (ap (λ (r : Answer). r ∷ []) (z .0), z .1)
+call-alike start start′ (erase L S tenths) {p} {q} s = (refl, rw (s .size) (go (erasing L S tenths q)))
+  where
+    go : (g : Option Refusal) → SameLevels (pageAfter (kept g (erased (replicate (length q) 0)) looked) p)
+        (pageAfter (kept g (erased (replicate (length q) 0)) looked) q)
+    go none = same-self
+    go (some r) = s
+call-alike start start′ look s = (refl, s)
+
+-- and so after any sequence, in which each call may be made by a release of its own
+pub releases-alike : (starts starts′ : ℕ → ℕ → ℕ) (cs : List Call) {p q : List ℕ} → SameLevels p q
+    → (answered starts cs p ≡ answered starts′ cs q) × SameLevels (played starts cs p) (played starts′ cs q)
+unfolding played answered
+releases-alike starts starts′ [] s = (refl, s)
+releases-alike starts starts′ (c ∷ cs) s =
+    let z = call-alike (starts 0) (starts′ 0) c s in
+    let w = releases-alike (λ n. starts (suc n)) (λ n. starts′ (suc n)) cs (z .1) in
+    (ap₂ _++_ (z .0) (w .0), w .1)
+
+-- SO PAGES OF OLDER RELEASES READ AS THEY DID, and older releases read newer pages: from an erased page, over any sequence of calls, what
+-- the releases before K7 leave reads as what this one leaves
+pub older-reads : (G : Generators) (L S size : ℕ) (cs : List Call)
+    → readPage G L S (played (λ n. olderStart) cs (replicate size 0)) ≡ readPage G L S (played (λ n. startOf) cs (replicate size 0))
+unfolding readPage
+older-reads G L S size cs =
+    read-levels oneBit G L S (releases-alike (λ n. olderStart) (λ n. startOf) cs (same-self {x = replicate size 0}) .1)
