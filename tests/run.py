@@ -35,9 +35,10 @@ def level(page, c):
     return sum(bit(page, 3 * c + i) for i in range(3))
 
 
-def raised(page, c):
-    k = next(k for k in range(3 * c, 3 * c + 3) if not bit(page, k))
-    page[k // 8] |= 1 << (k % 8)
+def raised(strip, c):
+    """Sets the first zero of cell c of a strip, from the bit of the cell's number there mod 3 on and going round the three (document 02, K7)."""
+    k = next(k for k in (3 * c + (c + i) % 3 for i in range(3)) if not bit(strip, k))
+    strip[k // 8] |= 1 << (k % 8)
 
 
 def climb(weights, old, new):
