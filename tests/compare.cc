@@ -2,11 +2,12 @@
 //
 //   compare [SEED [FACTOR]]
 //
-// The graph and the reading are made from document 01 alone, and from what document 02 says of the weights. A vertex is a stage of a strip with the
-// bits of the cells of the last m stages, all that the sum for a data bit needs of the past. An edge is a choice of levels for the two cells of a
-// stage: neither below its old level, the data bit right. Its weight is the cost of the two climbs. Boost gives the distance of every vertex to the
-// end of the strip; a walk from the start along edges that lose no cost, the lowest levels first, is then the write that document 01 asks for, ties
-// included. At the first disagreement the whole case is printed and the exit status is 1. FACTOR multiplies the number of random cases.
+// The graph and the reading are made from document 01 alone, and from what document 02 says of the weights and of the bit that a raise sets. A vertex
+// is a stage of a strip with the bits of the cells of the last m stages, all that the sum for a data bit needs of the past. An edge is a choice of
+// levels for the two cells of a stage: neither below its old level, the data bit right. Its weight is the cost of the two climbs. Boost gives the
+// distance of every vertex to the end of the strip; a walk from the start along edges that lose no cost, the lowest levels first, is then the write
+// that document 01 asks for, ties included. At the first disagreement the whole case is printed and the exit status is 1. FACTOR multiplies the
+// number of random cases.
 
 #include "segrunov.h"
 
@@ -63,15 +64,24 @@ unsigned level_of(const Bytes& strip, std::size_t cell) {
   return bit_at(strip, 3 * cell) + bit_at(strip, 3 * cell + 1) + bit_at(strip, 3 * cell + 2);
 }
 
-void raise_once(Bytes& strip, std::size_t cell) {
-  std::size_t k = 3 * cell;
-  while (bit_at(strip, k) == 1) ++k;
-  flip_bit(strip, k);
+// The bit of a strip that is bit number i mod 3 of a cell.
+std::size_t bit_of_cell(std::size_t cell, std::size_t i) { return 3 * cell + i % 3; }
+
+// The first zero of a cell that is not full, going round the three bits from number i mod 3 on.
+std::size_t zero_from(const Bytes& strip, std::size_t cell, std::size_t i) {
+  while (bit_at(strip, bit_of_cell(cell, i)) == 1) ++i;
+  return bit_of_cell(cell, i);
 }
 
-// Whether the cell's ones are its lowest bits, as in a page that only the library has written since the last erase.
-bool ones_first(const Bytes& strip, std::size_t cell) {
-  return bit_at(strip, 3 * cell) >= bit_at(strip, 3 * cell + 1) && bit_at(strip, 3 * cell + 1) >= bit_at(strip, 3 * cell + 2);
+// A raise starts by the cell's number in its strip (document 02, K7).
+void raise_once(Bytes& strip, std::size_t cell) { flip_bit(strip, zero_from(strip, cell, cell)); }
+
+// Whether the cell's ones are those that raises from level 0 set, as in a page that only the library has written since the last erase.
+bool in_order(const Bytes& strip, std::size_t cell) {
+  const unsigned first = bit_at(strip, bit_of_cell(cell, cell));
+  const unsigned second = bit_at(strip, bit_of_cell(cell, cell + 1));
+  const unsigned third = bit_at(strip, bit_of_cell(cell, cell + 2));
+  return first >= second && second >= third;
 }
 
 Levels levels_of(const Bytes& strip) {
@@ -103,6 +113,11 @@ Bytes part(const Bytes& bytes, std::size_t number, std::size_t length) {
   return Bytes(first, first + static_cast<std::ptrdiff_t>(length));
 }
 
+Bytes complement(Bytes bytes) {
+  for (std::uint8_t& byte : bytes) byte = static_cast<std::uint8_t>(~byte);
+  return bytes;
+}
+
 void put_part(Bytes& bytes, std::size_t number, const Bytes& piece) {
   std::copy(piece.begin(), piece.end(), bytes.begin() + static_cast<std::ptrdiff_t>(number * piece.size()));
 }
@@ -124,6 +139,30 @@ Bytes read_page(const Code& code, Shape shape, const Bytes& page) {
   Bytes data(data_length(shape));
   for (std::size_t k = 0; k < shape.strips; ++k) put_part(data, k, read_strip(code, part(page, k, strip_length(shape))));
   return data;
+}
+
+// The page as a release before K7 would have left it: the same levels, the ones of each cell its lowest bits.
+Bytes older_page(const Bytes& page) {
+  Bytes older(page.size(), 0);
+  const Levels levels = levels_of(page);
+  for (std::size_t cell = 0; cell < levels.size(); ++cell) {
+    for (unsigned i = 0; i < levels[cell]; ++i) flip_bit(older, bit_of_cell(cell, i));
+  }
+  return older;
+}
+
+// The page with its cells raised to the levels of another.
+Bytes raised_page(Shape shape, const Bytes& page, const Bytes& other) {
+  Bytes raised(page.size());
+  for (std::size_t k = 0; k < shape.strips; ++k) {
+    Bytes strip = part(page, k, strip_length(shape));
+    const Levels levels = levels_of(part(other, k, strip_length(shape)));
+    for (std::size_t cell = 0; cell < levels.size(); ++cell) {
+      while (level_of(strip, cell) < levels[cell]) raise_once(strip, cell);
+    }
+    put_part(raised, k, strip);
+  }
+  return raised;
 }
 
 // ---------------------------------------------------------------- the search
@@ -279,8 +318,9 @@ struct PageSearch {
   std::uint64_t answer = 0;
   Bytes page;
   bool tie = false;
-  bool below_one = false;   // a cell is raised in a bit below one of its ones
-  bool late_spent = false;  // spent, though a strip before would have been changed
+  bool out_of_order = false;   // a cell is raised whose ones are not those that the library alone would have set
+  bool strip_decides = false;  // a raise that started by the cell's number in the page would set another bit
+  bool late_spent = false;     // spent, though a strip before would have been changed
 };
 
 PageSearch search_page(const Code& code, Shape shape, const Weights& weights, const Bytes& page, const Bytes& data) {
@@ -302,7 +342,9 @@ PageSearch search_page(const Code& code, Shape shape, const Weights& weights, co
     }
     for (std::size_t cell = 0; cell < path.levels.size(); ++cell) {
       for (unsigned level = level_of(strip, cell); level < path.levels[cell]; ++level) {
-        result.below_one = result.below_one || !ones_first(strip, cell);
+        const std::size_t in_page = k * path.levels.size() + cell;
+        result.out_of_order = result.out_of_order || !in_order(strip, cell);
+        result.strip_decides = result.strip_decides || zero_from(strip, cell, in_page) != zero_from(strip, cell, cell);
         raise_once(strip, cell);
       }
     }
@@ -412,11 +454,15 @@ struct Counts {
   std::array<std::uint64_t, 2> done{};                             // writes by code, and so on
   std::array<std::uint64_t, 2> spent{};
   std::array<std::uint64_t, 2> ties{};
-  std::array<std::uint64_t, 2> below_one{};
+  std::array<std::uint64_t, 2> out_of_order{};
+  std::array<std::uint64_t, 2> strip_decides{};
   std::array<std::uint64_t, 2> late_spent{};
   std::array<std::uint64_t, 2> last_spent{};
   std::array<std::uint64_t, 2> kept{};
-  std::array<std::uint64_t, 2> decided{};  // the weights given lead to another page than the house's
+  std::array<std::uint64_t, 2> decided{};       // the weights given lead to another page than the house's
+  std::array<std::uint64_t, 2> older{};         // writes that raise cells of an older release's page, with other bits than the case has
+  std::array<std::uint64_t, 2> older_strips{};  // of these, pages where some cells have another number mod 3 than in their strips
+  std::array<std::uint64_t, 2> older_runs{};    // runs until spent beside an older release's page
   std::uint64_t several_grounds = 0;
 };
 
@@ -462,17 +508,17 @@ class Judge {
   }
 
   void judge_read(const Code& code, Shape shape, const Bytes& page, const Bytes& data) {
-    const Call call = {kRead, code.name, shape.bytes, shape.strips, kHouse, page, random_bytes(data.size()), 0};
-    judge(call, Outcome{0, page, data});
+    judge_read_into(random_bytes(data.size()), code, shape, page, data);
   }
 
   // Judges a price and a write of the data, and the read after it. Gives back the page after them. Without weights the calls that take them are
-  // judged too, with the house's.
+  // judged too, with the house's. Beside each stands the same page of an older release.
   Bytes judge_write(const Code& code, Shape shape, const Weighing& weighing, const Bytes& page, const Bytes& data) {
     const PageSearch least = search_page(code, shape, weighing.weights, page, data);
     price_and_write(code, shape, weighing, page, data, least);
     if (!weighing.given) price_and_write(code, shape, Weighing{true, kHouse}, page, data, least);
     if (weighing.given) judge_weights(code, shape, weighing.weights, page, data, least);
+    judge_older(code, shape, weighing, page, data, least);
     count_write(code, least);
     if (SEGRUNOV_NUMBER(least.answer) == SEGRUNOV_DONE) {
       if (read_page(code, shape, least.page) != data) give_up("the search itself is wrong: its page does not read as the data");
@@ -582,6 +628,29 @@ class Judge {
     }
   }
 
+  // Two pages from erased, the same data into both until spent; after each write the second is put as an older release would have left it. Answers
+  // and levels are alike, and the first page has the bits that its levels say. There is no search here, so that any shape is quick enough.
+  void judge_run_beside_older(const Code& code, Shape shape, const Weighing& weighing) {
+    const Function write = weighing.given ? kWriteWeighted : kWrite;
+    const Bytes erased(page_length(shape), 0);
+    Bytes page = erased;
+    Bytes older = erased;
+    std::uint64_t answer = 0;
+    while (SEGRUNOV_NUMBER(answer) == SEGRUNOV_DONE) {
+      const Bytes data = random_bytes(data_length(shape));
+      const Call call = {write, code.name, shape.bytes, shape.strips, weighing.weights, page, data, 0};
+      const Outcome got = made(call);
+      const Outcome in_turn = {got.answer, raised_page(shape, erased, got.page), data};
+      if (got.page != in_turn.page) disagree("bits of a page that only the library has written", call, in_turn, got);
+      const Bytes raised = raised_page(shape, older, got.page);
+      judge(Call{write, code.name, shape.bytes, shape.strips, weighing.weights, older, data, 0}, Outcome{got.answer, raised, data});
+      page = got.page;
+      older = older_page(raised);
+      answer = got.answer;
+    }
+    counts_.older_runs[code_index(code)] += SEGRUNOV_NUMBER(answer) == SEGRUNOV_SPENT && older != page ? 1 : 0;
+  }
+
   void count_several_grounds() { ++counts_.several_grounds; }
 
  private:
@@ -602,6 +671,35 @@ class Judge {
     }
   }
 
+  // What the library makes of a call, unjudged.
+  static Outcome made(const Call& call) {
+    Guarded page(call.page, 0);
+    Guarded data(call.data, 0);
+    const std::uint64_t answer = perform(call, page, data);
+    return Outcome{answer, page.inner(), data.inner()};
+  }
+
+  void judge_read_into(const Bytes& buffer, const Code& code, Shape shape, const Bytes& page, const Bytes& data) {
+    judge(Call{kRead, code.name, shape.bytes, shape.strips, kHouse, page, buffer, 0}, Outcome{0, page, data});
+  }
+
+  // The same page of an older release has the same levels in other bits: it reads as the same data, and a write gives the same answer and leaves the
+  // same levels. Nothing is drawn here, so that a seed makes the same cases with and without it: every bit of the reads' buffers is wrong instead.
+  void judge_older(const Code& code, Shape shape, const Weighing& weighing, const Bytes& page, const Bytes& data, const PageSearch& least) {
+    const Bytes older = older_page(page);
+    if (older == page) return;
+    PageSearch beside;
+    beside.answer = least.answer;
+    beside.page = raised_page(shape, older, least.page);
+    const Bytes held = read_page(code, shape, page);
+    judge_read_into(complement(held), code, shape, older, held);
+    price_and_write(code, shape, weighing, older, data, beside);
+    if (SEGRUNOV_NUMBER(least.answer) == SEGRUNOV_DONE) judge_read_into(complement(data), code, shape, beside.page, data);
+    const bool raises = beside.page != older;
+    counts_.older[code_index(code)] += raises ? 1 : 0;
+    counts_.older_strips[code_index(code)] += raises && shape.strips > 1 && shape.bytes % 3 != 0 ? 1 : 0;
+  }
+
   void price_and_write(const Code& code, Shape shape, const Weighing& weighing, const Bytes& page, const Bytes& data, const PageSearch& least) {
     const Function price = weighing.given ? kPriceWeighted : kPrice;
     const Function write = weighing.given ? kWriteWeighted : kWrite;
@@ -612,20 +710,20 @@ class Judge {
   // Beside a write with weights, the library's own without: spent with the same strip, or neither is; and whether the weights decided the page.
   void judge_weights(const Code& code, Shape shape, const Weights& weights, const Bytes& page, const Bytes& data, const PageSearch& least) {
     const Call call = {kWriteWeighted, code.name, shape.bytes, shape.strips, weights, page, data, 0};
-    Bytes plain = page;
-    const std::uint64_t answer = segrunov_write(code.name, shape.bytes, shape.strips, plain.data(), plain.size(), data.data(), data.size());
-    const bool spent = SEGRUNOV_NUMBER(answer) == SEGRUNOV_SPENT;
-    if (spent != (SEGRUNOV_NUMBER(least.answer) == SEGRUNOV_SPENT) || (spent && answer != least.answer)) {
-      disagree("spent depends on the weights", call, Outcome{answer, plain, data}, Outcome{least.answer, least.page, data});
+    const Outcome plain = made(Call{kWrite, code.name, shape.bytes, shape.strips, kHouse, page, data, 0});
+    const bool spent = SEGRUNOV_NUMBER(plain.answer) == SEGRUNOV_SPENT;
+    if (spent != (SEGRUNOV_NUMBER(least.answer) == SEGRUNOV_SPENT) || (spent && plain.answer != least.answer)) {
+      disagree("spent depends on the weights", call, plain, Outcome{least.answer, least.page, data});
     }
-    counts_.decided[code_index(code)] += plain != least.page ? 1 : 0;
+    counts_.decided[code_index(code)] += plain.page != least.page ? 1 : 0;
   }
 
   void count_write(const Code& code, const PageSearch& least) {
     const std::size_t i = code_index(code);
     ++(SEGRUNOV_NUMBER(least.answer) == SEGRUNOV_DONE ? counts_.done : counts_.spent)[i];
     counts_.ties[i] += least.tie ? 1 : 0;
-    counts_.below_one[i] += least.below_one ? 1 : 0;
+    counts_.out_of_order[i] += least.out_of_order ? 1 : 0;
+    counts_.strip_decides[i] += least.strip_decides ? 1 : 0;
     counts_.late_spent[i] += least.late_spent ? 1 : 0;
     counts_.last_spent[i] += least.answer == answer_of(SEGRUNOV_SPENT, kMost - 1) ? 1 : 0;
   }
@@ -636,7 +734,7 @@ class Judge {
 
 // ---------------------------------------------------------------- the cases
 
-// The known cells of document 01 hold the search itself to the paper before it judges anything.
+// The known cells of document 01, with the bytes that document 02 has for 01, hold the search itself to the papers before it judges anything.
 void check_known_cells() {
   struct Known {
     std::size_t code;
@@ -650,7 +748,7 @@ void check_known_cells() {
   const Bytes half = {0, 0, 0, 0, 0, 0, 255, 255, 255, 255, 255, 255};
   const std::vector<Known> table = {
       {0, erased, {0x00}, 0, erased},
-      {0, erased, {0x01}, 48, {0x41, 0x02, 0, 0, 0, 0}},
+      {0, erased, {0x01}, 48, {0x01, 0x03, 0, 0, 0, 0}},
       {0, erased, {0x40}, 16, {0, 0, 0, 0, 0x10, 0}},
       {0, erased, {0x80}, 16, {0, 0, 0, 0, 0, 0x20}},
       {1, erased, {0x80}, 16, {0, 0, 0, 0, 0, 0x20}},
@@ -927,6 +1025,18 @@ void erases(Judge& judge, unsigned rounds) {
   progress(judge, "erases");
 }
 
+// Shapes whose strip 1 begins with a cell of number 1 or 2 mod 3 in the page, the largest, and any.
+void older_runs(Judge& judge, unsigned rounds) {
+  for (const Code& code : kCodes) {
+    for (const Shape shape : {Shape{1, 2}, Shape{2, 3}, Shape{64, 64}}) judge.judge_run_beside_older(code, shape, kPlain);
+    for (unsigned round = 0; round < rounds; ++round) {
+      judge.judge_run_beside_older(code, any_shape(judge), kPlain);
+      judge.judge_run_beside_older(code, any_shape(judge), judge.random_weighted());
+    }
+  }
+  progress(judge, "older pages until spent");
+}
+
 // ---------------------------------------------------------------- the verdict
 
 // Prints a count; false if the kind was never met.
@@ -958,11 +1068,15 @@ bool every_kind_met(const Counts& counts) {
   all = met_for_both_codes("writes done", counts.done) && all;
   all = met_for_both_codes("writes spent", counts.spent) && all;
   all = met_for_both_codes("writes with a tie", counts.ties) && all;
-  all = met_for_both_codes("raises of cells out of order", counts.below_one) && all;
+  all = met_for_both_codes("raises of cells out of order", counts.out_of_order) && all;
+  all = met_for_both_codes("raises that the strip decides", counts.strip_decides) && all;
   all = met_for_both_codes("spent after a changed strip", counts.late_spent) && all;
   all = met_for_both_codes("spent in strip 63", counts.last_spent) && all;
   all = met_for_both_codes("writes of what is held", counts.kept) && all;
   all = met_for_both_codes("pages that the weights decide", counts.decided) && all;
+  all = met_for_both_codes("older pages", counts.older) && all;
+  all = met_for_both_codes("older pages of several strips", counts.older_strips) && all;
+  all = met_for_both_codes("older pages until spent", counts.older_runs) && all;
   for (unsigned f = 0; f < kFunctions; ++f) {
     for (const std::uint32_t number : refusals_of(static_cast<Function>(f))) {
       const std::string kind = "refused by " + std::to_string(number);
@@ -983,6 +1097,7 @@ int compare(std::uint64_t seed, unsigned factor) {
   runs(judge, 50 * factor);
   refusals(judge, 20000 * factor);
   erases(judge, 2000 * factor);
+  older_runs(judge, 5 * factor);
   const bool complete = every_kind_met(judge.counts());
   if (!complete) give_up("a kind was never met");
   if (judge.calls() < 20000) give_up("fewer than 20000 calls");
