@@ -136,12 +136,14 @@ static void new_data(void)
     }
 }
 
-/* Puts a cell at a level, its ones first, as the library leaves it. */
+/* Puts a cell at a level as the library leaves it: its ones go round from the bit of its number in its strip mod 3. */
 static void set_cell(size_t cell, uint32_t level)
 {
-    for (size_t k = 3 * cell; k < 3 * cell + 3; k++) {
+    const size_t start = cell % ((size_t)16 * job.bytes);
+    for (size_t i = 0; i < 3; i++) {
+        const size_t k = 3 * cell + (start + i) % 3;
         const unsigned bit = 1U << (k % 8);
-        job.page[k / 8] = (uint8_t)(k < 3 * cell + level ? job.page[k / 8] | bit : job.page[k / 8] & ~bit);
+        job.page[k / 8] = (uint8_t)(i < level ? job.page[k / 8] | bit : job.page[k / 8] & ~bit);
     }
 }
 

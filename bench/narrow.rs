@@ -124,9 +124,8 @@ fn carry(taps: Taps, strip: &mut [u8], labels: &[u8], digits: &[u8]) {
         let b = ((times(taps.second, w) >> 8) & 255) ^ labels[q] as usize;
         before = digits[q] as usize;
         let cells = six(strip, q);
-        let raise = (shown(cells) & 0o1111_1111_1111_1111) ^ (SPREAD[a] + 8 * SPREAD[b]);
-        let raised = cells | (cells + raise);
-        strip[6 * q..6 * q + 6].copy_from_slice(&raised.to_le_bytes()[..6]);
+        let raise = (shown(cells) & LOWS) ^ (SPREAD[a] + 8 * SPREAD[b]);
+        strip[6 * q..6 * q + 6].copy_from_slice(&raised(cells, raise, q).to_le_bytes()[..6]);
     }
 }
 

@@ -28,9 +28,9 @@ fn level(strip: &[u8], cell: usize) -> usize {
     bit(strip, 3 * cell) + bit(strip, 3 * cell + 1) + bit(strip, 3 * cell + 2)
 }
 
-/// Turns the lowest zero bit of a cell into a one.
+/// Turns a zero bit of a cell into a one: the first, going round from the bit of the cell's number in its strip mod 3.
 fn raise(strip: &mut [u8], cell: usize) {
-    if let Some(k) = (3 * cell..3 * cell + 3).find(|&k| bit(strip, k) == 0) {
+    if let Some(k) = (cell..cell + 3).map(|i| 3 * cell + i % 3).find(|&k| bit(strip, k) == 0) {
         strip[k / 8] |= 1 << (k % 8);
     }
 }

@@ -179,10 +179,9 @@ macro_rules! program {
                     let b = ((times(TAPS.second, w) >> 8) & 255) ^ labels[q] as usize;
                     before = digits[q] as usize;
                     let cells = six(strip, q);
-                    let shown = (cells ^ (cells >> 1) ^ (cells >> 2)) & 0o1111_1111_1111_1111;
+                    let shown = (cells ^ (cells >> 1) ^ (cells >> 2)) & LOWS;
                     let raise = shown ^ (SPREAD[a] + 8 * SPREAD[b]);
-                    let raised = cells | (cells + raise);
-                    strip[6 * q..6 * q + 6].copy_from_slice(&raised.to_le_bytes()[..6]);
+                    strip[6 * q..6 * q + 6].copy_from_slice(&raised(cells, raise, q).to_le_bytes()[..6]);
                 }
             }
 

@@ -1,4 +1,4 @@
-//! What the two programs for the vector unit share: the codes, the levels of cells, products of bits.
+//! What the two programs for the vector unit share: the codes, the levels of cells, products of bits, raises.
 
 /// The most bytes of a strip's data, and the most strips.
 pub const MOST: usize = 64;
@@ -83,6 +83,37 @@ pub fn six(strip: &[u8], q: usize) -> u64 {
     let mut w = [0; 8];
     w[..6].copy_from_slice(&strip[6 * q..6 * q + 6]);
     u64::from_le_bytes(w)
+}
+
+/// The lowest bit of each of sixteen cells.
+pub const LOWS: u64 = 0o1111_1111_1111_1111;
+
+/// The bit at which a raise starts in each of sixteen cells, by the number of the first in its strip mod 3.
+static STARTS: [u64; 3] = {
+    let mut table = [0; 3];
+    let mut k = 0;
+    while k < 48 {
+        let (s, j) = (k / 16, k % 16);
+        table[s] |= 1 << (3 * j + (s + j) % 3);
+        k += 1;
+    }
+    table
+};
+
+/// Each mark on the next bit of its cell, going round the three.
+#[inline(always)]
+fn turned(marks: u64) -> u64 {
+    ((marks << 1) & (6 * LOWS)) | ((marks >> 2) & LOWS)
+}
+
+/// Sixteen cells with a step more where `raise` has their lowest bits. They are those from cell 16 q of their strip on, whose number is q mod 3. A mark
+/// that meets a one goes on to the next bit.
+#[inline(always)]
+pub fn raised(cells: u64, raise: u64, q: usize) -> u64 {
+    let first = (7 * raise) & STARTS[q % 3];
+    let second = turned(cells & first);
+    let third = turned(cells & second);
+    cells | first | second | third
 }
 
 /// The answer of a page that is spent at a strip.

@@ -271,7 +271,7 @@ static QUARTERS: Aligned<[[u8; 64]; 32]> = Aligned({
 fn full(strip: &[u8]) -> bool {
     (0..strip.len() / 6).any(|q| {
         let cells = six(strip, q);
-        cells & (cells >> 1) & (cells >> 2) & 0o1111_1111_1111_1111 != 0
+        cells & (cells >> 1) & (cells >> 2) & LOWS != 0
     })
 }
 
