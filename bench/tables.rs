@@ -88,7 +88,7 @@ pub fn six(strip: &[u8], q: usize) -> u64 {
 /// The lowest bit of each of sixteen cells.
 pub const LOWS: u64 = 0o1111_1111_1111_1111;
 
-/// The bit at which a raise starts in each of sixteen cells, by the number of the first in its strip mod 3.
+/// The bit at which a raise starts in each of sixteen cells, by the first one's number in its strip mod 3.
 static STARTS: [u64; 3] = {
     let mut table = [0; 3];
     let mut k = 0;
@@ -106,8 +106,8 @@ fn turned(marks: u64) -> u64 {
     ((marks << 1) & (6 * LOWS)) | ((marks >> 2) & LOWS)
 }
 
-/// Sixteen cells with a step more where `raise` has their lowest bits. They are those from cell 16 q of their strip on, whose number is q mod 3. A mark
-/// that meets a one goes on to the next bit.
+/// The sixteen cells from cell 16 q of a strip on, each raised whose lowest bit is in `raise`. A mark that meets a one goes on to the next bit; the
+/// first cell's starts at bit q mod 3, since 15 q is a multiple of 3.
 #[inline(always)]
 pub fn raised(cells: u64, raise: u64, q: usize) -> u64 {
     let first = (7 * raise) & STARTS[q % 3];
