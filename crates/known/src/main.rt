@@ -287,6 +287,7 @@ fn show_calls() {
     show_erase(b"erase at 401", 401);
     show_erase(b"erase at -1", -1);
     show_erase(b"erase at -32768", -32768);
+    show_census(1, 1, &[0x01, 0x03, 0, 0, 0, 0]);
     show_census(1, 1, &[0x41, 0x02, 0, 0, 0, 0]);
     show_census(1, 1, &[0xff, 0xff, 0xff, 0xff, 0xff, 0xff]);
     show_shapes();
@@ -297,6 +298,7 @@ fn main() {
     show_reading(Code::short(), b"code 3 ", [0, 0, 0, 0, 0, 0]);
     show_reading(Code::short(), b"code 3 ", [1, 0, 0, 0, 0, 0]);
     show_reading(Code::short(), b"code 3 ", [8, 0, 0, 0, 0, 0]);
+    show_reading(Code::short(), b"code 3 ", [0x01, 0x03, 0, 0, 0, 0]);
     show_reading(Code::short(), b"code 3 ", [0x41, 0x02, 0, 0, 0, 0]);
     show_reading(
         Code::short(),
@@ -310,6 +312,9 @@ fn main() {
         b"code 7 ",
         [0xff, 0xff, 0xff, 0xff, 0xff, 0xff],
     );
+    show_raise([0, 0, 0, 0, 0, 0], 0);
+    show_raise([0, 0, 0, 0, 0, 0], 1);
+    show_raise([0, 0, 0, 0, 0, 0], 3);
     let once = show_raise([0, 0, 0, 0, 0, 0], 2);
     let twice = show_raise(once, 2);
     let thrice = show_raise(twice, 2);

@@ -41,11 +41,11 @@ first : writes (six 0) (128 ∷ []) 16 (six 32)
 unfolding writes six v
 first = each-first (from-6 cases-hold)
 
-second : writes (six 32) (0 ∷ []) 16 (six 36)
+second : writes (six 32) (0 ∷ []) 16 (six 48)
 unfolding writes six v
 second = each-first (each-rest (from-6 cases-hold))
 
-third : writes (six 36) (128 ∷ []) 20 (six 100)
+third : writes (six 48) (128 ∷ []) 20 (six 112)
 unfolding writes six v
 third = each-first (each-rest (each-rest (from-6 cases-hold)))
 
@@ -69,7 +69,7 @@ listed = refl
 row : ℕ → ℕ → ℕ → List ℕ
 row n cost last = rowAfter n v (A.Done cost) (six last)
 
-printed : headText ++ (row 1 16 32 ++ (row 2 16 36 ++ (row 3 20 100 ++ []))) ≡ exampleOutput
+printed : headText ++ (row 1 16 32 ++ (row 2 16 48 ++ (row 3 20 112 ++ []))) ≡ exampleOutput
 unfolding rowAfter rowText decimal onto raisesOf sumOf level bitOf sizeOf sizesGround limitsGround isCode codeGround bytesGround
     stripsGround oneTo64 headText exampleOutput six v row cellCount stageCount
 printed = refl
