@@ -1,9 +1,10 @@
 -- The two tests are those of the definition, of the bits from `start` on.
 use mathlib.Core.Path.{_≡_, sym, _∙_}
 use mathlib.Core.List.{List}
-use Prim.Native.Nat.{ℕ, _+_, _%_}
+use Prim.Native.Nat.{ℕ, _+_, _*_, _%_, _<_}
 use native.Mathlib.Omega.{arith}
 use lib.ListN.{getD}
+use Rattle.cells.specs.Bytes.{bitOf}
 use Rattle.cells.specs.Raising.{triple}
 use Rattle.cells.proofs.Raising.{triple-bit, zeroFrom-first, zeroFrom-second, zeroFrom-third}
 use borrow.Author.Needs.{needs}
@@ -14,22 +15,20 @@ use Rattle.cells.proofs.zero_from.Tie as tie
 abbrev bits : tie.Start → List ℕ
 bits c = triple (c .args .bytes .now) (c .args .cell)
 
+-- a bit of the cell by what `bit` answered
+told : (bytes : List ℕ) (cell i : ℕ) → i < 3 → {r : ℕ} → r ≡ bitOf bytes (3 * cell + i) → getD (triple bytes cell) i 0 ≡ r
+told bytes cell i h e = triple-bit bytes cell i h ∙ sym e
+
 -- what the first test reads
 first : (c : tie.After-bit) → getD (bits (c .before .before)) (c .before .before .args .start % 3) 0 ≡ c .bit .result
 first c =
     let a = c .before .before .args in
     let m : a .start % 3 ≡ a .start = omega arith in
-    rw m (triple-bit (a .bytes .now) (a .cell) (a .start) (omega arith) ∙ sym (c .bit .ensures))
+    rw m (told (a .bytes .now) (a .cell) (a .start) (omega arith) (c .bit .ensures))
 
 -- where it fails, that bit is a one
 not-first : (c : tie.Else1) → let s = c .before .before .before in getD (bits s) (s .args .start % 3) 0 ≡ 0 → ⊥
 not-first c e = c .if1 .left (sym (first (c .before)) ∙ e)
-
--- what the second test reads
-second : (c : tie.After-bit2) → let s = c .before .before .before .before in getD (bits s) ((s .args .start + 1) % 3) 0 ≡ c .bit2 .result
-second c =
-    let a = c .before .before .before .before .args in
-    triple-bit (a .bytes .now) (a .cell) ((a .start + 1) % 3) (omega arith) ∙ sym (c .bit2 .ensures)
 
 mul-k : tie.Need-mul-k
 mul-k c = search needs
@@ -63,7 +62,9 @@ add-result-2 c = search needs
 returns-2 : tie.Need-returns-2
 returns-2 c =
     let s = c .before .before .before .before .before in
-    omega (arith, zeroFrom-second (s .args .start) (bits s) (not-first (c .before .before)) (second (c .before) ∙ c .if2 .taken))
+    let a = s .args in
+    let second = told (a .bytes .now) (a .cell) ((a .start + 1) % 3) (omega arith) (c .before .bit2 .ensures) in
+    omega (arith, zeroFrom-second (a .start) (bits s) (not-first (c .before .before)) (second ∙ c .if2 .taken))
 
 add-result-3 : tie.Need-add-result-3
 add-result-3 c = search needs
@@ -74,8 +75,9 @@ add-result-4 c = search needs
 returns-3 : tie.Need-returns-3
 returns-3 c =
     let s = c .before .before .before .before .before in
-    let n = not-first (c .before .before) in
-    omega (arith, zeroFrom-third (s .args .start) (bits s) n (λ e. c .if2 .left (sym (second (c .before)) ∙ e)))
+    let a = s .args in
+    let second = told (a .bytes .now) (a .cell) ((a .start + 1) % 3) (omega arith) (c .before .bit2 .ensures) in
+    omega (arith, zeroFrom-third (a .start) (bits s) (not-first (c .before .before)) (λ e. c .if2 .left (sym second ∙ e)))
 
 pub zero-from-spec : {M : Type 1} → statement M
 zero-from-spec =

@@ -1,9 +1,9 @@
 -- `shown_bits` meets its contract by the law of a block so made. Its raises are 48 bits, so seven times them fit the word.
-use Prim.Native.Nat.{_<_, _^_}
 use native.Mathlib.Omega.{arith}
-use lib.Bits.{bitAnd, and-le-l}
+use native.Mathlib.Nat.{lt-of-le-of-lt}
+use lib.Bits.{and-le-l}
 use borrow.Author.Needs.{needs}
-use Rattle.trellis.proofs.Shown.{firstMarks, raises-less, shown-cells}
+use Rattle.trellis.proofs.Shown.{raises-less, shown-cells}
 use Rattle.trellis.proofs.carrying.shown_bits.Statement.{statement}
 use Rattle.trellis.proofs.carrying.shown_bits.Tie as tie
 
@@ -17,12 +17,10 @@ array-read-first : tie.Need-array-read-first
 array-read-first c = search needs
 
 onward-requires : tie.Need-onward-requires
-onward-requires c κs =
-    let a = c .args in
-    omega (arith, and-le-l (a .bits) (firstMarks (a .q) (a .bits) (a .wanted)), c .pre .0)
+onward-requires c κs = lt-of-le-of-lt (and-le-l (c .args .bits) _) (c .pre .0)
 
 onward-requires-2 : tie.Need-onward-requires-2
-onward-requires-2 c κs = omega (arith, and-le-l (c .before .args .bits) (c .onward .result), c .before .pre .0)
+onward-requires-2 c κs = lt-of-le-of-lt (and-le-l (c .before .args .bits) _) (c .before .pre .0)
 
 returns : tie.Need-returns
 returns c =
