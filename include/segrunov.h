@@ -24,6 +24,12 @@
  * The grounds that a call has are tested in the order 1, 2, 3, 9, 4, 5, 7, 8, and the first that applies is the answer. With any refusal no byte is
  * changed: not the page, not the data, not the buffer, also not the strips before a spent one.
  *
+ * WHICH BITS. Bit k of a strip is bit k mod 8 of its byte k div 8, bit 0 being worth 1, and its cell c is the bits 3*c, 3*c+1 and 3*c+2. A raise of the
+ * cell turns one zero into a one: it starts at bit c mod 3 of these three, c being the cell's number in its strip, and goes round them until it meets a
+ * zero, so that neighbouring bits wear evenly. A cell that isn't raised keeps its bits. Versions before 1.1.1 took the lowest zero of every cell. What a
+ * page reads as, what a write costs, which levels it leaves and whether it is spent go by the levels alone: a page written by an older version needs
+ * nothing, and an older version reads and writes the pages of this one.
+ *
  * THE FLASH. An erased page is zeros here, and a write turns zeros into ones. Nearly every NOR part has it the other way: an erase makes ones, and
  * programming turns ones into zeros. Its driver complements every byte, on load and on program (examples/relay.c); the calls need not know. No bit has
  * to go back before the next erase, but words are programmed again: a part that takes a word once only, as with error correction over each word, does
@@ -43,7 +49,7 @@ extern "C" {
 #endif
 
 /* The version: its first number changes where a caller has to change, its second where there is more to call, else its third. */
-#define SEGRUNOV_VERSION "1.1.0"
+#define SEGRUNOV_VERSION "1.1.1"
 
 /* The two codes. */
 #define SEGRUNOV_SHORT UINT32_C(3)

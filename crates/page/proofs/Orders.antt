@@ -5,14 +5,14 @@
 --   older-write           a write of the releases before K7 and one of this release
 --   census-alike          the census
 --   releases-alike        any sequence of calls, by any releases
+--   releases-read         what the pages after it read as
 --   older-reads           so a page that the releases before K7 wrote reads as one of this release, and the other way round
 use mathlib.Core.Path.{_≡_, refl, sym, _∙_, ap, ap₂, fun-ext}
 use mathlib.Core.Bool.{cond}
 use mathlib.Core.List.{List, [], _∷_, _++_}
 use mathlib.Core.Option.{Option, none, some}
-use Prim.Native.Nat.{ℕ, suc, _<_, _+_, _*_}
+use Prim.Native.Nat.{ℕ, suc, _+_, _*_}
 use native.Mathlib.Omega.{arith}
-use lib.IntN.{ℤ}
 use lib.Dec.{ltb}
 use lib.ListN.{length, replicate}
 use Rattle.cells.specs.Places.{listOf}
@@ -108,10 +108,14 @@ releases-alike starts starts′ (c ∷ cs) s =
     let w = releases-alike (λ n. starts (suc n)) (λ n. starts′ (suc n)) cs (z .1) in
     (ap₂ _++_ (z .0) (w .0), w .1)
 
--- SO PAGES OF OLDER RELEASES READ AS THEY DID, and older releases read newer pages: from an erased page, over any sequence of calls, what
--- the releases before K7 leave reads as what this one leaves
-pub older-reads : (G : Generators) (L S size : ℕ) (cs : List Call)
-    → readPage G L S (played (λ n. olderStart) cs (replicate size 0)) ≡ readPage G L S (played (λ n. startOf) cs (replicate size 0))
+-- READING after any such sequence
+pub releases-read : (G : Generators) (L S : ℕ) (starts starts′ : ℕ → ℕ → ℕ) (cs : List Call) {p q : List ℕ} → SameLevels p q
+    → readPage G L S (played starts cs p) ≡ readPage G L S (played starts′ cs q)
 unfolding readPage
-older-reads G L S size cs =
-    read-levels oneBit G L S (releases-alike (λ n. olderStart) (λ n. startOf) cs (same-self {x = replicate size 0}) .1)
+releases-read G L S starts starts′ cs s = read-levels oneBit G L S (releases-alike starts starts′ cs s .1)
+
+-- SO PAGES OF OLDER RELEASES READ AS THEY DID, and older releases read newer pages: what any calls of the releases before K7 leave of a page
+-- reads as what the same calls of this release leave of it
+pub older-reads : (G : Generators) (L S : ℕ) (cs : List Call) (page : List ℕ)
+    → readPage G L S (played (λ n. olderStart) cs page) ≡ readPage G L S (played (λ n. startOf) cs page)
+older-reads G L S cs page = releases-read G L S (λ n. olderStart) (λ n. startOf) cs same-self
