@@ -3,7 +3,7 @@
 --   level-same      the same three bits, the same level
 --   raisesOf-more   the levels of one cell more, added up
 --   level-past      past the end a level is 0
---   same-level      pages with the same levels: each level, also past the end; both ways round (same-sym); a page and itself (same-self)
+--   levels-at       pages with the same levels: each level, also past the end; both ways round (levels-sym); a page and itself (levels-self)
 --   three-bits      three bits in a row are the ones of three digits of two bytes
 use mathlib.Core.Path.{_≡_, refl, sym, _∙_, ap}
 use mathlib.Core.Bool.{Bool, true, false}
@@ -54,8 +54,8 @@ level-past bytes c h =
     omega (arith, bit-past bytes (3 * c) h, bit-past bytes (3 * c + 1) (omega arith), bit-past bytes (3 * c + 2) (omega arith))
 
 -- so pages with the same levels have each level in common
-pub same-level : {x y : List ℕ} → SameLevels x y → (c : ℕ) → level x c ≡ level y c
-same-level {x} {y} s c = go (ltb (3 * c) (8 * length x)) refl
+pub levels-at : {x y : List ℕ} → SameLevels x y → (c : ℕ) → level x c ≡ level y c
+levels-at {x} {y} s c = go (ltb (3 * c) (8 * length x)) refl
   where
     go : (b : Bool) → ltb (3 * c) (8 * length x) ≡ b → level x c ≡ level y c
     go true e = s .same c (ltb-true _ _ e)
@@ -64,12 +64,12 @@ same-level {x} {y} s c = go (ltb (3 * c) (8 * length x)) refl
         level-past x c h ∙ sym (level-past y c (omega (arith, s .size)))
 
 -- both ways round
-pub same-sym : {x y : List ℕ} → SameLevels x y → SameLevels y x
-same-sym s = record { size = sym (s .size); same = λ c h. sym (same-level s c) }
+pub levels-sym : {x y : List ℕ} → SameLevels x y → SameLevels y x
+levels-sym s = record { size = sym (s .size); same = λ c h. sym (levels-at s c) }
 
 -- a page and itself
-pub same-self : {x : List ℕ} → SameLevels x x
-same-self = record { size = refl; same = λ c h. refl }
+pub levels-self : {x : List ℕ} → SameLevels x x
+levels-self = record { size = refl; same = λ c h. refl }
 
 -- TWO BYTES. The ones of a number of three digits
 ones3 : (t : ℕ) → t < 8 → ones t ≡ t % 2 + (t / 2) % 2 + (t / 4) % 2

@@ -6,18 +6,17 @@
 --   could-levels      which pages could be
 --   cheapest-levels   the cost and the levels of the cheapest page
 --   spent-levels      the strip at which a page is spent
-use mathlib.Core.Path.{_≡_, refl, sym, _∙_, ap, ap₂, fun-ext}
+use mathlib.Core.Path.{_≡_, sym, _∙_, ap, fun-ext}
 use mathlib.Core.Logic.{⊎-elim}
-use mathlib.Core.Bool.{Bool, true, false}
 use mathlib.Core.List.{List}
-use Prim.Native.Nat.{ℕ, _<_, _≤_, _+_, _*_, _/_, _%_}
+use Prim.Native.Nat.{ℕ, _<_, _+_, _*_, _/_, _%_}
 use native.Mathlib.Omega.{arith, ne-cases}
 use lib.ListN.{length}
 use Rattle.cells.specs.Bytes.{bytesOf}
 use Rattle.cells.specs.Levels.{level, SameLevels}
 use Rattle.cells.specs.Climbs.{climb, costOf, weightOf}
 use Rattle.cells.proofs.Places.{same?, sumOf-same}
-use Rattle.cells.proofs.Levels.{same-level, same-sym, same-self}
+use Rattle.cells.proofs.Levels.{levels-at, levels-sym, levels-self}
 use Rattle.codes.specs.Generators.{Generators}
 use Rattle.codes.specs.Layouts.{Layout, cellCount, byteCount}
 use Rattle.codes.specs.Reading.{dataBit}
@@ -33,7 +32,7 @@ unfolding readBy stripLevels
 read-levels lay G L S s =
     ap
     (λ (v : ℕ → ℕ). bytesOf (L * S) (λ n. dataBit lay G (λ c. v (cellCount lay L * (n / (8 * L)) + c)) (n % (8 * L))))
-    (fun-ext (same-level s))
+    (fun-ext (levels-at s))
 
 -- A JOB with another page
 abbrev pub onPage : List ℕ → Job → Job
@@ -65,15 +64,15 @@ module _ (J : Job) {p q : List ℕ} (s : SameLevels p q) where
   could-levels t c = record {
     size = sym (t .size) ∙ c .size ∙ s .size;
     reads = sym (read-levels (J .layout) (J .code) (J .bytes) (J .strips) t) ∙ c .reads;
-    no-lower = λ i h. omega (arith, c .no-lower i h, same-level s i, same-level t i);
-    marked-stay = λ i h m. sym (same-level t i) ∙ c .marked-stay i h m ∙ same-level s i;
+    no-lower = λ i h. omega (arith, c .no-lower i h, levels-at s i, levels-at t i);
+    marked-stay = λ i h m. sym (levels-at t i) ∙ c .marked-stay i h m ∙ levels-at s i;
   }
 
   -- what a change costs
   cost-levels : (x : List ℕ) → jobCost (onPage p J) x ≡ jobCost (onPage q J) x
   unfolding jobCost costOf
   cost-levels x =
-      sumOf-same (pageCells J) _ _ (λ c h. ap (λ (l : ℕ). climb (weightOf (J .weights)) l (level x c)) (same-level s c))
+      sumOf-same (pageCells J) _ _ (λ c h. ap (λ (l : ℕ). climb (weightOf (J .weights)) l (level x c)) (levels-at s c))
 
 module _ (J : Job) {p q : List ℕ} (s : SameLevels p q) (I : InOrder (onPage p J)) where
   -- THE CHEAPEST PAGE, in whatever order each of the two was raised: one cost, and the same levels
@@ -89,10 +88,10 @@ module _ (J : Job) {p q : List ℕ} (s : SameLevels p q) (I : InOrder (onPage p 
     where
       -- either page could be the other's
       x-could : Could (onPage q J) x
-      x-could = could-levels J s same-self (c .could)
+      x-could = could-levels J s levels-self (c .could)
 
       y-could : Could (onPage p J) y
-      y-could = could-levels J (same-sym s) same-self (d .could)
+      y-could = could-levels J (levels-sym s) levels-self (d .could)
 
       -- so neither costs more
       one-cost : a ≡ b
@@ -108,27 +107,32 @@ module _ (J : Job) {p q : List ℕ} (s : SameLevels p q) (I : InOrder (onPage p 
       second : (i : ℕ) → 3 * i < 8 * length x → (level x i ≡ level y i → ⊥) → LowerAtFirst (pageCells J) y x
       second i h n = d .among-equals x x-could (sym (cost-levels J s x) ∙ c .paid ∙ one-cost) i (cell i h) (λ e. n (sym e))
 
+  -- the bytes of a strip
+  abbrev size : ℕ
+  size = byteCount (J .layout) (J .bytes)
+
   -- the parts of strip k
-  part-levels : (k : ℕ) → k < J .strips → SameLevels (part (byteCount (J .layout) (J .bytes)) k p) (part (byteCount (J .layout) (J .bytes)) k q)
+  part-levels : (k : ℕ) → k < J .strips → SameLevels (part size k p) (part size k q)
   part-levels k h = record {
-    size = long ∙ sym (part-length _ (J .strips) k q (sym (s .size) ∙ I .page-is) h);
-    same = λ c l. let i : c < width J = omega (arith, long, I .whole .cells-fill) in in-part p c i ∙ same-level s _ ∙ sym (in-part q c i);
+    size = long ∙ sym (part-length size (J .strips) k q (sym (s .size) ∙ I .page-is) h);
+    same = λ c l. let i : c < width J = omega (arith, long, I .whole .cells-fill) in in-part p c i ∙ levels-at s _ ∙ sym (in-part q c i);
   }
     where
-      long : length (part (byteCount (J .layout) (J .bytes)) k p) ≡ byteCount (J .layout) (J .bytes)
-      long = part-length _ (J .strips) k p (I .page-is) h
+      long : length (part size k p) ≡ size
+      long = part-length size (J .strips) k p (I .page-is) h
 
-      in-part : (page : List ℕ) (c : ℕ) → c < width J → level (part (byteCount (J .layout) (J .bytes)) k page) c ≡ level page (width J * k + c)
-      in-part page c i = part-level (width J) _ (I .whole .cells-fill) k page c i
+      in-part : (page : List ℕ) (c : ℕ) → c < width J → level (part size k page) c ≡ level page (width J * k + c)
+      in-part page c i = part-level (width J) size (I .whole .cells-fill) k page c i
 
   -- THE STRIP at which a page is spent
   pub spent-levels : {k : ℕ} → SpentAt (onPage p J) k → SpentAt (onPage q J) k
   unfolding stripJob
   spent-levels {k} a = record {
     inside = a .inside;
-    no-page = λ other c. a .no-page other (could-levels J (same-sym s) same-self c);
-    no-pattern = λ other c. a .no-pattern other (could-levels (stripJob J k) (same-sym (part-levels k (a .inside))) same-self c);
+    no-page = λ other c. a .no-page other (could-levels J (levels-sym s) levels-self c);
+    no-pattern = λ other c. a .no-pattern other (could-levels (stripJob J k) (levels-sym (part-levels k (a .inside))) levels-self c);
     lowest = λ j h.
         let f = a .lowest j h in
-        record { pattern = f .pattern; could = could-levels (stripJob J j) (part-levels j (omega (arith, a .inside))) same-self (f .could) };
+        let t = part-levels j (omega (arith, a .inside)) in
+        record { pattern = f .pattern; could = could-levels (stripJob J j) t levels-self (f .could) };
   }

@@ -66,7 +66,8 @@ module _ (W : List ℕ) (K : Weights W) (code L S : ℕ) (before content : List 
     where
       go : (g : Option Refusal) → writeGround W code L S (length before) (length content) ≡ g → (w : Option Solution)
           → pageWrite (jobOf W code L S before content) ≡ w
-          → level (callPage g w (λ a. raisedTo (startIn startOf (cellCount oneBit L)) before (levelAt (a .levels))) before) c ≤ suc (level before c)
+          → level (callPage g w (λ a. raisedTo (startIn startOf (cellCount oneBit L)) before (levelAt (a .levels))) before) c
+          ≤ suc (level before c)
       go (some r) e w f = omega arith
       go none e none f = omega arith
       go none e (some a) f =

@@ -93,9 +93,11 @@ ledger-from starts (c ∷ cs) page n e =
     let v = eventOf (starts 0) c page in
     let z : 0 + n ≡ n = omega arith in
     let y : 0 + counted v page n ≡ counted v page n = omega arith in
-    ledger-from (λ n. starts (suc n)) cs (pageAfter v page) (counted v page n) (counts 0 n page (call-fair (starts 0) c page) (e ∙ sym z) ∙ y)
+    ledger-from (λ n. starts (suc n)) cs (pageAfter v page) (counted v page n)
+    (counts 0 n page (call-fair (starts 0) c page) (e ∙ sym z) ∙ y)
 
 -- from an erased page of any length
 pub ledger : (starts : ℕ → ℕ → ℕ) (size : ℕ) (cs : List Call)
-    → raisesOf (cellsOn (played starts cs (replicate size 0))) (played starts cs (replicate size 0)) ≡ tallied starts cs (replicate size 0) 0
+    → raisesOf (cellsOn (played starts cs (replicate size 0))) (played starts cs (replicate size 0))
+    ≡ tallied starts cs (replicate size 0) 0
 ledger starts size cs = ledger-from starts cs (replicate size 0) 0 (erased-raises size _)

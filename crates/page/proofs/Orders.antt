@@ -7,49 +7,48 @@
 --   releases-alike        any sequence of calls, by any releases
 --   releases-read         what the pages after it read as
 --   older-reads           so a page that the releases before K7 wrote reads as one of this release, and the other way round
-use mathlib.Core.Path.{_≡_, refl, sym, _∙_, ap, ap₂, fun-ext}
+use mathlib.Core.Path.{_≡_, refl, sym, ap, ap₂, fun-ext}
 use mathlib.Core.Bool.{cond}
 use mathlib.Core.List.{List, [], _∷_, _++_}
 use mathlib.Core.Option.{Option, none, some}
 use Prim.Native.Nat.{ℕ, suc, _+_, _*_}
-use native.Mathlib.Omega.{arith}
 use lib.Dec.{ltb}
 use lib.ListN.{length, replicate}
 use Rattle.cells.specs.Places.{listOf}
 use Rattle.cells.specs.Bytes.{Octets}
-use Rattle.cells.specs.Levels.{level, SameLevels}
+use Rattle.cells.specs.Levels.{SameLevels}
 use Rattle.cells.specs.Raising.{startOf, olderStart}
-use Rattle.cells.proofs.Levels.{same-level, same-sym, same-self}
+use Rattle.cells.proofs.Levels.{levels-at, levels-sym, levels-self}
 use Rattle.codes.specs.Generators.{Generators}
 use Rattle.codes.specs.Layouts.{oneBit, cellCount}
 use Rattle.demand.specs.Jobs.{Job, InOrder}
 use Rattle.demand.specs.Reading.{stripLevels}
 use Rattle.demand.proofs.Weights.{spent-once}
 use Rattle.demand.proofs.Orders.{read-levels, onPage, could-levels, cheapest-levels, spent-levels}
-use Rattle.refusals.specs.Refusals.{writeGround, shapeGround, eraseGround, completionOf}
+use Rattle.refusals.specs.Refusals.{writeGround, shapeGround, completionOf}
 use Rattle.page.specs.Reading.{readPage}
 use Rattle.page.specs.Answers.{kept, jobOf, answerOf, pageBy, pageOf}
 use Rattle.page.specs.Promise.{Promised, done, spent, refused}
 use Rattle.page.specs.Counting.{rowOf, zeroRow, rowAt, rowsOf, censusOf}
-use Rattle.page.specs.Ledger.{Event, raised, erased, looked, pageAfter, Call, write, erase, look, erasing, eventOf, answerTo, played, answered}
+use Rattle.page.specs.Ledger.{erased, looked, pageAfter, Call, write, erase, look, erasing, eventOf, answerTo, played, answered}
 use Rattle.refusals.specs.declared.Refusal.{Refusal}
 use Rattle.page.specs.declared.Row.{Row}
 use Rattle.page.specs.declared.Answer.{Answer}
 use Rattle.page.specs.declared.Answer.the-variants as A
-use Rattle.page.proofs.Promise.{job-in-order, wrote-by}
+use Rattle.page.proofs.Promise.{job-in-order, wrote-by, one-ground}
 
 -- ONE CALL. On pages with the same levels two calls that keep their promise, each in its own order, answer alike and leave the same levels
 module _ (g : Option Refusal) (J : Job) {p q : List ℕ} (s : SameLevels p q) (I : g ≡ none → InOrder (onPage p J)) where
   pub promised-alike : {start start′ : ℕ → ℕ} {x y : List ℕ} {r t : Answer}
       → Promised start g (onPage p J) x r → Promised start′ g (onPage q J) y t → (r ≡ t) × SameLevels x y
   promised-alike (done e c) (done f d) = let z = cheapest-levels J s (I e) c d in (ap A.Done (z .0), z .1)
-  promised-alike (done e c) (spent f d y) = absurd (d .no-page _ (could-levels J s same-self (c .could)))
-  promised-alike (done e c) (refused {r = r} f y) = let z : none ≡ some r = sym e ∙ f in let w : _≡_ {A = ℕ} 0 1 = cc in absurd (omega arith)
-  promised-alike (spent e c x) (done f d) = absurd (c .no-page _ (could-levels J (same-sym s) same-self (d .could)))
+  promised-alike (done e c) (spent f d y) = absurd (d .no-page _ (could-levels J s levels-self (c .could)))
+  promised-alike (done e c) (refused f y) = absurd (one-ground e f)
+  promised-alike (spent e c x) (done f d) = absurd (c .no-page _ (could-levels J (levels-sym s) levels-self (d .could)))
   promised-alike (spent e c x) (spent f d y) = (ap A.Spent (spent-once (spent-levels J s (I e) c) d), rw (x, y) s)
-  promised-alike (spent e c x) (refused {r = r} f y) = let z : none ≡ some r = sym e ∙ f in let w : _≡_ {A = ℕ} 0 1 = cc in absurd (omega arith)
-  promised-alike (refused {r = r} e x) (done f d) = let z : none ≡ some r = sym f ∙ e in let w : _≡_ {A = ℕ} 0 1 = cc in absurd (omega arith)
-  promised-alike (refused {r = r} e x) (spent f d y) = let z : none ≡ some r = sym f ∙ e in let w : _≡_ {A = ℕ} 0 1 = cc in absurd (omega arith)
+  promised-alike (spent e c x) (refused f y) = absurd (one-ground e f)
+  promised-alike (refused e x) (done f d) = absurd (one-ground f e)
+  promised-alike (refused e x) (spent f d y) = absurd (one-ground f e)
   promised-alike (refused e x) (refused f y) = (cc, rw (x, y) s)
 
 -- TWO WRITES of the same data with any weights, in any two orders, on pages of one length with equal levels
@@ -80,7 +79,7 @@ census-alike L S {x} {y} s =
 
     same-rows : (g : Option Refusal) → rowsOf oneBit g L S x ≡ rowsOf oneBit g L S y
     same-rows none =
-        ap (λ (v : ℕ → ℕ). listOf 64 (λ k. cond (ltb k S) (rowOf n (λ c. v (n * k + c))) zeroRow)) (fun-ext (same-level s))
+        ap (λ (v : ℕ → ℕ). listOf 64 (λ k. cond (ltb k S) (rowOf n (λ c. v (n * k + c))) zeroRow)) (fun-ext (levels-at s))
     same-rows (some r) = refl
 
 -- ANY SEQUENCE OF CALLS. After a call the levels are the same
@@ -94,7 +93,7 @@ call-alike start start′ (erase L S tenths) {p} {q} s = (refl, rw (s .size) (go
   where
     go : (g : Option Refusal) → SameLevels (pageAfter (kept g (erased (replicate (length q) 0)) looked) p)
         (pageAfter (kept g (erased (replicate (length q) 0)) looked) q)
-    go none = same-self
+    go none = levels-self
     go (some r) = s
 call-alike start start′ look s = (refl, s)
 
@@ -114,8 +113,8 @@ pub releases-read : (G : Generators) (L S : ℕ) (starts starts′ : ℕ → ℕ
 unfolding readPage
 releases-read G L S starts starts′ cs s = read-levels oneBit G L S (releases-alike starts starts′ cs s .1)
 
--- SO PAGES OF OLDER RELEASES READ AS THEY DID, and older releases read newer pages: what any calls of the releases before K7 leave of a page
--- reads as what the same calls of this release leave of it
+-- SO PAGES OF OLDER RELEASES READ AS THEY DID, and older releases read newer pages: what any calls of the releases before K7 leave of a
+-- page reads as what the same calls of this release leave of it
 pub older-reads : (G : Generators) (L S : ℕ) (cs : List Call) (page : List ℕ)
     → readPage G L S (played (λ n. olderStart) cs page) ≡ readPage G L S (played (λ n. startOf) cs page)
-older-reads G L S cs page = releases-read G L S (λ n. olderStart) (λ n. startOf) cs same-self
+older-reads G L S cs page = releases-read G L S (λ n. olderStart) (λ n. startOf) cs levels-self

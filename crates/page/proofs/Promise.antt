@@ -4,6 +4,7 @@
 --   job-in-order, dear-by           so the calls' jobs keep it, with any weights, and wherever the raises of a cell start
 --   wrote-by, wrote                 (wrote-by); and the calls of this release do (wrote)
 --   page-length                     a write keeps the page's length
+--   one-ground                      no ground and a ground exclude each other
 --   could-done                      a call with no ground is done where some page could be
 --   done-not-spent, spent-no-page   spent exactly when there is no page
 --   spent-any-weights               and whether it is does not depend on the weights
@@ -122,18 +123,26 @@ page-length W code L S before content =
     go (writeGround W code L S (length before) (length content)) (pageWrite (jobOf W code L S before content))
   where
     go : (g : Option Refusal) (w : Option Solution)
-        → length (callPage g w (λ a. raisedTo (startIn startOf (width (jobOf W code L S before content))) before (levelAt (a .levels))) before)
+        → length (callPage g w
+        (λ a. raisedTo (startIn startOf (width (jobOf W code L S before content))) before (levelAt (a .levels))) before)
         ≡ length before
     go (some r) w = refl
     go none none = refl
     go none (some a) = raisedTo-length _ before (levelAt (a .levels))
+
+-- a call that has no ground has none
+pub one-ground : {g : Option Refusal} {r : Refusal} → g ≡ none → g ≡ some r → ⊥
+one-ground {r = r} e f =
+    let z : none ≡ some r = sym e ∙ f in
+    let y : _≡_ {A = ℕ} 0 1 = cc in
+    omega arith
 
 -- 'A CALL WITH NONE OF THESE GROUNDS IS DONE': no ground from the input, and a page that could be, so that it is not spent
 pub could-done : {start : ℕ → ℕ} {g : Option Refusal} {J : Job} {after : List ℕ} {r : Answer} → Promised start g J after r → g ≡ none
     → (other : List ℕ) → Could J other → (cost : ℕ) × (r ≡ A.Done cost)
 could-done (done {cost = cost} e p) g other c = (cost, refl)
 could-done (spent e p f) g other c = absurd (p .no-page other c)
-could-done (refused {r = r} e f) g other c = let z : _≡_ {A = ℕ} 0 1 = cc in absurd (omega arith)
+could-done (refused e f) g other c = absurd (one-ground g e)
 
 -- SPENT EXACTLY WHEN there is no such page: of a call in order, done and spent exclude each other and there is no third
 pub done-not-spent : {start : ℕ → ℕ} {g : Option Refusal} {J : Job} {after : List ℕ} {r : Answer} → Promised start g J after r → g ≡ none
@@ -141,7 +150,7 @@ pub done-not-spent : {start : ℕ → ℕ} {g : Option Refusal} {J : Job} {after
     → (k : ℕ) × (r ≡ A.Spent k)
 done-not-spent (done e p) g n = absurd (n _ (p .could))
 done-not-spent (spent {k = k} e p f) g n = (k, refl)
-done-not-spent (refused {r = r} e f) g n = let z : _≡_ {A = ℕ} 0 1 = cc in absurd (omega arith)
+done-not-spent (refused e f) g n = absurd (one-ground g e)
 
 -- and where the answer is spent there is no such page
 pub spent-no-page : {start : ℕ → ℕ} {g : Option Refusal} {J : Job} {after : List ℕ} {k : ℕ} → Promised start g J after (A.Spent k)
@@ -169,6 +178,4 @@ spent-any-weights U W w code L S before content b k e =
         absurd (p .no-page _ (could-any-weights W U (jobOf U code L S before content) (q .could)))
     go (spent f p h) r g (spent i q j) =
         g ∙ ap A.Spent (spent-once q (spent-any-strip U W (jobOf U code L S before content) p))
-    go (spent f p h) r g (refused {r = s} i j) =
-        let z : none ≡ some s = sym f ∙ same f ∙ i in
-        let y : _≡_ {A = ℕ} 0 1 = cc in absurd (omega arith)
+    go (spent f p h) r g (refused i j) = absurd (one-ground f (same f ∙ i))

@@ -6,25 +6,25 @@
 --   carried-all                 past the last cell all are carried out
 --   digits-window               the window of eight digits is their byte
 --   block-first, block-second   what the digits of a block want of its cells
-use mathlib.Core.Path.{_≡_, refl, sym, _∙_, ap, ap₂}
+use mathlib.Core.Path.{_≡_, sym, _∙_, ap, ap₂}
 use mathlib.Core.Logic.{⊎-elim}
 use mathlib.Core.Bool.{Bool, cond}
-use mathlib.Core.List.{List, [], _∷_}
-use Prim.Native.Nat.{ℕ, zero, suc, _+_, _*_, _-_, _/_, _%_, _^_, _<_, _≤_}
+use mathlib.Core.List.{List}
+use Prim.Native.Nat.{ℕ, suc, _+_, _*_, _-_, _/_, _%_, _^_, _<_, _≤_}
 use native.Mathlib.Omega.{arith, ne-cases}
 use native.Mathlib.Nat.{mod-lt, zero-lt-suc}
 use lib.Dec.{ltb}
 use lib.Bits.{bitXor}
-use lib.ListN.{length, getD, set, List·getD-eq-default}
+use lib.ListN.{length, getD}
 use lib.Pow.{shr-shr}
 use lib.Seq.{ext-getD}
 use borrow.Author.Tests.{lt-ltb, le-ltb}
 use Rattle.cells.specs.Places.{number}
 use Rattle.cells.specs.Bytes.{bitOf, bytesOf}
 use Rattle.cells.specs.Levels.{level}
-use Rattle.cells.specs.Raising.{startOf, zeroFrom, raise, raisedTimes, triple, raisedTo}
-use Rattle.cells.proofs.Places.{same?, listOf-at, number-same, number-less}
-use Rattle.cells.proofs.Bytes.{number-bit, number-bits}
+use Rattle.cells.specs.Raising.{startOf, raisedTimes, triple, raisedTo}
+use Rattle.cells.proofs.Places.{same?, listOf-at, number-same}
+use Rattle.cells.proofs.Bytes.{number-bits}
 use Rattle.cells.proofs.Raising.{raisedTo-length, raisedTo-same, raisedTo-none}
 use Rattle.codes.specs.Generators.{Generators, g2}
 use Rattle.codes.specs.Taps.{tapsOf, parityOf, windowOf}
@@ -34,7 +34,7 @@ use Rattle.codes.proofs.Divisions.{xor-bit}
 use Rattle.codes.proofs.Windows.{window-byte, window-parity, label-bound}
 use Rattle.trellis.specs.Rows.{onesOf, bitsAt}
 use Rattle.trellis.specs.Carrying.{digitIn, wantedFirst, wantedSecond, wantedOf, carriedTo}
-use Rattle.trellis.specs.Carrying.{shownCell, cellIn, wantedBits, Shown, byteIn, withBits}
+use Rattle.trellis.specs.Carrying.{shownCell, cellIn, wantedBits, BlockShown, byteIn, withBits}
 use Rattle.trellis.proofs.Quotes.{bits-bit}
 use Rattle.trellis.proofs.Shown.{threeBits, shown-bit, cell-bit, low-cell, high-cell}
 use Rattle.trellis.proofs.Digits.{stored, length-stored, stored-at, stored-other}
@@ -189,7 +189,7 @@ module _ (G : Generators) (strip content : List ℕ) (u : ℕ → ℕ) where
       ∙ sym (raised-at strip (carriedBelow m) c r l)
 
   -- BLOCK q, by a word whose cells show the bits that are wanted
-  module _ (q first second word : ℕ) (shown : Shown q (bitsAt strip q) (wantedBits first second 8) word)
+  module _ (q first second word : ℕ) (shown : BlockShown q (bitsAt strip q) (wantedBits first second 8) word)
       (bytes : (i : ℕ) → getD strip i 0 < 256)
       (wants-first : (i : ℕ) → i < 8 → first / 2 ^ (7 - i) % 2 ≡ wantedFirst G u (8 * q + i))
       (wants-second : (i : ℕ) → i < 8 → second / 2 ^ (7 - i) % 2 ≡ wantedSecond G content u (8 * q + i)) where

@@ -1,4 +1,5 @@
--- WORDS OF CELLS, three bits a cell: what the operations on words do to each cell, and that a word so made shows what is wanted of its cells.
+-- WORDS OF CELLS, three bits a cell: what the operations on words do to each cell, and that the program's word of a block shows what is
+-- wanted of its cells.
 --   shown-less, shown-bit    what is shown of a cell is three bits, those of the cell raised
 --   cell-bit                 the bits of a cell of a word
 --   low-cell, high-cell      the two cells of a stage of six bits
@@ -24,7 +25,7 @@ use Rattle.cells.proofs.Bytes.{number-bit, cases8}
 use Rattle.codes.proofs.Taps.{low-bit}
 use Rattle.codes.proofs.Divisions.{xor-bit}
 use Rattle.trellis.specs.Rows.{onesOf, packedOf}
-use Rattle.trellis.specs.Carrying.{shownCell, cellIn, wantedPair, wantedBits, Wants, Onward, Shown}
+use Rattle.trellis.specs.Carrying.{shownCell, cellIn, wantedPair, wantedBits, Wants, Onward, BlockShown}
 use Rattle.trellis.proofs.Digits.{packed-bits, packed-fits}
 
 -- CELLS. A place of some bits set to 1 leaves bits
@@ -330,17 +331,21 @@ next m = m * 2 % 8 + m / 4
 abbrev risen : (s n x : ℕ) → ℕ
 risen s n x = bitOr (bitOr (bitOr x (marked s n)) (next (bitAnd x (marked s n)))) (next (bitAnd x (next (bitAnd x (marked s n)))))
 
--- is the cell raised, in each of the 48 cases
-each-risen : (s v : ℕ) → s < 3 → v ≤ 1 → (x : ℕ) → x < 8 → risen s ((onesOf x + v) % 2) x ≡ shownCell s x v
+-- is the cell raised where it does not show the bit v
+abbrev Right : ℕ → ℕ → ℕ → Type 0
+Right s v x = risen s ((onesOf x + v) % 2) x ≡ shownCell s x v
+
+-- in each of the 48 cases
+each-risen : (s v : ℕ) → s < 3 → v ≤ 1 → (x : ℕ) → x < 8 → Right s v x
 unfolding shownCell onesOf number raisedTimes raise zeroFrom
-each-risen zero zero h k = cases8 (λ (x : ℕ). risen 0 ((onesOf x + 0) % 2) x ≡ shownCell 0 x 0) refl refl refl refl refl refl refl refl
-each-risen zero (suc zero) h k = cases8 (λ (x : ℕ). risen 0 ((onesOf x + 1) % 2) x ≡ shownCell 0 x 1) refl refl refl refl refl refl refl refl
+each-risen zero zero h k = cases8 (Right 0 0) refl refl refl refl refl refl refl refl
+each-risen zero (suc zero) h k = cases8 (Right 0 1) refl refl refl refl refl refl refl refl
 each-risen zero (suc (suc v)) h k = absurd (let z : ⊥ = omega arith in z)
-each-risen (suc zero) zero h k = cases8 (λ (x : ℕ). risen 1 ((onesOf x + 0) % 2) x ≡ shownCell 1 x 0) refl refl refl refl refl refl refl refl
-each-risen (suc zero) (suc zero) h k = cases8 (λ (x : ℕ). risen 1 ((onesOf x + 1) % 2) x ≡ shownCell 1 x 1) refl refl refl refl refl refl refl refl
+each-risen (suc zero) zero h k = cases8 (Right 1 0) refl refl refl refl refl refl refl refl
+each-risen (suc zero) (suc zero) h k = cases8 (Right 1 1) refl refl refl refl refl refl refl refl
 each-risen (suc zero) (suc (suc v)) h k = absurd (let z : ⊥ = omega arith in z)
-each-risen (suc (suc zero)) zero h k = cases8 (λ (x : ℕ). risen 2 ((onesOf x + 0) % 2) x ≡ shownCell 2 x 0) refl refl refl refl refl refl refl refl
-each-risen (suc (suc zero)) (suc zero) h k = cases8 (λ (x : ℕ). risen 2 ((onesOf x + 1) % 2) x ≡ shownCell 2 x 1) refl refl refl refl refl refl refl refl
+each-risen (suc (suc zero)) zero h k = cases8 (Right 2 0) refl refl refl refl refl refl refl refl
+each-risen (suc (suc zero)) (suc zero) h k = cases8 (Right 2 1) refl refl refl refl refl refl refl refl
 each-risen (suc (suc zero)) (suc (suc v)) h k = absurd (let z : ⊥ = omega arith in z)
 each-risen (suc (suc (suc s))) v h k = absurd (let z : ⊥ = omega arith in z)
 
@@ -379,7 +384,7 @@ module _ (q bits wanted : ℕ) (w : Wants wanted) {second third : ℕ} (a : Onwa
     third-cell = b .moved j h ∙ ap next (cell-and bits second j ∙ ap (bitAnd own) second-cell)
 
   -- it shows what is wanted of it
-  pub shown-cells : Shown q bits wanted (bitOr (bitOr (bitOr bits (firstMarks q bits wanted)) second) third)
+  pub shown-cells : BlockShown q bits wanted (bitOr (bitOr (bitOr bits (firstMarks q bits wanted)) second) third)
   unfolding startOf
   shown-cells = record {
     cells = λ j h.

@@ -6,7 +6,7 @@
 --   cellIn word j               cell j of a word, three bits a cell
 --   wantedBits, Wants           the bits that are wanted of the cells of a block, as a word
 --   Onward                      marks on bits of cells, each moved to the next bit
---   Shown                       the word of a block whose cells show what is wanted
+--   BlockShown                  the word of a block whose cells show what is wanted
 --   withBits                    a strip with these bits in a block
 --   CarryAsked                  what carrying out asks
 use mathlib.Core.Path.{_≡_}
@@ -71,7 +71,7 @@ pub record Onward (marks r : ℕ) : Type 0 where
   pub moved : (j : ℕ) → j < 16 → cellIn r j ≡ cellIn marks j * 2 % 8 + cellIn marks j / 4
 
 -- the sixteen cells of block q, each showing the bit that is wanted of it
-pub record Shown (q bits wanted r : ℕ) : Type 0 where
+pub record BlockShown (q bits wanted r : ℕ) : Type 0 where
   pub cells : (j : ℕ) → j < 16 → cellIn r j ≡ shownCell (startOf (16 * q + j)) (cellIn bits j) (cellIn wanted j)
 
 -- byte j of 48 bits

@@ -5,18 +5,19 @@ use crate::backward::data_window;
 use crate::rows::bits_of;
 use codes::Code;
 ghost use mathlib.Core.Path.{_≡_};
-ghost use Prim.Native.Nat.{ℕ, _+_, _*_, _/_, _%_, _^_, _<_, _≤_};
-ghost use lib.ListN.{length, getD};
+ghost use Prim.Native.Nat.{_+_, _*_, _%_, _^_, _<_, _≤_};
+ghost use lib.ListN.{length};
 ghost use Rattle.cells.specs.Raising.{startOf, raisedTo};
 ghost use Rattle.codes.specs.Codes.{generatorsOf};
-ghost use Rattle.trellis.specs.Carrying.{wantedBits, Onward, Wants, Shown, withBits, digitIn, carriedTo, CarryAsked};
+ghost use Rattle.trellis.specs.Carrying.{wantedBits, Onward, Wants, BlockShown, withBits, digitIn, carriedTo, CarryAsked};
 
-// The lowest bit of each of sixteen cells, and the two others.
+// The lowest bit of each of sixteen cells.
 const LOWEST: u64 = 0o1111_1111_1111_1111;
 
+// The other two bits of each.
 const OTHERS: u64 = 0o6666_6666_6666_6666;
 
-// The starts of sixteen cells, each one bit on from the cell's before it: the first cell's is bit 0, 1, 2.
+// The starts of sixteen cells, each one bit on from that of the cell before it; the first cell's is bit 0, 1 or 2.
 const STARTS: [u64; 3] = [
     0o1421_4214_2142_1421,
     0o2142_1421_4214_2142,
@@ -50,7 +51,7 @@ fn onward(marks: u64) -> u64
 // one, twice at most. Three ones stay as they are.
 fn shown_bits(q: usize, bits: u64, wanted: u64) -> u64
     requires { ⌜ (bits < 2 ^ 48) × Wants wanted ⌝ }
-    ensures { λ r. ⌜ Shown q bits wanted r ⌝ }
+    ensures { λ r. ⌜ BlockShown q bits wanted r ⌝ }
 {
     let raises = ((bits ^ (bits >> 1) ^ (bits >> 2)) & LOWEST) ^ wanted;
     let first = (7 * raises) & STARTS[q % 3];
