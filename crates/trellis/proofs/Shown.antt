@@ -1,11 +1,12 @@
 -- WORDS OF CELLS, three bits a cell: what the operations on words do to each cell, and that the program's word of a block shows what is
 -- wanted of its cells.
 --   shown-less, shown-bit    what is shown of a cell is three bits, those of the cell raised
---   cell-bit                 the bits of a cell of a word
---   low-cell, high-cell      the two cells of a stage of six bits
---   wanted-wants             the bits that are wanted of a block are a word of them
+--   cell-bit                 the bits of a cell of a word; its operations work on each cell apart (cell-and, cell-or, cell-xor)
+--   lowest, others           the words that the program has as constants, and the starts of sixteen cells (startWords)
 --   onward-moves             how the program moves marks
---   shown-cells              how the program raises the cells of a block
+--   low-cell, high-cell      the bits that are wanted of the two cells of a stage; those of a block are a word of bits (wanted-wants)
+--   raises-cell              which cells the program raises, a word of 48 bits (raises-less)
+--   shown-cells              so the block that it makes shows what is wanted
 use mathlib.Core.Path.{_≡_, refl, sym, _∙_, ap, ap₂}
 use mathlib.Core.Logic.{⊎-elim}
 use mathlib.Core.Bool.{Bool, true, false}
@@ -131,27 +132,35 @@ cell-seven word w j h =
     ∙ ap (λ (x : ℕ). cellIn x j) (packed-times 7 (cellIn word) 16)
     ∙ cell-packed (λ i. 7 * cellIn word i) (λ i. omega (arith, w .bit i)) 16 j h
 
--- THE PROGRAM'S WORDS. The lowest bit of each cell
-abbrev pub lowest : ℕ
-lowest = 40210710958665
+-- a word of 48 bits whose cells are 0 or 1
+wants-of : (word : ℕ) → word < 2 ^ 48 → ((j : ℕ) → j < 16 → cellIn word j ≤ 1) → Wants word
+wants-of word less bits = record { less = less; bit = λ j. go j (ltb j 16) refl }
+  where
+    go : (j : ℕ) (b : Bool) → ltb j 16 ≡ b → cellIn word j ≤ 1
+    go j true e = bits j (ltb-true j 16 e)
+    go j false e = omega (arith, cell-past word j less (ltb-false j 16 e))
 
+-- THE PROGRAM'S WORDS: the lowest bit of each of sixteen cells, and the two others
+abbrev pub lowest : ℕ
+lowest = packedOf 3 (λ j. 1) 16
+
+abbrev pub others : ℕ
+others = packedOf 3 (λ j. 6) 16
+
+-- the starts of sixteen cells where the first one's is bit s, and the three words of them
+abbrev startsFrom : ℕ → ℕ
+startsFrom s = packedOf 3 (λ j. 2 ^ ((s + j) % 3)) 16
+
+abbrev pub startWords : List ℕ
+startWords = startsFrom 0 ∷ startsFrom 1 ∷ startsFrom 2 ∷ []
+
+-- a cell of each
 lowest-cell : (j : ℕ) → j < 16 → cellIn lowest j ≡ 1
-unfolding packedOf
 lowest-cell j h = cell-packed (λ i. 1) (λ i. omega arith) 16 j h
 
--- the two others
-abbrev pub others : ℕ
-others = 241264265751990
-
 others-cell : (j : ℕ) → j < 16 → cellIn others j ≡ 6
-unfolding packedOf
 others-cell j h = cell-packed (λ i. 6) (λ i. omega arith) 16 j h
 
--- the starts of sixteen cells by the first one's
-abbrev pub startWords : List ℕ
-startWords = 53981502382865 ∷ 77116431975522 ∷ 150377042352268 ∷ []
-
--- a cell of them has its start
 start-small : (i : ℕ) → 2 ^ (i % 3) < 8
 start-small i = go (i % 3) (mod-lt i (zero-lt-suc 2))
   where
@@ -162,11 +171,17 @@ start-small i = go (i % 3) (mod-lt i (zero-lt-suc 2))
     go (suc (suc (suc r))) h = absurd (let z : ⊥ = omega arith in z)
 
 starts-cell : (s j : ℕ) → s < 3 → j < 16 → cellIn (getD startWords s 0) j ≡ 2 ^ ((s + j) % 3)
-unfolding packedOf
-starts-cell zero j h l = cell-packed (λ i. 2 ^ ((0 + i) % 3)) (λ i. start-small (0 + i)) 16 j l
-starts-cell (suc zero) j h l = cell-packed (λ i. 2 ^ ((1 + i) % 3)) (λ i. start-small (1 + i)) 16 j l
-starts-cell (suc (suc zero)) j h l = cell-packed (λ i. 2 ^ ((2 + i) % 3)) (λ i. start-small (2 + i)) 16 j l
-starts-cell (suc (suc (suc s))) j h l = absurd (let z : ⊥ = omega arith in z)
+starts-cell s j h l = ap (λ (x : ℕ). cellIn x j) (go s h) ∙ cell-packed (λ i. 2 ^ ((s + i) % 3)) (λ i. start-small (s + i)) 16 j l
+  where
+    go : (s : ℕ) → s < 3 → getD startWords s 0 ≡ startsFrom s
+    go zero h = refl
+    go (suc zero) h = refl
+    go (suc (suc zero)) h = refl
+    go (suc (suc (suc s))) h = absurd (let z : ⊥ = omega arith in z)
+
+-- shifts can be made in either order
+shifts : (x i k : ℕ) → x / 2 ^ i / 2 ^ k ≡ x / 2 ^ k / 2 ^ i
+shifts x i k = let e : i + k ≡ k + i = omega arith in shr-shr x i k ∙ ap (λ (n : ℕ). x / 2 ^ n) e ∙ sym (shr-shr x k i)
 
 -- MARKS. Three bits without the lowest
 without-lowest : (y : ℕ) → y < 8 → bitAnd y 6 ≡ y / 2 * 2
@@ -182,11 +197,8 @@ module _ (marks j : ℕ) (h : j < 16) where
   unfolding cellIn
   moved-up =
       let y = marks * 2 / 2 ^ (3 * j) in
-      let c : 3 * j + 1 ≡ 1 + 3 * j = omega arith in
       let d : marks * 2 / 2 ≡ marks = omega arith in
-      let half : y / 2 ≡ marks / 2 ^ (3 * j) =
-      shr-shr (marks * 2) (3 * j) 1 ∙ ap (λ (k : ℕ). marks * 2 / 2 ^ k) c ∙ sym (shr-shr (marks * 2) 1 (3 * j))
-      ∙ ap (λ (x : ℕ). x / 2 ^ (3 * j)) d in
+      let half : y / 2 ≡ marks / 2 ^ (3 * j) = shifts (marks * 2) (3 * j) 1 ∙ ap (λ (x : ℕ). x / 2 ^ (3 * j)) d in
       cell-and (marks * 2) others j ∙ ap (bitAnd (y % 8)) (others-cell j h) ∙ without-lowest (y % 8) (mod-lt y (zero-lt-suc 7))
       ∙ omega arith
 
@@ -194,9 +206,7 @@ module _ (marks j : ℕ) (h : j < 16) where
   moved-round : cellIn (bitAnd (marks / 4) lowest) j ≡ cellIn marks j / 4
   unfolding cellIn
   moved-round =
-      let c : 2 + 3 * j ≡ 3 * j + 2 = omega arith in
-      let quarter : marks / 4 / 2 ^ (3 * j) ≡ marks / 2 ^ (3 * j) / 4 =
-      shr-shr marks 2 (3 * j) ∙ ap (λ (k : ℕ). marks / 2 ^ k) c ∙ sym (shr-shr marks (3 * j) 2) in
+      let quarter : marks / 4 / 2 ^ (3 * j) ≡ marks / 2 ^ (3 * j) / 4 = shifts marks 2 (3 * j) in
       cell-and (marks / 4) lowest j ∙ ap (bitAnd (marks / 4 / 2 ^ (3 * j) % 8)) (lowest-cell j h)
       ∙ and-mask (marks / 4 / 2 ^ (3 * j) % 8) 1
       ∙ omega arith
@@ -240,7 +250,7 @@ module _ (first second i : ℕ) (h : i < 8) where
 
 -- so they are a word of bits
 pub wanted-wants : (first second : ℕ) → Wants (wantedBits first second 8)
-wanted-wants first second = record { less = fits; bit = λ j. go j (ltb j 16) refl }
+wanted-wants first second = wants-of (wantedBits first second 8) fits bit
   where
     fits : wantedBits first second 8 < 2 ^ 48
     fits = packed-fits 6 (wantedPair first second) (pair-small first second) 8 8 (omega arith)
@@ -248,9 +258,9 @@ wanted-wants first second = record { less = fits; bit = λ j. go j (ltb j 16) re
     small : (x : ℕ) → x % 2 ≤ 1
     small x = omega arith
 
-    go : (j : ℕ) (b : Bool) → ltb j 16 ≡ b → cellIn (wantedBits first second 8) j ≤ 1
-    go j true e =
-        let h : j / 2 < 8 = omega (arith, ltb-true j 16 e) in
+    bit : (j : ℕ) → j < 16 → cellIn (wantedBits first second 8) j ≤ 1
+    bit j l =
+        let h : j / 2 < 8 = omega arith in
         ⊎-elim
         (λ z.
         let d : j ≡ 2 * (j / 2) = omega arith in
@@ -259,7 +269,6 @@ wanted-wants first second = record { less = fits; bit = λ j. go j (ltb j 16) re
         let d : j ≡ 2 * (j / 2) + 1 = omega arith in
         rw (d, high-cell first second (j / 2) h) (small _))
         (same? (j % 2) 0)
-    go j false e = omega (arith, cell-past (wantedBits first second 8) j fits (ltb-false j 16 e))
 
 -- RAISES. Two bits without a carry
 differ-bits : (a b : ℕ) → a ≤ 1 → b ≤ 1 → bitXor a b ≡ (a + b) % 2
@@ -289,10 +298,8 @@ module _ (bits wanted : ℕ) where
       let p = 3 * j in
       let x = bits / 2 ^ p in
       let z = bitXor (bitXor bits (bits / 2)) (bits / 4) in
-      let c : 1 + p ≡ p + 1 = omega arith in
-      let d : 2 + p ≡ p + 2 = omega arith in
-      let half : bits / 2 / 2 ^ p ≡ x / 2 = shr-shr bits 1 p ∙ ap (λ (k : ℕ). bits / 2 ^ k) c ∙ sym (shr-shr bits p 1) in
-      let quarter : bits / 4 / 2 ^ p ≡ x / 4 = shr-shr bits 2 p ∙ ap (λ (k : ℕ). bits / 2 ^ k) d ∙ sym (shr-shr bits p 2) in
+      let half : bits / 2 / 2 ^ p ≡ x / 2 = shifts bits 1 p in
+      let quarter : bits / 4 / 2 ^ p ≡ x / 4 = shifts bits 2 p in
       cell-and z lowest j ∙ ap (bitAnd (z / 2 ^ p % 8)) (lowest-cell j h) ∙ and-mask (z / 2 ^ p % 8) 1
       ∙ mod-mod-pow (z / 2 ^ p) 2 1
       ∙ xor-bit (bitXor bits (bits / 2)) (bits / 4) p
@@ -307,18 +314,18 @@ module _ (bits wanted : ℕ) where
         ∙ differ-bits (onesOf (cellIn bits j) % 2) (cellIn wanted j) (omega arith) (w .bit j)
         ∙ omega arith
 
-    -- they are a word of bits
+    -- they are 48 bits
     pub raises-less : raises < 2 ^ 48
+    unfolding packedOf
     raises-less =
         let z = bitAnd (bitXor (bitXor bits (bits / 2)) (bits / 4)) lowest in
         xor-lt 48 z wanted (omega (arith, and-le-r (bitXor (bitXor bits (bits / 2)) (bits / 4)) lowest)) (w .less)
 
+    -- a word of bits
     raises-wants : Wants raises
-    raises-wants = record { less = raises-less; bit = λ j. go j (ltb j 16) refl }
-      where
-        go : (j : ℕ) (b : Bool) → ltb j 16 ≡ b → cellIn raises j ≤ 1
-        go j true e = rw (raises-cell j (ltb-true j 16 e)) (let z : (onesOf (cellIn bits j) + cellIn wanted j) % 2 ≤ 1 = omega arith in z)
-        go j false e = omega (arith, cell-past raises j raises-less (ltb-false j 16 e))
+    raises-wants =
+        wants-of raises raises-less
+        (λ j h. rw (raises-cell j h) (let z : (onesOf (cellIn bits j) + cellIn wanted j) % 2 ≤ 1 = omega arith in z))
 
 -- THE MARKS of a cell with the bits x that starts at bit s, where n says whether it is raised: the first, and what it leads to
 abbrev marked : (s n : ℕ) → ℕ

@@ -1,15 +1,17 @@
--- `onward` meets its contract by the law of moved marks; 49 bits fit the word.
+-- `onward` meets its contract by the law of moved marks, since its constants are those words; 49 bits fit a number of 64.
 use mathlib.Core.Path.{_≡_, subst⁻¹}
 use Prim.Native.Nat.{ℕ, _*_, _/_, _%_, _^_}
 use native.Mathlib.Omega.{arith}
 use lib.Bits.{bitAnd, bitOr}
 use lib.Pow.{shl-exact}
+use Rattle.trellis.specs.Rows.{packedOf}
 use Rattle.trellis.specs.Carrying.{Onward}
 use Rattle.trellis.proofs.Shown.{lowest, others, onward-moves}
 use Rattle.trellis.proofs.carrying.onward.Statement.{statement}
 use Rattle.trellis.proofs.carrying.onward.Tie as tie
 
 returns : tie.Need-returns
+unfolding packedOf
 returns c =
     let m = c .args .marks in
     let e : (m * 2 ^ 1) % 2 ^ 64 ≡ m * 2 = shl-exact 48 1 64 (c .pre) (omega arith) in

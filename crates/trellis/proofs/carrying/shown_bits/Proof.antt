@@ -1,13 +1,16 @@
--- `shown_bits` meets its contract by the law of a block so made. Its raises are 48 bits, so seven times them fit the word.
+-- `shown_bits` meets its contract by the law of a block so made, since its constants are those words. Its raises are 48 bits, so seven times
+-- them fit a number of 64.
 use native.Mathlib.Omega.{arith}
 use native.Mathlib.Nat.{lt-of-le-of-lt}
 use lib.Bits.{and-le-l}
 use borrow.Author.Needs.{needs}
+use Rattle.trellis.specs.Rows.{packedOf}
 use Rattle.trellis.proofs.Shown.{raises-less, shown-cells}
 use Rattle.trellis.proofs.carrying.shown_bits.Statement.{statement}
 use Rattle.trellis.proofs.carrying.shown_bits.Tie as tie
 
 mul-first : tie.Need-mul-first
+unfolding packedOf
 mul-first c = record { fits = omega (arith, raises-less (c .args .bits) (c .args .wanted) (c .pre .1)) }
 
 mul-first-2 : tie.Need-mul-first-2
@@ -23,6 +26,7 @@ onward-requires-2 : tie.Need-onward-requires-2
 onward-requires-2 c κs = lt-of-le-of-lt (and-le-l (c .before .args .bits) _) (c .before .pre .0)
 
 returns : tie.Need-returns
+unfolding packedOf
 returns c =
     let s = c .before .before in
     shown-cells (s .args .q) (s .args .bits) (s .args .wanted) (s .pre .1) (c .before .onward .ensures) (c .onward2 .ensures)
