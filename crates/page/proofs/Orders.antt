@@ -7,21 +7,26 @@
 --   releases-alike        any sequence of calls, by any releases
 --   releases-read         what the pages after it read as
 --   older-reads           so a page that the releases before K7 wrote reads as one of this release, and the other way round
-use mathlib.Core.Path.{_≡_, refl, sym, ap, ap₂, fun-ext}
+--   older-case            document 01's case 01, byte for byte, is what the releases before K7 do
+use mathlib.Core.Path.{_≡_, refl, sym, _∙_, ap, ap₂, fun-ext}
 use mathlib.Core.Bool.{cond}
 use mathlib.Core.List.{List, [], _∷_, _++_}
 use mathlib.Core.Option.{Option, none, some}
-use Prim.Native.Nat.{ℕ, suc, _+_, _*_}
+use Prim.Native.Nat.{ℕ, zero, suc, _<_, _+_, _*_}
+use native.Mathlib.Omega.{arith}
 use lib.Dec.{ltb}
-use lib.ListN.{length, replicate}
-use Rattle.cells.specs.Places.{listOf}
-use Rattle.cells.specs.Bytes.{Octets}
-use Rattle.cells.specs.Levels.{SameLevels}
-use Rattle.cells.specs.Raising.{startOf, olderStart}
+use lib.ListN.{length, getD, replicate}
+use Rattle.cells.specs.Places.{listOf, number}
+use Rattle.cells.specs.Bytes.{bitOf, bytesOf, Octets}
+use Rattle.cells.specs.Levels.{level, SameLevels}
+use Rattle.cells.specs.Raising.{startOf, olderStart, startIn, zeroFrom, raise, raisedTimes, triple, raisedTo}
+use Rattle.cells.specs.Climbs.{house}
+use Rattle.cells.proofs.Places.{each-first, each-rest}
+use Rattle.cells.proofs.Raising.{raisedTo-same}
 use Rattle.cells.proofs.Levels.{levels-at, levels-sym, levels-self}
 use Rattle.codes.specs.Generators.{Generators}
-use Rattle.codes.specs.Layouts.{oneBit, cellCount}
-use Rattle.demand.specs.Jobs.{Job, InOrder}
+use Rattle.codes.specs.Layouts.{oneBit, stageCount, cellCount}
+use Rattle.demand.specs.Jobs.{Job, width, InOrder}
 use Rattle.demand.specs.Reading.{stripLevels}
 use Rattle.demand.proofs.Weights.{spent-once}
 use Rattle.demand.proofs.Orders.{read-levels, onPage, could-levels, cheapest-levels, spent-levels}
@@ -35,6 +40,8 @@ use Rattle.refusals.specs.declared.Refusal.{Refusal}
 use Rattle.page.specs.declared.Row.{Row}
 use Rattle.page.specs.declared.Answer.{Answer}
 use Rattle.page.specs.declared.Answer.the-variants as A
+use Rattle.page.specs.Known.{six}
+use Rattle.page.proofs.Known.{cases-hold}
 use Rattle.page.proofs.Promise.{job-in-order, wrote-by, one-ground}
 
 -- ONE CALL. On pages with the same levels two calls that keep their promise, each in its own order, answer alike and leave the same levels
@@ -118,3 +125,35 @@ releases-read G L S starts starts′ cs s = read-levels oneBit G L S (releases-a
 pub older-reads : (G : Generators) (L S : ℕ) (cs : List Call) (page : List ℕ)
     → readPage G L S (played (λ n. olderStart) cs page) ≡ readPage G L S (played (λ n. startOf) cs page)
 older-reads G L S cs page = releases-read G L S (λ n. olderStart) (λ n. startOf) cs levels-self
+
+-- a write that is done raises cells and does nothing else
+raised-by : {start : ℕ → ℕ} {g : Option Refusal} {J : Job} {after : List ℕ} {r : Answer} {cost : ℕ} → r ≡ A.Done cost
+    → Promised start g J after r → after ≡ raisedTo (startIn start (width J)) (J .page) (level after)
+raised-by e (done f c) = c .raised
+raised-by e (spent f p h) = let z : _≡_ {A = ℕ} 0 1 = cc in absurd (omega arith)
+raised-by e (refused f h) = let z : _≡_ {A = ℕ} 0 1 = cc in absurd (omega arith)
+
+-- DOCUMENT 01'S OWN CASE: 'erased, write 01: cost 48, page 41 02 00 00 00 00' is what the releases before K7 do
+pub older-case : (answerOf house 3 1 1 (six 0 0 0 0 0 0) (0x01 ∷ []) ≡ A.Done 48)
+    × (pageBy house 3 1 1 (six 0 0 0 0 0 0) (0x01 ∷ []) olderStart ≡ six 0x41 0x02 0 0 0 0)
+unfolding startIn olderStart raisedTo bytesOf listOf number raisedTimes raise zeroFrom triple level bitOf cellCount stageCount
+older-case = (
+  row .0,
+  raised-by (row .0) (wrote-by olderStart house 3 1 1 (six 0 0 0 0 0 0) (0x01 ∷ []) byte)
+      ∙ raisedTo-same (startIn olderStart 16) (six 0 0 0 0 0 0) _ (level (six 0x01 0x03 0 0 0 0)) (λ c h. levels-at same c),
+)
+  where
+    -- this release's case
+    row : (answerOf house 3 1 1 (six 0 0 0 0 0 0) (0x01 ∷ []) ≡ A.Done 48)
+        × (pageOf house 3 1 1 (six 0 0 0 0 0 0) (0x01 ∷ []) ≡ six 0x01 0x03 0 0 0 0)
+    row = each-first (each-rest cases-hold)
+
+    byte : Octets (0x01 ∷ [])
+    byte = record { below = below }
+      where
+        below : (q : ℕ) → q < 1 → getD (0x01 ∷ []) q 0 < 256
+        below zero h = omega arith
+        below (suc q) h = absurd (let z : ⊥ = omega arith in z)
+
+    same : SameLevels (pageBy house 3 1 1 (six 0 0 0 0 0 0) (0x01 ∷ []) olderStart) (six 0x01 0x03 0 0 0 0)
+    same = rw (row .1) at (older-write house 3 1 1 (0x01 ∷ []) byte (levels-self {x = six 0 0 0 0 0 0}) .1)
