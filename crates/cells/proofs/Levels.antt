@@ -3,7 +3,7 @@
 --   level-same      the same three bits, the same level
 --   raisesOf-more   the levels of one cell more, added up
 --   level-past      past the end a level is 0
---   levels-at       pages with the same levels: each level, also past the end; both ways round (levels-sym); a page and itself (levels-self)
+--   levels-at       pages with the same levels: each level, also past the end; both ways round (levels-sym); a page itself (levels-self)
 --   three-bits      three bits in a row are the ones of three digits of two bytes
 use mathlib.Core.Path.{_≡_, refl, sym, _∙_, ap}
 use mathlib.Core.Bool.{Bool, true, false}

@@ -1,5 +1,5 @@
--- `shown_bits` meets its contract by the law of a block so made, since its constants are those words. Its raises are 48 bits, so seven times
--- them fit a number of 64.
+-- `shown_bits` meets its contract by the law of a block so made, since its constants are those words. Its raises are 48 bits, so seven
+-- times them fit a number of 64.
 use native.Mathlib.Omega.{arith}
 use native.Mathlib.Nat.{lt-of-le-of-lt}
 use lib.Bits.{and-le-l}
