@@ -33,8 +33,8 @@ unfoldable pub jobCost : Job → List ℕ → ℕ
 jobCost J after = costOf (weightOf (J .weights)) (pageCells J) (J .page) after
 
 -- 'Write picks the page of least cost that reads as the data with no cell lowered. Among equals it takes the one with the lower level at
--- the first cell whose levels differ.' 'A cell that isn't raised keeps its bits'; the raises of a cell start at the bit `start` of its
--- number in its strip
+-- the first cell whose levels differ.' 'A cell that isn't raised keeps its bits'; the raises of the cell with the number n in its strip
+-- start at bit start n
 pub record Cheapest (start : ℕ → ℕ) (J : Job) (after : List ℕ) (cost : ℕ) : Type 0 where
   pub could : Could J after
   pub raised : after ≡ raisedTo (startIn start (width J)) (J .page) (level after)

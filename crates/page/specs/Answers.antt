@@ -60,8 +60,8 @@ module _ (g : Option Refusal) (J : Job) where
   unfoldable pub jobAnswer : Answer
   jobAnswer = callAnswer g (pageWrite J) (spentStrip J)
 
-  -- the page after it: its cells are raised to the levels of the computed write, the raises of a cell starting at the bit `start` of its
-  -- number in its strip
+  -- the page after it: its cells are raised to the levels of the computed write; the raises of the cell with the number n in its strip
+  -- start at bit start n
   unfoldable pub jobPage : (start : ℕ → ℕ) → List ℕ
   jobPage start = callPage g (pageWrite J) (λ a. raisedTo (startIn start (width J)) (J .page) (levelAt (a .levels))) (J .page)
 
