@@ -4,7 +4,7 @@
 --   cell-bit                 the bits of a cell of a word; its operations work on each cell apart (cell-and, cell-or, cell-xor)
 --   lowest, others           the words that the program has as constants, and the starts of sixteen cells (startWords)
 --   onward-moves             how the program moves marks
---   low-cell, high-cell      the bits that are wanted of the two cells of a stage; those of a block are a word of bits (wanted-wants)
+--   low-cell, high-cell      the bits that are wanted of the two cells of a stage; those of a block are a word of bits (wanted-cells)
 --   raises-cell              which cells the program raises, a word of 48 bits (raises-less)
 --   shown-cells              so the block that it makes shows what is wanted
 use mathlib.Core.Path.{_≡_, refl, sym, _∙_, ap, ap₂}
@@ -26,7 +26,7 @@ use Rattle.cells.proofs.Bytes.{number-bit, cases8}
 use Rattle.codes.proofs.Taps.{low-bit}
 use Rattle.codes.proofs.Divisions.{xor-bit}
 use Rattle.trellis.specs.Rows.{onesOf, packedOf}
-use Rattle.trellis.specs.Carrying.{shownCell, cellIn, wantedPair, wantedBits, Wants, Onward, BlockShown}
+use Rattle.trellis.specs.Carrying.{shownCell, cellIn, wantedPair, wantedBits, CellBits, Onward, BlockShown}
 use Rattle.trellis.proofs.Digits.{packed-bits, packed-fits}
 
 -- CELLS. A place of some bits set to 1 leaves bits
@@ -126,15 +126,15 @@ packed-times k f zero = omega arith
 packed-times k f (suc n) = omega (arith, packed-times k f n)
 
 -- a word of bits, times seven: three ones in each cell that has a one
-cell-seven : (word : ℕ) → Wants word → (j : ℕ) → j < 16 → cellIn (7 * word) j ≡ 7 * cellIn word j
+cell-seven : (word : ℕ) → CellBits word → (j : ℕ) → j < 16 → cellIn (7 * word) j ≡ 7 * cellIn word j
 cell-seven word w j h =
     ap (λ (x : ℕ). cellIn (7 * x) j) (sym (word-cells word 16 ∙ mod-eq-of-lt (w .less)))
     ∙ ap (λ (x : ℕ). cellIn x j) (packed-times 7 (cellIn word) 16)
     ∙ cell-packed (λ i. 7 * cellIn word i) (λ i. omega (arith, w .bit i)) 16 j h
 
--- a word of 48 bits whose cells are 0 or 1
-wants-of : (word : ℕ) → word < 2 ^ 48 → ((j : ℕ) → j < 16 → cellIn word j ≤ 1) → Wants word
-wants-of word less bits = record { less = less; bit = λ j. go j (ltb j 16) refl }
+-- 48 bits are such a word where each of the sixteen cells is 0 or 1
+bit-each : (word : ℕ) → word < 2 ^ 48 → ((j : ℕ) → j < 16 → cellIn word j ≤ 1) → CellBits word
+bit-each word less bits = record { less = less; bit = λ j. go j (ltb j 16) refl }
   where
     go : (j : ℕ) (b : Bool) → ltb j 16 ≡ b → cellIn word j ≤ 1
     go j true e = bits j (ltb-true j 16 e)
@@ -249,8 +249,8 @@ module _ (first second i : ℕ) (h : i < 8) where
       ∙ omega arith
 
 -- so they are a word of bits
-pub wanted-wants : (first second : ℕ) → Wants (wantedBits first second 8)
-wanted-wants first second = wants-of (wantedBits first second 8) fits bit
+pub wanted-cells : (first second : ℕ) → CellBits (wantedBits first second 8)
+wanted-cells first second = bit-each (wantedBits first second 8) fits bit
   where
     fits : wantedBits first second 8 < 2 ^ 48
     fits = packed-fits 6 (wantedPair first second) (pair-small first second) 8 8 (omega arith)
@@ -306,7 +306,7 @@ module _ (bits wanted : ℕ) where
       ∙ ap₂ (λ (a b : ℕ). (a + b % 2) % 2) (xor-bit bits (bits / 2) p ∙ ap (λ (b : ℕ). (x % 2 + b % 2) % 2) half) quarter
       ∙ three-differ x
 
-  module _ (w : Wants wanted) where
+  module _ (w : CellBits wanted) where
     -- so cell j is raised where it differs from the one that is wanted
     raises-cell : (j : ℕ) → j < 16 → cellIn raises j ≡ (onesOf (cellIn bits j) + cellIn wanted j) % 2
     raises-cell j h =
@@ -322,9 +322,9 @@ module _ (bits wanted : ℕ) where
         xor-lt 48 z wanted (omega (arith, and-le-r (bitXor (bitXor bits (bits / 2)) (bits / 4)) lowest)) (w .less)
 
     -- a word of bits
-    raises-wants : Wants raises
-    raises-wants =
-        wants-of raises raises-less
+    raises-cells : CellBits raises
+    raises-cells =
+        bit-each raises raises-less
         (λ j h. rw (raises-cell j h) (let z : (onesOf (cellIn bits j) + cellIn wanted j) % 2 ≤ 1 = omega arith in z))
 
 -- THE MARKS of a cell with the bits x that starts at bit s, where n says whether it is raised: the first, and what it leads to
@@ -360,7 +360,7 @@ each-risen (suc (suc (suc s))) v h k = absurd (let z : ⊥ = omega arith in z)
 abbrev pub firstMarks : (q bits wanted : ℕ) → ℕ
 firstMarks q bits wanted = bitAnd (7 * raises bits wanted) (getD startWords (q % 3) 0)
 
-module _ (q bits wanted : ℕ) (w : Wants wanted) {second third : ℕ} (a : Onward (bitAnd bits (firstMarks q bits wanted)) second)
+module _ (q bits wanted : ℕ) (w : CellBits wanted) {second third : ℕ} (a : Onward (bitAnd bits (firstMarks q bits wanted)) second)
     (b : Onward (bitAnd bits second) third) where
   module _ (j : ℕ) (h : j < 16) where
     -- cell j, whether it is raised, and its start
@@ -379,7 +379,7 @@ module _ (q bits wanted : ℕ) (w : Wants wanted) {second third : ℕ} (a : Onwa
         let e : (q % 3 + j) % 3 ≡ start = omega arith in
         cell-and (7 * raises bits wanted) (getD startWords (q % 3) 0) j
         ∙ ap₂ bitAnd
-        (cell-seven (raises bits wanted) (raises-wants bits wanted w) j h ∙ ap (λ (k : ℕ). 7 * k) (raises-cell bits wanted w j h))
+        (cell-seven (raises bits wanted) (raises-cells bits wanted w) j h ∙ ap (λ (k : ℕ). 7 * k) (raises-cell bits wanted w j h))
         (starts-cell (q % 3) j (mod-lt q (zero-lt-suc 2)) h ∙ ap (λ (k : ℕ). 2 ^ k) e)
 
     -- where they met a one

@@ -4,7 +4,8 @@
 --   carriedTo                   the level of each cell after the digits are carried out
 --   shownCell                   the bits of a cell that is to show a given bit
 --   cellIn word j               cell j of a word, three bits a cell
---   wantedBits, Wants           the bits that are wanted of the cells of a block, as a word
+--   CellBits word               a word with one bit for each cell
+--   wantedBits                  the bits that are wanted of the cells of a block, as such a word
 --   Onward                      marks on bits of cells, each moved to the next bit
 --   BlockShown                  the word of a block whose cells show what is wanted
 --   withBits                    a strip with these bits in a block
@@ -61,10 +62,10 @@ wantedPair first second i = first / 2 ^ (7 - i) % 2 + 8 * (second / 2 ^ (7 - i) 
 abbrev pub wantedBits : (first second n : ℕ) → ℕ
 wantedBits first second = packedOf 6 (wantedPair first second)
 
--- a word with a bit, 0 or 1, for each of sixteen cells
-pub record Wants (wanted : ℕ) : Type 0 where
-  pub less : wanted < 2 ^ 48
-  pub bit : (j : ℕ) → cellIn wanted j ≤ 1
+-- a word with one bit, 0 or 1, for each of sixteen cells: the lowest of the cell's three
+pub record CellBits (word : ℕ) : Type 0 where
+  pub less : word < 2 ^ 48
+  pub bit : (j : ℕ) → cellIn word j ≤ 1
 
 -- each mark in sixteen cells on the next bit of its cell, going round the three
 pub record Onward (marks r : ℕ) : Type 0 where

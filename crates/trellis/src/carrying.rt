@@ -9,7 +9,7 @@ ghost use Prim.Native.Nat.{_+_, _*_, _%_, _^_, _<_, _≤_};
 ghost use lib.ListN.{length};
 ghost use Rattle.cells.specs.Raising.{startOf, raisedTo};
 ghost use Rattle.codes.specs.Codes.{generatorsOf};
-ghost use Rattle.trellis.specs.Carrying.{wantedBits, Onward, Wants, BlockShown, withBits, digitIn, carriedTo, CarryAsked};
+ghost use Rattle.trellis.specs.Carrying.{wantedBits, Onward, CellBits, BlockShown, withBits, digitIn, carriedTo, CarryAsked};
 
 // The lowest bit of each of sixteen cells.
 const LOWEST: u64 = 0o1111_1111_1111_1111;
@@ -48,9 +48,9 @@ fn onward(marks: u64) -> u64
 }
 
 // The 48 bits of block q, where each cell that does not show the bit wanted of it is raised: a mark on its start goes on where it meets a
-// one, twice at most. Three ones stay as they are.
+// one, twice at most. Three ones stay as they are. The block begins with cell 16·q, which starts at bit q mod 3.
 fn shown_bits(q: usize, bits: u64, wanted: u64) -> u64
-    requires { ⌜ (bits < 2 ^ 48) × Wants wanted ⌝ }
+    requires { ⌜ (bits < 2 ^ 48) × CellBits wanted ⌝ }
     ensures { λ r. ⌜ BlockShown q bits wanted r ⌝ }
 {
     let raises = ((bits ^ (bits >> 1) ^ (bits >> 2)) & LOWEST) ^ wanted;

@@ -17,7 +17,7 @@ use Rattle.trellis.specs.Carrying.{digitIn, withBits}
 use Rattle.trellis.proofs.Quotes.{bits-less}
 use Rattle.trellis.proofs.Labels.{labels-forth}
 use Rattle.trellis.proofs.Carried.{carriedBelow, carried-none, left-bits, carried-block, carried-all, digits-window, block-first, block-second}
-use Rattle.trellis.proofs.Shown.{wanted-wants}
+use Rattle.trellis.proofs.Shown.{wanted-cells}
 use Rattle.trellis.proofs.carrying.carry_strip.Statement.{statement}
 use Rattle.trellis.proofs.carrying.carry_strip.Tie as tie
 
@@ -119,7 +119,7 @@ shown-bits-requires c κs =
     let t = c .before .before .before .before .before .before .before .before in
     let bits = c .before .bits-of .ensures ∙ same-bits t in
     let want = c .wanted-bits .ensures in
-    (rw bits (bits-less _ (octets t) (t .before .loop .q)), rw want (wanted-wants _ _))
+    (rw bits (bits-less _ (octets t) (t .before .loop .q)), rw want (wanted-cells _ _))
 
 put-bits-requires : tie.Need-put-bits-requires Inv-loop μ-loop
 put-bits-requires c κs = block-inside (c .before .before .before .before .before .before .before .before .before .before)
