@@ -1,6 +1,7 @@
 -- Raising to given levels is exact, wherever the raises of a cell start, and to raise one cell is to set its first zero from there on.
 --   triple-bit        bit i of a cell's three bits
 --   zeroFrom-first    the first zero of three bits from bit s on: s itself, or the next (-second), or the one after (-third)
+--   raised-bit        three bits that are raised are bits
 --   raisedTo-length   a page raised is as long as before
 --   raisedTo-bit      bit i of cell c, and no other list of bytes has these bits (-only)
 --   raisedTo-level    the levels after it are the given ones
@@ -128,7 +129,11 @@ module _ (s : ℕ) where
       let f = zeroFrom-zero s m (omega arith) in
       set-ones (raised-three n t) (zeroFrom s m) (f .0) (f .1) ∙ omega arith
 
--- each bit of a page raised is 0 or 1
+-- and each of them is 0 or 1
+pub raised-bit : (s n : ℕ) {x y z : ℕ} → x < 2 → y < 2 → z < 2 → (i : ℕ) → getD (raisedTimes s n (x ∷ y ∷ z ∷ [])) i 0 < 2
+raised-bit s n p q r = three-bit (raised-three s n (three p q r))
+
+-- so is each bit of a page raised
 raised-small : (start : ℕ → ℕ) (page : List ℕ) (to : ℕ → ℕ) (k : ℕ)
     → getD (raisedTimes (start (k / 3)) (to (k / 3) - level page (k / 3)) (triple page (k / 3))) (k % 3) 0 < 2
 raised-small start page to k =

@@ -107,21 +107,19 @@ module _ (J : Job) (I : InOrder J) where
   page-width : Width (pageCells J) (All (stripProblem J) (listOf (J .strips) (λ k. k)))
   page-width = record { width = λ c y a. all-levels J (I .sound) (I .whole) c y a .0 }
 
-  -- a cell of the page lies in it whole
-  inside : (c : ℕ) → c < pageCells J → 3 * c + 2 < 8 * length (J .page)
-  inside c h =
-      let e : 3 * pageCells J ≡ 8 * length (J .page) =
+  -- the cells of the page fill it
+  page-bits : 3 * pageCells J ≡ 8 * length (J .page)
+  page-bits =
       sym (mul-assoc 3 (width J) (J .strips)) ∙ ap (λ (x : ℕ). x * J .strips) (I .whole .cells-fill) ∙ mul-assoc 8 _ (J .strips)
-      ∙ ap (λ (x : ℕ). 8 * x) (sym (I .page-is)) in
-      omega arith
+      ∙ ap (λ (x : ℕ). 8 * x) (sym (I .page-is))
 
-  -- and what lies in it is a cell
+  -- so each lies in it whole
+  inside : (c : ℕ) → c < pageCells J → 3 * c + 2 < 8 * length (J .page)
+  inside c h = omega (arith, page-bits)
+
+  -- and what lies in it is one of them
   pub page-cell : (c : ℕ) → 3 * c < 8 * length (J .page) → c < pageCells J
-  page-cell c h =
-      let e : 3 * pageCells J ≡ 8 * length (J .page) =
-      sym (mul-assoc 3 (width J) (J .strips)) ∙ ap (λ (x : ℕ). x * J .strips) (I .whole .cells-fill) ∙ mul-assoc 8 _ (J .strips)
-      ∙ ap (λ (x : ℕ). 8 * x) (sym (I .page-is)) in
-      omega arith
+  page-cell c h = omega (arith, page-bits)
 
   -- the levels of a page that could be are admitted, at what the change costs
   could-all : (other : List ℕ) → Could J other

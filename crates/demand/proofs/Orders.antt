@@ -47,7 +47,7 @@ onPage page J = record {
   content = J .content;
 }
 
--- of two first cells that differ, neither page can be lower at both
+-- two pages cannot each be the lower one at the first cell where they differ
 not-both : {n : ℕ} {x y : List ℕ} → LowerAtFirst n x y → LowerAtFirst n y x → ⊥
 not-both {x = x} {y = y} a b =
     ⊎-elim

@@ -25,7 +25,7 @@ use Rattle.refusals.proofs.Refusals.{weighted-in-order}
 use Rattle.page.proofs.Promise.{wrote-by}
 
 -- ERASED PAGES. Every level is 0
-pub erased-level : (n c : ℕ) → level (replicate n 0) c ≡ 0
+erased-level : (n c : ℕ) → level (replicate n 0) c ≡ 0
 unfolding level bitOf
 erased-level n c = omega (arith, bit (3 * c), bit (3 * c + 1), bit (3 * c + 2))
   where

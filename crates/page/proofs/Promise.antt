@@ -1,8 +1,8 @@
 -- THE PROMISE IS KEPT by the computed write, on every input.
 --   promise-kept                    of any job that is in order where it has no ground
 --   numbered-sound, oneBit-whole    both codes and every L go with one bit a cell
---   job-in-order, dear-by           so the calls' jobs keep it, with any weights, and wherever the raises of a cell start
---   wrote-by, wrote                 (wrote-by); and the calls of this release do (wrote)
+--   job-in-order, dear-by           a call without a ground is in order, and none of its steps is free
+--   wrote-by, wrote                 so the calls keep it, with any weights: wherever the raises start, and those of this release
 --   page-length                     a write keeps the page's length
 --   one-ground                      no ground and a ground exclude each other
 --   could-done                      a call with no ground is done where some page could be
@@ -130,7 +130,7 @@ page-length W code L S before content =
     go none none = refl
     go none (some a) = raisedTo-length _ before (levelAt (a .levels))
 
--- a call that has no ground has none
+-- no ground and a ground exclude each other
 pub one-ground : {g : Option Refusal} {r : Refusal} → g ≡ none → g ≡ some r → ⊥
 one-ground {r = r} e f =
     let z : none ≡ some r = sym e ∙ f in

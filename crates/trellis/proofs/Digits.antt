@@ -1,7 +1,9 @@
 -- Digits of some bits each, packed into a number, and numbers stored one after the other.
 --   packed-less   n digits of w bits each fit n times w bits, and more (packed-fits)
 --   packed-more   a digit more, as the code adds it
---   packed-bits   b bits of digit i, from bit r on
+--   packed-bits   b bits of digit i, from bit r on; the whole digit (packed-at)
+--   packed-self   a number is packed from its digits
+--   packed-times  a multiple of a packed number, by its digits
 --   stored        a list with n numbers stored from place p on, as long as before (length-stored)
 --   stored-at     the numbers stored, and every other place as it was (stored-other)
 use mathlib.Core.Path.{_≡_, refl, sym, _∙_, ap, ap₂}
@@ -9,9 +11,9 @@ use mathlib.Core.Logic.{⊎-elim}
 use mathlib.Core.List.{List}
 use Prim.Native.Nat.{ℕ, zero, suc, _+_, _*_, _-_, _/_, _%_, _^_, _<_, _≤_}
 use native.Mathlib.Omega.{arith, ne-cases}
-use native.Mathlib.Nat.{not-suc-le-zero, mul-assoc, mul-le-mul-left, mul-le-mul-right, add-mul-div-right, add-mul-mod-self-right}
+use native.Mathlib.Nat.{not-suc-le-zero, mod-eq-of-lt, mul-assoc, mul-add, mul-le-mul-left, mul-le-mul-right, add-mul-div-right, add-mul-mod-self-right}
 use lib.ListN.{length, getD, set, length-set}
-use lib.Pow.{pow-add, pow-pos, pow-mono, high, shr-shr, shl-exact}
+use lib.Pow.{pow-add, pow-pos, pow-mono, high, shr-shr, shl-exact, mod-pow-add}
 use lib.Seq.{getD-set-same, getD-set-other}
 use Rattle.cells.proofs.Places.{same?}
 use Rattle.cells.proofs.Parts.{within}
@@ -65,6 +67,31 @@ module _ (w : ℕ) (f : ℕ → ℕ) (f-less : (i : ℕ) → f i < 2 ^ w) where
       let s : w * n ≡ t + b + (w * i + r) = omega (arith, within w i n k) in
       ap (λ (z : ℕ). (p + f n * 2 ^ z) / 2 ^ (w * i + r) % 2 ^ b) s ∙ bits-below p (f n) (w * i + r) b t ∙ packed-bits n i r b k l)
       (same? i n)
+
+  -- digit i
+  pub packed-at : (n i : ℕ) → i < n → packedOf w f n / 2 ^ (w * i) % 2 ^ w ≡ f i
+  packed-at n i h =
+      let z : w * i + 0 ≡ w * i = omega arith in
+      let y : f i / 1 ≡ f i = omega arith in
+      ap (λ (k : ℕ). packedOf w f n / 2 ^ k % 2 ^ w) (sym z)
+      ∙ packed-bits n i 0 w h (omega arith)
+      ∙ ap (λ (x : ℕ). x % 2 ^ w) y
+      ∙ mod-eq-of-lt (f-less i)
+
+-- a number is packed from its digits
+pub packed-self : (w x n : ℕ) → packedOf w (λ i. x / 2 ^ (w * i) % 2 ^ w) n ≡ x % 2 ^ (w * n)
+unfolding packedOf
+packed-self w x zero = let e : w * 0 ≡ 0 = omega arith in rw e (omega arith)
+packed-self w x (suc n) =
+    let e : w * suc n ≡ w + w * n = omega arith in
+    rw (e, mod-pow-add x w (w * n)) (omega (arith, packed-self w x n))
+
+-- a multiple of a packed number
+pub packed-times : (w k : ℕ) (f : ℕ → ℕ) (n : ℕ) → k * packedOf w f n ≡ packedOf w (λ i. k * f i) n
+unfolding packedOf
+packed-times w k f zero = omega arith
+packed-times w k f (suc n) =
+    mul-add k (packedOf w f n) (f n * 2 ^ (w * n)) ∙ ap₂ _+_ (packed-times w k f n) (sym (mul-assoc k (f n) (2 ^ (w * n))))
 
 -- STORES of n numbers, from place p on
 unfoldable pub stored : List ℕ → ℕ → (ℕ → ℕ) → ℕ → List ℕ

@@ -200,7 +200,7 @@ module _ (strip : List ℕ) (bytes : (i : ℕ) → getD strip i 0 < 256) (q : �
   bits-less = rw bits-number (number-less 48 _ (λ i. bit-bound strip (48 * q + i)))
 
   -- a bit of the six bits of stage i
-  pub six-bit : (i r : ℕ) → i < 8 → r < 6 → bitsAt strip q / 2 ^ (6 * i) % 64 / 2 ^ r % 2 ≡ bitOf strip (48 * q + (6 * i + r))
+  six-bit : (i r : ℕ) → i < 8 → r < 6 → bitsAt strip q / 2 ^ (6 * i) % 64 / 2 ^ r % 2 ≡ bitOf strip (48 * q + (6 * i + r))
   six-bit i r h l =
       let y = bitsAt strip q / 2 ^ (6 * i) in
       let g : 5 - r + 1 + r ≡ 6 = omega arith in

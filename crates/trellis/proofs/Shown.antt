@@ -1,6 +1,6 @@
 -- WORDS OF CELLS, three bits a cell: what the operations on words do to each cell, and that the program's word of a block shows what is
 -- wanted of its cells.
---   shown-less, shown-bit    what is shown of a cell is three bits, those of the cell raised
+--   shown-bit                what is shown of a cell is the bits of the cell raised
 --   cell-bit                 the bits of a cell of a word; its operations work on each cell apart (cell-and, cell-or, cell-xor)
 --   lowest, others           the words that the program has as constants, and the starts of sixteen cells (startWords)
 --   onward-moves             how the program moves marks
@@ -16,58 +16,31 @@ use native.Mathlib.Omega.{arith}
 use native.Mathlib.Nat.{mod-lt, mod-eq-of-lt, div-eq-of-lt, mul-le-mul-left, zero-lt-suc}
 use lib.Bits.{bitAnd, bitOr, bitXor, and-shr, and-mod, or-shr, or-mod, xor-shr, xor-mod, and-mask, xor-lt, xor-add-and, and-le-r}
 use lib.Dec.{ltb}
-use lib.ListN.{getD, set}
-use lib.Pow.{pow-mono, shr-shr, mod-pow-add, mod-mod-pow}
+use lib.ListN.{getD}
+use lib.Pow.{pow-mono, shr-shr, mod-mod-pow}
 use borrow.Author.Tests.{ltb-true, ltb-false}
 use Rattle.cells.specs.Places.{number}
 use Rattle.cells.specs.Raising.{startOf, zeroFrom, raise, raisedTimes}
-use Rattle.cells.proofs.Places.{same?, number-less}
+use Rattle.cells.proofs.Places.{same?}
 use Rattle.cells.proofs.Bytes.{number-bit, cases8}
+use Rattle.cells.proofs.Raising.{raised-bit}
 use Rattle.codes.proofs.Taps.{low-bit}
 use Rattle.codes.proofs.Divisions.{xor-bit}
 use Rattle.trellis.specs.Rows.{onesOf, packedOf}
 use Rattle.trellis.specs.Carrying.{shownCell, cellIn, wantedPair, wantedBits, CellBits, Onward, BlockShown}
-use Rattle.trellis.proofs.Digits.{packed-bits, packed-fits}
+use Rattle.trellis.proofs.Digits.{packed-fits, packed-bits, packed-at, packed-self, packed-times}
 
--- CELLS. A place of some bits set to 1 leaves bits
-set-bits : (l : List ℕ) (k : ℕ) → ((i : ℕ) → getD l i 0 < 2) → (i : ℕ) → getD (set l k 1) i 0 < 2
-set-bits [] k b i = b i
-set-bits (x ∷ l) zero b zero = omega arith
-set-bits (x ∷ l) zero b (suc i) = b (suc i)
-set-bits (x ∷ l) (suc k) b zero = b zero
-set-bits (x ∷ l) (suc k) b (suc i) = set-bits l k (λ i. b (suc i)) i
-
--- and so do raises
-raised-bits : (s n : ℕ) (l : List ℕ) → ((i : ℕ) → getD l i 0 < 2) → (i : ℕ) → getD (raisedTimes s n l) i 0 < 2
-unfolding raisedTimes raise
-raised-bits s zero l b = b
-raised-bits s (suc n) l b = set-bits (raisedTimes s n l) (zeroFrom s (raisedTimes s n l)) (raised-bits s n l b)
-
--- the three bits of a number
+-- WHAT IS SHOWN of a cell, by its three bits
 abbrev pub threeBits : ℕ → List ℕ
 threeBits x = x % 2 ∷ x / 2 % 2 ∷ x / 4 % 2 ∷ []
 
--- are bits
-threeBits-small : (x i : ℕ) → getD (threeBits x) i 0 < 2
-threeBits-small x zero = mod-lt _ (zero-lt-suc 1)
-threeBits-small x (suc zero) = mod-lt _ (zero-lt-suc 1)
-threeBits-small x (suc (suc zero)) = mod-lt _ (zero-lt-suc 1)
-threeBits-small x (suc (suc (suc i))) = omega arith
-
-module _ (s x v : ℕ) where
-  -- a cell that is to show a bit is left with bits
-  shown-raised-bits : (i : ℕ) → getD (raisedTimes s ((onesOf x + v) % 2) (threeBits x)) i 0 < 2
-  shown-raised-bits = raised-bits s ((onesOf x + v) % 2) (threeBits x) (threeBits-small x)
-
-  -- what is shown is three bits
-  pub shown-less : shownCell s x v < 8
-  unfolding shownCell
-  shown-less = number-less 3 _ shown-raised-bits
-
-  -- those of the cell raised
-  pub shown-bit : (r : ℕ) → r < 3 → shownCell s x v / 2 ^ r % 2 ≡ getD (raisedTimes s ((onesOf x + v) % 2) (threeBits x)) r 0
-  unfolding shownCell
-  shown-bit r h = number-bit 3 _ (λ i l. shown-raised-bits i) r h
+-- is the bits of the cell raised
+pub shown-bit : (s x v r : ℕ) → r < 3 → shownCell s x v / 2 ^ r % 2 ≡ getD (raisedTimes s ((onesOf x + v) % 2) (threeBits x)) r 0
+unfolding shownCell
+shown-bit s x v r h = number-bit 3 _ (λ i l. raised-bit s ((onesOf x + v) % 2) (bit x) (bit (x / 2)) (bit (x / 4)) i) r h
+  where
+    bit : (y : ℕ) → y % 2 < 2
+    bit y = mod-lt y (zero-lt-suc 1)
 
 -- CELLS OF A WORD. The bits of a cell are three of the word's
 pub cell-bit : (word j r : ℕ) → r < 3 → cellIn word j / 2 ^ r % 2 ≡ word / 2 ^ (3 * j + r) % 2
@@ -103,33 +76,18 @@ module _ (a b j : ℕ) where
 -- cell j of a word that is packed from cells
 cell-packed : (f : ℕ → ℕ) → ((i : ℕ) → f i < 8) → (n j : ℕ) → j < n → cellIn (packedOf 3 f n) j ≡ f j
 unfolding cellIn
-cell-packed f less n j h =
-    let z : 3 * j + 0 ≡ 3 * j = omega arith in
-    let y : f j / 1 ≡ f j = omega arith in
-    ap (λ (k : ℕ). packedOf 3 f n / 2 ^ k % 8) (sym z)
-    ∙ packed-bits 3 f less n j 0 3 h (omega arith)
-    ∙ ap (λ (x : ℕ). x % 8) y
-    ∙ mod-eq-of-lt (less j)
+cell-packed f less n j h = packed-at 3 f less n j h
 
 -- a word is packed from its cells
 word-cells : (word n : ℕ) → packedOf 3 (cellIn word) n ≡ word % 2 ^ (3 * n)
-unfolding packedOf cellIn
-word-cells word zero = omega arith
-word-cells word (suc n) =
-    let e : 3 * suc n ≡ 3 + 3 * n = omega arith in
-    rw (e, mod-pow-add word 3 (3 * n)) (omega (arith, word-cells word n))
-
--- a multiple of a packed word
-packed-times : (k : ℕ) (f : ℕ → ℕ) (n : ℕ) → k * packedOf 3 f n ≡ packedOf 3 (λ i. k * f i) n
-unfolding packedOf
-packed-times k f zero = omega arith
-packed-times k f (suc n) = omega (arith, packed-times k f n)
+unfolding cellIn
+word-cells word n = packed-self 3 word n
 
 -- a word of bits, times seven: three ones in each cell that has a one
 cell-seven : (word : ℕ) → CellBits word → (j : ℕ) → j < 16 → cellIn (7 * word) j ≡ 7 * cellIn word j
 cell-seven word w j h =
     ap (λ (x : ℕ). cellIn (7 * x) j) (sym (word-cells word 16 ∙ mod-eq-of-lt (w .less)))
-    ∙ ap (λ (x : ℕ). cellIn x j) (packed-times 7 (cellIn word) 16)
+    ∙ ap (λ (x : ℕ). cellIn x j) (packed-times 3 7 (cellIn word) 16)
     ∙ cell-packed (λ i. 7 * cellIn word i) (λ i. omega (arith, w .bit i)) 16 j h
 
 -- 48 bits are such a word where each of the sixteen cells is 0 or 1
@@ -151,7 +109,7 @@ others = packedOf 3 (λ j. 6) 16
 abbrev startsFrom : ℕ → ℕ
 startsFrom s = packedOf 3 (λ j. 2 ^ ((s + j) % 3)) 16
 
-abbrev pub startWords : List ℕ
+abbrev startWords : List ℕ
 startWords = startsFrom 0 ∷ startsFrom 1 ∷ startsFrom 2 ∷ []
 
 -- a cell of each
@@ -357,7 +315,7 @@ each-risen (suc (suc zero)) (suc (suc v)) h k = absurd (let z : ⊥ = omega arit
 each-risen (suc (suc (suc s))) v h k = absurd (let z : ⊥ = omega arith in z)
 
 -- A BLOCK so made: the first marks, on the starts of the cells that are raised
-abbrev pub firstMarks : (q bits wanted : ℕ) → ℕ
+abbrev firstMarks : (q bits wanted : ℕ) → ℕ
 firstMarks q bits wanted = bitAnd (7 * raises bits wanted) (getD startWords (q % 3) 0)
 
 module _ (q bits wanted : ℕ) (w : CellBits wanted) {second third : ℕ} (a : Onward (bitAnd bits (firstMarks q bits wanted)) second)
