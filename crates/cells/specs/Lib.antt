@@ -2,5 +2,6 @@
 pub mod Places
 pub mod Bytes
 pub mod Levels
+pub mod Marks
 pub mod Raising
 pub mod Climbs

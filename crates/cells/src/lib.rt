@@ -15,7 +15,7 @@ ghost use Rattle.cells.specs.Climbs.{house, weightOf, climb};
 const HOUSE_WEIGHTS: [u8; 3] = [16, 20, 28];
 
 // Byte i, and 0 past the end.
-fn byte(bytes: &[u8], i: usize) -> u32
+pub fn byte(bytes: &[u8], i: usize) -> u32
     ensures { λ r. ⌜ (r ≡ getD (now (bytes .entry)) i 0) × (r < 256) ⌝ }
 {
     if i < bytes.len() { bytes[i] as u32 } else { 0 }

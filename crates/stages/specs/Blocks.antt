@@ -13,9 +13,9 @@ use mathlib.Core.Path.{_≡_}
 use lib.ListN.{length, getD}
 use Rattle.stages.specs.Stage.{top, stageOf}
 
--- the row of stage i: 32 rows are in use
+-- the row of stage i: 64 rows are in use
 unfoldable pub pickAt : ℕ → ℕ → ℕ
-pickAt picks i = picks / 2 ^ (8 * i) % 32
+pickAt picks i = picks / 2 ^ (8 * i) % 64
 
 -- 1 where the first code bit of the word j is not `low`
 unfoldable pub flagOf : ℕ → ℕ → ℕ

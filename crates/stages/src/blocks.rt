@@ -90,8 +90,8 @@ fn at_stage(bit: u32, i: u32) -> u32
 
 // The prices of a row for stage i of eight, in 256ths. A word whose first code bit is not the row's costs a little more, at the stage's
 // own bit of the low byte: so a tie goes to the other word, and the bit says afterwards which was taken.
-fn marked(rows: &[u32; 128], row: usize, i: u32) -> [u32; 4]
-    requires { ⌜ (row < 32) × (i < 8) × ((k : ℕ) → getD (now rows) k 0 ≤ top) ⌝ }
+fn marked(rows: &[u32; 256], row: usize, i: u32) -> [u32; 4]
+    requires { ⌜ (row < 64) × (i < 8) × ((k : ℕ) → getD (now rows) k 0 ≤ top) ⌝ }
     ensures { λ r. ⌜ ((j : ℕ) → j ≤ 3 → getD r j 0 ≡ markedOf (now (rows .entry)) row (7 - i) j) ⌝ }
     ensures { λ r. ⌜ ((j : ℕ) → getD r j 0 ≤ top + 128) ⌝ }
 {
@@ -109,7 +109,7 @@ fn marked(rows: &[u32; 128], row: usize, i: u32) -> [u32; 4]
 
 // Eight stages of the long code, the last first. The table is a constant here, where the stage is compiled into it: lent from further
 // out, the compiler no longer makes masks of it.
-fn run_long(costs: &mut [u32; 64], rows: &[u32; 128], picks: u64)
+fn run_long(costs: &mut [u32; 64], rows: &[u32; 256], picks: u64)
     requires { ⌜ RunAsked (now costs) (now rows) ⌝ }
     ensures { λ _. ⌜ Ran 64 (wordsOf long) (now (rows .entry)) picks (now (costs .entry)) (now (costs .exit)) ⌝ }
 {
@@ -117,14 +117,14 @@ fn run_long(costs: &mut [u32; 64], rows: &[u32; 128], picks: u64)
     let mut i: u32 = 8;
     while i > 0 {
         i -= 1;
-        let row = (picks >> (8 * i)) % 32;
+        let row = (picks >> (8 * i)) % 64;
         let prices = marked(rows, row as usize, i);
         stage(costs, &words, prices);
     }
 }
 
 // Eight stages of the short code: its four states are one vector.
-fn run_short(costs: &mut [u32; 64], rows: &[u32; 128], picks: u64)
+fn run_short(costs: &mut [u32; 64], rows: &[u32; 256], picks: u64)
     requires { ⌜ RunAsked (now costs) (now rows) ⌝ }
     ensures { λ _. ⌜ Ran 4 (wordsOf short) (now (rows .entry)) picks (now (costs .entry)) (now (costs .exit)) ⌝ }
 {
@@ -135,7 +135,7 @@ fn run_short(costs: &mut [u32; 64], rows: &[u32; 128], picks: u64)
     let mut i: u32 = 8;
     while i > 0 {
         i -= 1;
-        let row = (picks >> (8 * i)) % 32;
+        let row = (picks >> (8 * i)) % 64;
         let p = marked(rows, row as usize, i);
         let e = least(a + p[0], b + p[3]);
         let f = least(c + p[1], d + p[2]);
@@ -153,7 +153,7 @@ fn run_short(costs: &mut [u32; 64], rows: &[u32; 128], picks: u64)
 }
 
 // Eight stages of a code in place; byte i of picks is the row of stage i.
-pub fn run(code: Code, costs: &mut [u32; 64], rows: &[u32; 128], picks: u64)
+pub fn run(code: Code, costs: &mut [u32; 64], rows: &[u32; 256], picks: u64)
     requires { ⌜ RunAsked (now costs) (now rows) ⌝ }
     ensures { λ _. ⌜ Ran (2 ^ generatorsOf code .memory) (wordsOf (generatorsOf code))
         (now (rows .entry)) picks (now (costs .entry)) (now (costs .exit)) ⌝ }

@@ -35,7 +35,7 @@ use Rattle.search.specs.Plan.{solutionCost, way, costs, plan, play}
 use Rattle.search.specs.Numbered.{branchN, nextN}
 use Rattle.search.specs.Plain.{branchWord, branchPrice}
 use Rattle.search.specs.OneBit.{oneBitPrices}
-use Rattle.search.specs.Layouts.{dataBits, unmarked, stripCells, stagesOf, rewriteOf}
+use Rattle.search.specs.Layouts.{dataBits, stripCells, stagesOf, rewriteOf}
 use Rattle.search.proofs.Best.{some-none, joined-both}
 use Rattle.search.proofs.Plan.{play-shut}
 use Rattle.search.proofs.Plain.{plain-write}
@@ -57,21 +57,21 @@ one-less : (b : Bool) → one-if b < 2
 one-less b = omega (arith, one-if-le b)
 
 -- CARRYING OUT one stage, whose last digits come to the state s and the digit d
-module _ (G : Generators) (strip content : List ℕ) (u : ℕ → ℕ) (t s : ℕ) (d : Bool)
+module _ (G : Generators) (strip : List ℕ) (marks : ℕ → Bool) (content : List ℕ) (u : ℕ → ℕ) (t s : ℕ) (d : Bool)
     (e : windowOf (suc (G .memory)) u (suc t) ≡ 2 * s + one-if d) where
   -- the first cell of a stage comes to the level that the branch of its state and digit holds
-  carried-first : carriedTo G strip content u (2 * t) ≡ held (cellFor strip (2 * t)) (firstOf G (2 * s + one-if d))
+  carried-first : carriedTo G strip content u (2 * t) ≡ held (cellFor strip marks (2 * t)) (firstOf G (2 * s + one-if d))
   unfolding carriedTo wantedOf wantedFirst
   carried-first =
       let p : 2 * t % 2 ≡ 0 = omega arith in
       let q : 2 * t / 2 ≡ t = omega arith in
       rw (p, q, e)
       (ap (λ (v : ℕ). level strip (2 * t) + (level strip (2 * t) + v) % 2) (parity-number _ (2 * s + one-if d))
-      ∙ raised-held (cellFor strip (2 * t)) (firstOf G (2 * s + one-if d)))
+      ∙ raised-held (cellFor strip marks (2 * t)) (firstOf G (2 * s + one-if d)))
 
   -- and so does the second
   carried-second : carriedTo G strip content u (2 * t + 1)
-      ≡ held (cellFor strip (2 * t + 1)) (secondOf G (2 * s + one-if d) +₂ labelFor G content t)
+      ≡ held (cellFor strip marks (2 * t + 1)) (secondOf G (2 * s + one-if d) +₂ labelFor G content t)
   unfolding carriedTo wantedOf wantedSecond
   carried-second =
       let p : (2 * t + 1) % 2 ≡ 1 = omega arith in
@@ -79,22 +79,22 @@ module _ (G : Generators) (strip content : List ℕ) (u : ℕ → ℕ) (t s : �
       rw (p, q, e)
       (ap (λ (v : ℕ). level strip (2 * t + 1) + (level strip (2 * t + 1) + v) % 2)
       (ap₂ (λ (v x : ℕ). (v + x) % 2) (parity-number _ (2 * s + one-if d)) (label-told G content t) ∙ sum-bits _ _)
-      ∙ raised-held (cellFor strip (2 * t + 1)) (secondOf G (2 * s + one-if d) +₂ labelFor G content t))
+      ∙ raised-held (cellFor strip marks (2 * t + 1)) (secondOf G (2 * s + one-if d) +₂ labelFor G content t))
 
 -- THE PATH: the plan's states and digits from state 0
-module _ (G : Generators) (W strip content : List ℕ) (L : ℕ) where
+module _ (G : Generators) (W strip : List ℕ) (marks : ℕ → Bool) (content : List ℕ) (L : ℕ) where
   -- the stages after stage t, of L blocks
   abbrev after : ℕ → List Stage
-  after t = stagesFor G strip content (suc t) (8 * L - suc t)
+  after t = stagesFor G strip marks content (suc t) (8 * L - suc t)
 
   -- the plan's digit from the state s at stage t
   abbrev planned : ℕ → ℕ → Bool
-  planned t s = digitOf (wordsOf G) (quoteFor W) (nextFor G) (stageFor G strip content t) (after t) s
+  planned t s = digitOf (wordsOf G) (quoteFor W) (nextFor G) (stageFor G strip marks content t) (after t) s
 
   -- the state before stage t
   unfoldable pub pathState : ℕ → ℕ
   pathState zero = 0
-  pathState (suc t) = nextFor G (stageFor G strip content t) (pathState t) (planned t (pathState t))
+  pathState (suc t) = nextFor G (stageFor G strip marks content t) (pathState t) (planned t (pathState t))
 
   -- the digit of stage t
   unfoldable pub pathDigit : ℕ → ℕ
@@ -102,7 +102,7 @@ module _ (G : Generators) (W strip content : List ℕ) (L : ℕ) where
 
   -- 1 where its first code bit is not the one that wins ties
   unfoldable pathMiss : ℕ → ℕ
-  pathMiss t = missOf (wordsOf G) (quoteFor W) (nextFor G) (stageFor G strip content t) (pathState t) (planned t (pathState t))
+  pathMiss t = missOf (wordsOf G) (quoteFor W) (nextFor G) (stageFor G strip marks content t) (pathState t) (planned t (pathState t))
 
   -- a digit is 0 or 1
   digit-less : (t : ℕ) → pathDigit t < 2
@@ -122,49 +122,49 @@ module _ (G : Generators) (W strip content : List ℕ) (L : ℕ) where
   -- THE SOLUTION of the plan from stage t on
   abbrev onward : ℕ → Option Solution
   onward t =
-      play (branchN (encoderFor G) (parity-choice (stepsOf W))) (nextFor G) (stagesFor G strip content t (8 * L - t)) (pathState t)
+      play (branchN (encoderFor G) (parity-choice (stepsOf W))) (nextFor G) (stagesFor G strip marks content t (8 * L - t)) (pathState t)
       (plan (priceBy (wordsOf G) (quoteFor W) (nextFor G)) (tieBy (wordsOf G) (quoteFor W) (nextFor G)) (nextFor G)
-      (stagesFor G strip content t (8 * L - t)) (pathState t))
+      (stagesFor G strip marks content t (8 * L - t)) (pathState t))
 
 -- a stage is carried out as planned: the levels a are those of its two cells, and the plan's from the stage after it
-record Onward (G : Generators) (W strip content : List ℕ) (L t : ℕ) (a : Solution) : Type 0 where
+record Onward (G : Generators) (W strip : List ℕ) (marks : ℕ → Bool) (content : List ℕ) (L t : ℕ) (a : Solution) : Type 0 where
   rest : Solution
-  further : onward G W strip content L (suc t) ≡ some rest
+  further : onward G W strip marks content L (suc t) ≡ some rest
   carried : a .levels
-      ≡ carriedTo G strip content (pathDigit G W strip content L) (2 * t) ∷ carriedTo G strip content (pathDigit G W strip content L)
+      ≡ carriedTo G strip content (pathDigit G W strip marks content L) (2 * t) ∷ carriedTo G strip content (pathDigit G W strip marks content L)
       (2 * t + 1)
       ∷ rest .levels
 
 -- the plan from stage t on has a solution
-record Opened (G : Generators) (W strip content : List ℕ) (L t : ℕ) : Type 0 where
+record Opened (G : Generators) (W strip : List ℕ) (marks : ℕ → Bool) (content : List ℕ) (L t : ℕ) : Type 0 where
   found : Solution
-  is-found : onward G W strip content L t ≡ some found
+  is-found : onward G W strip marks content L t ≡ some found
 
-module _ (G : Generators) (W : List ℕ) (K : Suits G W) (strip content : List ℕ) (L : ℕ) where
+module _ (G : Generators) (W : List ℕ) (K : Suits G W) (strip : List ℕ) (marks : ℕ → Bool) (content : List ℕ) (L : ℕ) where
   -- the digits of the path
   abbrev u : ℕ → ℕ
-  u = pathDigit G W strip content L
+  u = pathDigit G W strip marks content L
 
   -- a stage is carried out as planned
-  onward-step : (t : ℕ) → t < 8 * L → (a : Solution) → onward G W strip content L t ≡ some a → Onward G W strip content L t a
+  onward-step : (t : ℕ) → t < 8 * L → (a : Solution) → onward G W strip marks content L t ≡ some a → Onward G W strip marks content L t a
   unfolding play plan stagesFrom pathState pathDigit digitOf
   onward-step t h a p =
       let z : 8 * L - t ≡ suc (8 * L - suc t) = omega arith in
-      let s : ℕ = pathState G W strip content L t in
-      let d : Bool = planned G W strip content L t s in
+      let s : ℕ = pathState G W strip marks content L t in
+      let d : Bool = planned G W strip marks content L t s in
       let b = joined-both _ _ a (rw z at p) in
-      let c = carried-first G strip content u t s d (path-newest G W strip content L t) in
-      let g = carried-second G strip content u t s d (path-newest G W strip content L t) in
+      let c = carried-first G strip marks content u t s d (path-newest G W strip marks content L t) in
+      let g = carried-second G strip marks content u t s d (path-newest G W strip marks content L t) in
       record {
         rest = b .second;
         further = b .right;
         carried = rw (c, g) (b .append ∙ ap (λ (l : List ℕ). l ++ b .second .levels)
-            (oneBit-held (G .memory) G (K .both) (stepsOf W) (cellFor strip (2 * t)) (cellFor strip (2 * t + 1)) (labelFor G content t) s d
+            (oneBit-held (G .memory) G (K .both) (stepsOf W) (cellFor strip marks (2 * t)) (cellFor strip marks (2 * t + 1)) (labelFor G content t) s d
             (b .first) (b .left)));
       }
 
   -- and so are all from stage t on, of which there are k
-  onward-carried : (k t : ℕ) → t + k ≡ 8 * L → (a : Solution) → onward G W strip content L t ≡ some a
+  onward-carried : (k t : ℕ) → t + k ≡ 8 * L → (a : Solution) → onward G W strip marks content L t ≡ some a
       → (c : ℕ) → c < 2 * k → carriedTo G strip content u (2 * t + c) ≡ levelAt (a .levels) c
   unfolding levelAt
   onward-carried zero t e a p c h = absurd (let z : ⊥ = omega arith in z)
@@ -177,25 +177,25 @@ module _ (G : Generators) (W : List ℕ) (K : Suits G W) (strip content : List �
 
   module _ (D : Dear (stepsOf W)) where
     -- THE WRITE. The plan from state 0 is the write
-    onward-write : onward G W strip content L 0 ≡ rewriteOf oneBit G W L strip unmarked content
+    onward-write : onward G W strip marks content L 0 ≡ rewriteOf oneBit G W L strip marks content
     unfolding stagesOf pathState
     onward-write =
         let z : 8 * L - 0 ≡ 8 * L = omega arith in
-        rw (z, ← (stages-are G strip content (K .both) L))
+        rw (z, ← (stages-are G strip marks content (K .both) L))
         (plain-write (encoderFor G) (parity-choice (stepsOf W)) (wordsOf G) (oneBitPrices (stepsOf W)) Pair
         (oneBit-quotes (G .memory) G (K .both) (stepsOf W))
-        (dataBits oneBit content) 2 (stageCount oneBit L) (stripCells oneBit L strip unmarked)
-        (rw (stages-are G strip content (K .both) L) (stages-pairs G strip content 0 (8 * L)))
-        ∙ oneBit-write (G .memory) G (suits-sound K) (omega arith) W D L strip unmarked content)
+        (dataBits oneBit content) 2 (stageCount oneBit L) (stripCells oneBit L strip marks)
+        (rw (stages-are G strip marks content (K .both) L) (stages-pairs G strip marks content 0 (8 * L)))
+        ∙ oneBit-write (G .memory) G (suits-sound K) (omega arith) W D L strip marks content)
 
     -- so what is carried out are its levels
-    carried-is : (a : Solution) → rewriteOf oneBit G W L strip unmarked content ≡ some a
+    carried-is : (a : Solution) → rewriteOf oneBit G W L strip marks content ≡ some a
         → (c : ℕ) → c < 16 * L → carriedTo G strip content u c ≡ levelAt (a .levels) c
     carried-is a e c h =
         let z : 2 * 0 + c ≡ c = omega arith in rw z at (onward-carried (8 * L) 0 (omega arith) a (onward-write ∙ e) c (omega arith))
 
     -- and along the plan every stage has a solution
-    opened : (a : Solution) → rewriteOf oneBit G W L strip unmarked content ≡ some a → (t : ℕ) → t ≤ 8 * L → Opened G W strip content L t
+    opened : (a : Solution) → rewriteOf oneBit G W L strip marks content ≡ some a → (t : ℕ) → t ≤ 8 * L → Opened G W strip marks content L t
     opened a e zero h = record { found = a; is-found = onward-write ∙ e }
     opened a e (suc t) h =
         let o = opened a e t (omega arith) in
@@ -203,14 +203,14 @@ module _ (G : Generators) (W : List ℕ) (K : Suits G W) (strip content : List �
         record { found = p .rest; is-found = p .further }
 
     -- so every state on it has a cost
-    pub path-open : (a : Solution) → rewriteOf oneBit G W L strip unmarked content ≡ some a → (t : ℕ) → t ≤ 8 * L
-        → costsFor G W (stagesFor G strip content t (8 * L - t)) (pathState G W strip content L t) ≡ none → ⊥
+    pub path-open : (a : Solution) → rewriteOf oneBit G W L strip marks content ≡ some a → (t : ℕ) → t ≤ 8 * L
+        → costsFor G W (stagesFor G strip marks content t (8 * L - t)) (pathState G W strip marks content L t) ≡ none → ⊥
     path-open a e t h f =
         let o = opened a e t h in
         some-none (o .found) (sym (o .is-found)
         ∙ play-shut (branchN (encoderFor G) (parity-choice (stepsOf W))) (nextFor G) (priceBy (wordsOf G) (quoteFor W) (nextFor G)) Pair
         (oneBit-quotes (G .memory) G (K .both) (stepsOf W) .priced)
-        (stages-pairs G strip content t (8 * L - t)) (pathState G W strip content L t) _ f)
+        (stages-pairs G strip marks content t (8 * L - t)) (pathState G W strip marks content L t) _ f)
 
     -- THE FIRST CODE BITS. A bit that misses another, added to it
     missed : (a b : Bool) → (one-if (not (Bool·beq a b)) + one-if a) % 2 ≡ one-if b
@@ -221,14 +221,14 @@ module _ (G : Generators) (W : List ℕ) (K : Suits G W) (strip content : List �
     missed false false = refl
 
     -- the misses and the bits that the first cells show make the first code bits
-    path-first : (t : ℕ) → (pathMiss G W strip content L t + firstBit (level strip) t) % 2
+    path-first : (t : ℕ) → (pathMiss G W strip marks content L t + firstBit (level strip) t) % 2
         ≡ parityOf (tapsOf (G .memory) (G .g1)) (windowOf (suc (G .memory)) u (suc t))
     unfolding pathMiss missOf firstBit oneBitPrices cellAt pathDigit
     path-first t =
-        let s : ℕ = pathState G W strip content L t in
-        let d : Bool = planned G W strip content L t s in
+        let s : ℕ = pathState G W strip marks content L t in
+        let d : Bool = planned G W strip marks content L t s in
         rw (
-          path-newest G W strip content L t,
+          path-newest G W strip marks content L t,
           mod-odd (level strip (2 * t)),
           word-by (G .memory) G (K .both) s d,
           word-odd G
@@ -237,19 +237,19 @@ module _ (G : Generators) (W : List ℕ) (K : Suits G W) (strip content : List �
         (missed (odd (level strip (2 * t))) (firstOf G (2 * s + one-if d)) ∙ sym (parity-number _ (2 * s + one-if d)))
 
     -- a miss is 0 or 1
-    miss-less : (t : ℕ) → pathMiss G W strip content L t < 2
+    miss-less : (t : ℕ) → pathMiss G W strip marks content L t < 2
     unfolding pathMiss missOf
     miss-less t = one-less _
 
     -- the trail of the first k stages is the window of their misses
     trail-window : (k t : ℕ) → t + k ≤ 8 * L
-        → trailFor G W k (stagesFor G strip content t (8 * L - t)) (pathState G W strip content L t) ≡ windowOf k
-        (pathMiss G W strip content L) (t + k)
+        → trailFor G W k (stagesFor G strip marks content t (8 * L - t)) (pathState G W strip marks content L t) ≡ windowOf k
+        (pathMiss G W strip marks content L) (t + k)
     unfolding trailOf stagesFrom pathState pathMiss
-    trail-window zero t h = omega (arith, window-less 0 (pathMiss G W strip content L) (t + 0))
+    trail-window zero t h = omega (arith, window-less 0 (pathMiss G W strip marks content L) (t + 0))
     trail-window (suc k) t h =
         let z : 8 * L - t ≡ suc (8 * L - suc t) = omega arith in
-        let m = pathMiss G W strip content L in
+        let m = pathMiss G W strip marks content L in
         let e : t + suc k ≡ suc t + k = omega arith in
         let one : windowOf 1 m (suc t) ≡ m t = window-suc m miss-less 0 t ∙ (let n = window-less 0 m t in omega (arith, n)) in
         rw (z, e)
@@ -258,12 +258,12 @@ module _ (G : Generators) (W : List ℕ) (K : Suits G W) (strip content : List �
         ∙ sym (window-parts m miss-less 1 k (suc t)) ∙ ap (λ (n : ℕ). windowOf n m (suc t + k)) (let n : 1 + k ≡ suc k = omega arith in n))
 
 -- THE PATH IS FOLLOWED: the trail that the history keeps and the bits of the first cells give the first code bits of each block
-path-followed : (G : Generators) (W : List ℕ) → Suits G W → Dear (stepsOf W) → (strip content : List ℕ) {lows history : List ℕ}
-    → Traced G W strip content history → Lows strip (length content) lows → (a : Solution) → writeOf G W strip content ≡ some a
-    → Followed G lows history (length content) (pathDigit G W strip content (length content))
-path-followed G W K D strip content {lows} {history} T B a e = record {
-  bits = digit-less G W strip content L;
-  gives = λ q h. rw (told q h) (windows-give (G .memory) (G .g1) u first (digit-less G W strip content L) first-less q (K .reach)
+path-followed : (G : Generators) (W : List ℕ) → Suits G W → Dear (stepsOf W) → (strip : List ℕ) (marks : ℕ → Bool) (content : List ℕ) {lows history : List ℕ}
+    → Traced G W strip marks content history → Lows strip (length content) lows → (a : Solution) → writeOf G W strip marks content ≡ some a
+    → Followed G lows history (length content) (pathDigit G W strip marks content (length content))
+path-followed G W K D strip marks content {lows} {history} T B a e = record {
+  bits = digit-less G W strip marks content L;
+  gives = λ q h. rw (told q h) (windows-give (G .memory) (G .g1) u first (digit-less G W strip marks content L) first-less q (K .reach)
       (λ t l. refl));
 }
   where
@@ -271,7 +271,7 @@ path-followed G W K D strip content {lows} {history} T B a e = record {
     L = length content
 
     u : ℕ → ℕ
-    u = pathDigit G W strip content L
+    u = pathDigit G W strip marks content L
 
     first : ℕ → ℕ
     first t = parityOf (tapsOf (G .memory) (G .g1)) (windowOf (suc (G .memory)) u (suc t))
@@ -280,24 +280,24 @@ path-followed G W K D strip content {lows} {history} T B a e = record {
     first-less t = parity-less (tapsOf (G .memory) (G .g1)) (windowOf (suc (G .memory)) u (suc t))
 
     kept : (q : ℕ) → q < L
-        → getD history (64 * q + windowOf (G .memory) u (8 * q)) 0 ≡ windowOf 8 (pathMiss G W strip content L) (8 * (q + 1))
+        → getD history (64 * q + windowOf (G .memory) u (8 * q)) 0 ≡ windowOf 8 (pathMiss G W strip marks content L) (8 * (q + 1))
     kept q h =
-        let s : ℕ = pathState G W strip content L (8 * q) in
+        let s : ℕ = pathState G W strip marks content L (8 * q) in
         let z : 8 * (L - q) ≡ 8 * L - 8 * q = omega arith in
         let y : 8 * (q + 1) ≡ 8 * q + 8 = omega arith in
-        let w : s ≡ windowOf (G .memory) u (8 * q) = path-window G W strip content L (8 * q) in
+        let w : s ≡ windowOf (G .memory) u (8 * q) = path-window G W strip marks content L (8 * q) in
         let l : s < 2 ^ G .memory = rw w (window-less (G .memory) u (8 * q)) in
-        let k : getD history (64 * q + s) 0 ≡ trailFor G W 8 (stagesFor G strip content (8 * q) (8 * L - 8 * q)) s =
-        rw z at (T .kept q h s l (rw z (path-open G W K strip content L D a e (8 * q) (omega arith)))) in
-        rw (← w, y) (k ∙ trail-window G W K strip content L D 8 (8 * q) (omega arith))
+        let k : getD history (64 * q + s) 0 ≡ trailFor G W 8 (stagesFor G strip marks content (8 * q) (8 * L - 8 * q)) s =
+        rw z at (T .kept q h s l (rw z (path-open G W K strip marks content L D a e (8 * q) (omega arith)))) in
+        rw (← w, y) (k ∙ trail-window G W K strip marks content L D 8 (8 * q) (omega arith))
 
     told : (q : ℕ) → q < L
         → bitXor (getD history (64 * q + windowOf (G .memory) u (8 * q)) 0) (getD lows q 0) ≡ windowOf 8 first (8 * (q + 1))
     told q h =
         ap₂ bitXor (kept q h) (B .shown q h)
-        ∙ xor-windows 8 (pathMiss G W strip content L) (firstBit (level strip)) (miss-less G W K strip content L D) (first-bound
+        ∙ xor-windows 8 (pathMiss G W strip marks content L) (firstBit (level strip)) (miss-less G W K strip marks content L D) (first-bound
         (level strip)) (8 * (q + 1))
-        ∙ ap (λ (f : ℕ → ℕ). windowOf 8 f (8 * (q + 1))) (fun-ext λ t. path-first G W K strip content L D t)
+        ∙ ap (λ (f : ℕ → ℕ). windowOf 8 f (8 * (q + 1))) (fun-ext λ t. path-first G W K strip marks content L D t)
 
 -- THE DIGITS. A window depends on the bits before its stage alone
 window-agree : (k : ℕ) (u v : ℕ → ℕ) (n : ℕ) → ((t : ℕ) → t < n → u t ≡ v t) → (t : ℕ) → t ≤ n → windowOf k u t ≡ windowOf k v t
@@ -326,57 +326,58 @@ digit-window u b n digits e t h =
     ap (λ (x : ℕ). x / 2 ^ (7 - t % 8) % 2) (e q l) ∙ window-byte u b q (7 - t % 8) p ∙ ap u z
 
 -- THE PLAN: the bytes of the digits that are followed
-pub followed-plans : {G : Generators} {W strip content lows history digits : List ℕ} → Suits G W → Dear (stepsOf W)
-    → Traced G W strip content history → Lows strip (length content) lows
+pub followed-plans : {G : Generators} {W strip : List ℕ} {marks : ℕ → Bool} {content lows history digits : List ℕ}
+    → Suits G W → Dear (stepsOf W)
+    → Traced G W strip marks content history → Lows strip (length content) lows
     → ((u : ℕ → ℕ) → Followed G lows history (length content) u → (q : ℕ) → q < length content
     → getD digits q 0 ≡ windowOf 8 u (8 * (q + 1)))
-    → Plans G W strip content digits
-followed-plans {G} {W} {strip} {content} {lows} {history} {digits} K D T B f = record {
+    → Plans G W strip marks content digits
+followed-plans {G} {W} {strip} {marks} {content} {lows} {history} {digits} K D T B f = record {
   leads = λ a e c h.
       let l : c < 16 * length content = rw (oneBit-cells (length content)) at h in
-      let v = pathDigit G W strip content (length content) in
+      let v = pathDigit G W strip marks content (length content) in
       carriedTo-same G strip content (digitIn digits) v (8 * length content)
-      (digit-window v (digit-less G W strip content (length content)) (length content) digits (f v
-      (path-followed G W K D strip content T B a e))) c (omega arith)
-      ∙ carried-is G W K strip content (length content) D a e c l;
+      (digit-window v (digit-less G W strip marks content (length content)) (length content) digits (f v
+      (path-followed G W K D strip marks content T B a e))) c (omega arith)
+      ∙ carried-is G W K strip marks content (length content) D a e c l;
 }
 
 -- THE PRICE of a word is at most two steps
-price-below : (G : Generators) (W : List ℕ) → Suits G W → (strip content : List ℕ) (t j : ℕ)
-    → Below 510 (quoteFor W (stageFor G strip content t) .of j)
+price-below : (G : Generators) (W : List ℕ) → Suits G W → (strip : List ℕ) (marks : ℕ → Bool) (content : List ℕ) (t j : ℕ)
+    → Below 510 (quoteFor W (stageFor G strip marks content t) .of j)
 unfolding oneBitPrices cellAt
-price-below G W K strip content t j =
-    below-add (below-told (price-told W (K .three) (K .bytes) (level strip (2 * t)) _ (level-bound strip (2 * t))))
-    (below-told (price-told W (K .three) (K .bytes) (level strip (2 * t + 1)) _ (level-bound strip (2 * t + 1))))
+price-below G W K strip marks content t j =
+    below-add (below-told (price-told W (K .three) (K .bytes) (level strip (2 * t)) (marks (2 * t)) _ (level-bound strip (2 * t))))
+    (below-told (price-told W (K .three) (K .bytes) (level strip (2 * t + 1)) (marks (2 * t + 1)) _ (level-bound strip (2 * t + 1))))
 
 -- THE COSTS of k stages are at most two steps a stage
-costs-below : (G : Generators) (W : List ℕ) → Suits G W → (strip content : List ℕ) (k t s : ℕ)
-    → Below (k * 510) (costsFor G W (stagesFor G strip content t k) s)
+costs-below : (G : Generators) (W : List ℕ) → Suits G W → (strip : List ℕ) (marks : ℕ → Bool) (content : List ℕ) (k t s : ℕ)
+    → Below (k * 510) (costsFor G W (stagesFor G strip marks content t k) s)
 unfolding costs stagesFrom way branchPrice
-costs-below G W K strip content zero t s = at-most {c = 0} (omega arith)
-costs-below G W K strip content (suc k) t s =
+costs-below G W K strip marks content zero t s = at-most {c = 0} (omega arith)
+costs-below G W K strip marks content (suc k) t s =
     let e : suc k * 510 ≡ 510 + k * 510 = omega arith in
     rw e (below-lesser
-    (below-add (price-below G W K strip content t (branchWord (wordsOf G) s false)) (costs-below G W K strip content k (suc t) _))
-    (below-add (price-below G W K strip content t (branchWord (wordsOf G) s true)) (costs-below G W K strip content k (suc t) _)))
+    (below-add (price-below G W K strip marks content t (branchWord (wordsOf G) s false)) (costs-below G W K strip marks content k (suc t) _))
+    (below-add (price-below G W K strip marks content t (branchWord (wordsOf G) s true)) (costs-below G W K strip marks content k (suc t) _)))
 
 -- WHAT A WRITE CANNOT DO: raise a cell by more than one
-module _ (G : Generators) (W : List ℕ) (K : Suits G W) (D : Dear (stepsOf W)) (L : ℕ) (strip content : List ℕ) (a : Solution)
-    (e : rewriteOf oneBit G W L strip unmarked content ≡ some a) where
+module _ (G : Generators) (W : List ℕ) (K : Suits G W) (D : Dear (stepsOf W)) (L : ℕ) (strip : List ℕ) (marks : ℕ → Bool) (content : List ℕ) (a : Solution)
+    (e : rewriteOf oneBit G W L strip marks content ≡ some a) where
   pub strip-near : (c : ℕ) → c < cellCount oneBit L → levelAt (a .levels) c ≤ suc (level strip c)
   unfolding carriedTo
   strip-near c h =
       let l : c < 16 * L = rw (oneBit-cells L) at h in
       omega (
         arith,
-        carried-is G W K strip content L D a e c l,
-        mod-lt (level strip c + wantedOf G content (pathDigit G W strip content L) c) (zero-lt-suc 1),
+        carried-is G W K strip marks content L D a e c l,
+        mod-lt (level strip c + wantedOf G content (pathDigit G W strip marks content L) c) (zero-lt-suc 1),
       )
 
   -- or cost as much as closed, where the strip has at most 512 stages
   pub write-below : L ≤ 64 → a .cost < closed
   unfolding solutionCost
   write-below most =
-      let b = costs-below G W K strip content (8 * L) 0 0 in
-      let c : Below (8 * L * 510) (some (a .cost)) = rw (cost-start G W K D L strip content, e) at b in
+      let b = costs-below G W K strip marks content (8 * L) 0 0 in
+      let c : Below (8 * L * 510) (some (a .cost)) = rw (cost-start G W K D L strip marks content, e) at b in
       below-some c (omega arith)

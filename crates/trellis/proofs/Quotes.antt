@@ -1,13 +1,14 @@
 -- THE ROWS: the table of prices, the rows that a block picks, and what they tell of its stages.
---   steps-le, steps-are         the steps of three weights of a byte each
+--   steps-le, steps-are         the steps of three weights of a byte each, and of marked cells
 --   price-nothing, price-step   what a cell costs to show a bit, in 256ths
 --   price-cut, table-filled     the price of a word, and the table of all
---   pairList, pairs-le          the program's table of pairs, none of them above 15
+--   pairList, pairs-le          the program's table of pairs, none of them above 63
 --   row-added, row-less         a row as the program adds it up, which is a byte
---   picks-are                   eight rows packed are picked one by one
+--   picks-are                   eight rows packed are picked one by one, counted round
 --   bits-bit, bits-less         the 48 bits of a block are bits of the strip
---   six-bit, pair-levels        six of them are a stage's, and give the levels of its two cells
---   row-price                   what a word of a row costs, by the row's levels and label
+--   marks-two                   two of its 16 marks are a stage's
+--   six-bit, pair-levels        six of its bits are a stage's, and give the levels of its two cells
+--   row-price                   what a word of a row costs, by the row's cells and label
 --   price-told                  the price of a bit tells the price of the plain search
 --   row-quoted                  THE MAIN LAW: the row that a block picks tells the prices of its stage, and the bit that wins a tie
 use mathlib.Core.Path.{_≡_, refl, sym, _∙_, ap, ap₂}
@@ -16,15 +17,16 @@ use mathlib.Core.List.{List, [], _∷_, _++_}
 use mathlib.Core.Option.{none, some}
 use Prim.Native.Nat.{ℕ, zero, suc, _+_, _-_, _*_, _/_, _%_, _^_, _<_, _≤_, min}
 use native.Mathlib.Omega.{arith}
-use native.Mathlib.Nat.{min-eq-left, min-eq-right, min-le-right}
+use native.Mathlib.Nat.{mod-lt, zero-lt-suc, min-eq-left, min-eq-right, min-le-right}
 use lib.Dec.{eqb, ltb}
-use lib.ListN.{length, getD, List·getD-append, List·getD-eq-default}
-use lib.Seq.{getD-at}
+use lib.ListN.{length, getD, replicate, getD-replicate, List·getD-append, List·getD-eq-default}
+use lib.Seq.{getD-append-add}
 use lib.Pow.{shr-shr, field, mod-mod-pow}
 use borrow.Author.Tests.{eq-eqb, ne-eqb, ltb-true, ltb-false, le-ltb}
 use Rattle.cells.specs.Places.{listOf, number}
 use Rattle.cells.specs.Bytes.{bitOf}
 use Rattle.cells.specs.Levels.{level}
+use Rattle.cells.specs.Marks.{marksIn}
 use Rattle.cells.specs.Climbs.{weightOf}
 use Rattle.cells.proofs.Places.{listOf-at, number-same, number-less}
 use Rattle.cells.proofs.Bytes.{bit-bound, number-bit, byte-bits}
@@ -33,7 +35,7 @@ use Rattle.codes.specs.Generators.{Generators}
 use Rattle.codes.specs.Sequences.{_+₂_, odd}
 use Rattle.codes.specs.Numbers.{one-if}
 use Rattle.codes.proofs.Numbers.{one-if-le, one-if-odd, sum-bits}
-use Rattle.search.specs.Strip.{stepsOf}
+use Rattle.search.specs.Strip.{Cell, stepsOf}
 use Rattle.search.specs.Search.{Stage}
 use Rattle.search.specs.Levels.{cellAt}
 use Rattle.search.specs.Parity.{keep-or-raise}
@@ -44,21 +46,26 @@ use Rattle.stages.specs.Stage.{closed, top}
 use Rattle.stages.specs.Blocks.{pickAt}
 use Rattle.stages.specs.Costs.{Tells, open-at, shut}
 use Rattle.stages.specs.Trails.{Quoted}
-use Rattle.trellis.specs.Rows.{stepList, priceFor, rowPrice, Table, Priced, onesOf, pairOf, stageRow, bitsAt, packedOf}
-use Rattle.trellis.specs.Ways.{labelFor, stageFor, quoteFor}
+use Rattle.trellis.specs.Rows.{stepList, priceFor, rowPrice, Table, Priced, onesOf, secondIn, pairOf, stageRow, bitsAt, marksAt, packedOf}
+use Rattle.trellis.specs.Ways.{labelFor, cellFor, stageFor, quoteFor}
 use Rattle.trellis.proofs.Costs.{tells-add, tells-cut}
 use Rattle.trellis.proofs.Digits.{packed-bits}
 
 -- PRICES. Where no weight is more than a byte, no step is more than closed
 pub steps-le : (W : List ℕ) → ((i : ℕ) → getD W i 0 ≤ 255) → (i : ℕ) → getD (stepList W) i 0 ≤ closed
 unfolding stepList
-steps-le [] h zero = omega arith
-steps-le [] h (suc i) = omega arith
+steps-le [] h i = getD-replicate-le 5 i
+  where
+    getD-replicate-le : (n i : ℕ) → getD (replicate n closed) i 0 ≤ closed
+    getD-replicate-le zero i = omega arith
+    getD-replicate-le (suc n) zero = omega arith
+    getD-replicate-le (suc n) (suc i) = getD-replicate-le n i
 steps-le (w ∷ W) h zero = omega (arith, h 0)
 steps-le (w ∷ W) h (suc i) = steps-le W (λ i. h (suc i)) i
 
 -- the three weights and closed are the steps
-pub steps-are : (W : List ℕ) → length W ≡ 3 → weightOf W 0 ∷ weightOf W 1 ∷ weightOf W 2 ∷ closed ∷ [] ≡ stepList W
+pub steps-are : (W : List ℕ) → length W ≡ 3
+    → weightOf W 0 ∷ weightOf W 1 ∷ weightOf W 2 ∷ closed ∷ closed ∷ closed ∷ closed ∷ closed ∷ [] ≡ stepList W
 unfolding stepList weightOf
 steps-are [] e = absurd (let z : ⊥ = omega arith in z)
 steps-are (a ∷ []) e = absurd (let z : ⊥ = omega arith in z)
@@ -92,8 +99,8 @@ cut-both x y = go (ltb (x + y) closed) refl
         rw (min-eq-right p, min-eq-right l)
 
 -- the price at place k by those of its two cells
-pub price-cut : (steps : List ℕ) (k x y : ℕ) → x ≡ 256 * priceFor steps (k / 4 % 4) (k % 2)
-    → y ≡ 256 * priceFor steps (k / 16 % 4) ((k / 2 + k / 64) % 2) → min (x + y) top ≡ 256 * rowPrice steps k
+pub price-cut : (steps : List ℕ) (k x y : ℕ) → x ≡ 256 * priceFor steps (k / 4 % 8) (k % 2)
+    → y ≡ 256 * priceFor steps (k / 32 % 4) ((k / 2 + k / 128) % 2) → min (x + y) top ≡ 256 * rowPrice steps k
 unfolding rowPrice
 price-cut steps k x y e f = rw (e, f) (cut-both _ _)
 
@@ -102,64 +109,80 @@ price-le : (steps : List ℕ) (k : ℕ) → rowPrice steps k ≤ closed
 unfolding rowPrice
 price-le steps k = min-le-right _ closed
 
--- 128 places that hold their prices are the table
-pub table-filled : (W steps rows : List ℕ) → steps ≡ stepList W → length rows ≡ 128
-    → ((k : ℕ) → k < 128 → getD rows k 0 ≡ 256 * rowPrice steps k) → Table W rows
+-- 256 places that hold their prices are the table
+pub table-filled : (W steps rows : List ℕ) → steps ≡ stepList W → length rows ≡ 256
+    → ((k : ℕ) → k < 256 → getD rows k 0 ≡ 256 * rowPrice steps k) → Table W rows
 table-filled W steps rows s e p = record {
   prices = λ k h. p k h ∙ ap (λ (l : List ℕ). 256 * rowPrice l k) s;
-  cut = λ k. go k (ltb k 128) refl;
+  cut = λ k. go k (ltb k 256) refl;
 }
   where
-    go : (k : ℕ) (b : Bool) → ltb k 128 ≡ b → getD rows k 0 ≤ top
-    go k true f = omega (arith, p k (ltb-true k 128 f), price-le steps k)
-    go k false f = let l : length rows ≤ k = omega (arith, ltb-false k 128 f) in omega (arith, List·getD-eq-default rows 0 l)
+    go : (k : ℕ) (b : Bool) → ltb k 256 ≡ b → getD rows k 0 ≤ top
+    go k true f = omega (arith, p k (ltb-true k 256 f), price-le steps k)
+    go k false f = let l : length rows ≤ k = omega (arith, ltb-false k 256 f) in omega (arith, List·getD-eq-default rows 0 l)
 
 -- THE PICKS. The program's table of pairs
 abbrev pub pairList : List ℕ
 pairList =
-    0 ∷ 1 ∷ 1 ∷ 2 ∷ 1 ∷ 2 ∷ 2 ∷ 3 ∷ 4 ∷ 5 ∷ 5 ∷ 6 ∷ 5 ∷ 6 ∷ 6 ∷ 7 ∷ 4 ∷ 5 ∷ 5 ∷ 6 ∷ 5 ∷ 6 ∷ 6 ∷ 7 ∷ 8 ∷ 9 ∷ 9 ∷ 10 ∷ 9 ∷ 10 ∷ 10 ∷ 11
-    ∷ 4 ∷ 5 ∷ 5 ∷ 6 ∷ 5 ∷ 6 ∷ 6 ∷ 7 ∷ 8 ∷ 9 ∷ 9 ∷ 10 ∷ 9 ∷ 10 ∷ 10 ∷ 11 ∷ 8 ∷ 9 ∷ 9 ∷ 10 ∷ 9 ∷ 10 ∷ 10 ∷ 11 ∷ 12 ∷ 13 ∷ 13 ∷ 14 ∷ 13 ∷ 14
-    ∷ 14 ∷ 15 ∷ []
+    0 ∷ 1 ∷ 1 ∷ 2 ∷ 1 ∷ 2 ∷ 2 ∷ 3 ∷ 8 ∷ 9 ∷ 9 ∷ 10 ∷ 9 ∷ 10 ∷ 10 ∷ 11 ∷ 8 ∷ 9 ∷ 9 ∷ 10 ∷ 9 ∷ 10 ∷ 10 ∷ 11 ∷ 16 ∷ 17 ∷ 17 ∷ 18 ∷ 17 ∷ 18
+    ∷ 18 ∷ 19 ∷ 8 ∷ 9 ∷ 9 ∷ 10 ∷ 9 ∷ 10 ∷ 10 ∷ 11 ∷ 16 ∷ 17 ∷ 17 ∷ 18 ∷ 17 ∷ 18 ∷ 18 ∷ 19 ∷ 16 ∷ 17 ∷ 17 ∷ 18 ∷ 17 ∷ 18 ∷ 18 ∷ 19 ∷ 24
+    ∷ 25 ∷ 25 ∷ 26 ∷ 25 ∷ 26 ∷ 26 ∷ 27 ∷ 4 ∷ 5 ∷ 5 ∷ 6 ∷ 5 ∷ 6 ∷ 6 ∷ 7 ∷ 12 ∷ 13 ∷ 13 ∷ 14 ∷ 13 ∷ 14 ∷ 14 ∷ 15 ∷ 12 ∷ 13 ∷ 13 ∷ 14 ∷ 13
+    ∷ 14 ∷ 14 ∷ 15 ∷ 20 ∷ 21 ∷ 21 ∷ 22 ∷ 21 ∷ 22 ∷ 22 ∷ 23 ∷ 12 ∷ 13 ∷ 13 ∷ 14 ∷ 13 ∷ 14 ∷ 14 ∷ 15 ∷ 20 ∷ 21 ∷ 21 ∷ 22 ∷ 21 ∷ 22 ∷ 22 ∷ 23
+    ∷ 20 ∷ 21 ∷ 21 ∷ 22 ∷ 21 ∷ 22 ∷ 22 ∷ 23 ∷ 28 ∷ 29 ∷ 29 ∷ 30 ∷ 29 ∷ 30 ∷ 30 ∷ 31 ∷ 56 ∷ 57 ∷ 57 ∷ 58 ∷ 57 ∷ 58 ∷ 58 ∷ 59 ∷ 24 ∷ 25 ∷ 25
+    ∷ 26 ∷ 25 ∷ 26 ∷ 26 ∷ 27 ∷ 24 ∷ 25 ∷ 25 ∷ 26 ∷ 25 ∷ 26 ∷ 26 ∷ 27 ∷ 56 ∷ 57 ∷ 57 ∷ 58 ∷ 57 ∷ 58 ∷ 58 ∷ 59 ∷ 24 ∷ 25 ∷ 25 ∷ 26 ∷ 25 ∷ 26
+    ∷ 26 ∷ 27 ∷ 56 ∷ 57 ∷ 57 ∷ 58 ∷ 57 ∷ 58 ∷ 58 ∷ 59 ∷ 56 ∷ 57 ∷ 57 ∷ 58 ∷ 57 ∷ 58 ∷ 58 ∷ 59 ∷ 24 ∷ 25 ∷ 25 ∷ 26 ∷ 25 ∷ 26 ∷ 26 ∷ 27 ∷ 60
+    ∷ 61 ∷ 61 ∷ 62 ∷ 61 ∷ 62 ∷ 62 ∷ 63 ∷ 28 ∷ 29 ∷ 29 ∷ 30 ∷ 29 ∷ 30 ∷ 30 ∷ 31 ∷ 28 ∷ 29 ∷ 29 ∷ 30 ∷ 29 ∷ 30 ∷ 30 ∷ 31 ∷ 60 ∷ 61 ∷ 61 ∷ 62
+    ∷ 61 ∷ 62 ∷ 62 ∷ 63 ∷ 28 ∷ 29 ∷ 29 ∷ 30 ∷ 29 ∷ 30 ∷ 30 ∷ 31 ∷ 60 ∷ 61 ∷ 61 ∷ 62 ∷ 61 ∷ 62 ∷ 62 ∷ 63 ∷ 60 ∷ 61 ∷ 61 ∷ 62 ∷ 61 ∷ 62 ∷ 62
+    ∷ 63 ∷ 28 ∷ 29 ∷ 29 ∷ 30 ∷ 29 ∷ 30 ∷ 30 ∷ 31 ∷ []
 
--- it has the levels of two cells by their six bits
-pairs-are : (x : ℕ) → getD pairList (x % 64) 0 ≡ pairOf (x % 64)
-unfolding listOf pairOf onesOf
-pairs-are x = listOf-at 64 pairOf (x % 64) 0 (omega arith)
+-- it has the cells of a stage by their six bits and two marks
+pairs-are : (x m : ℕ) → getD pairList (x % 64 + 64 * (m % 4)) 0 ≡ pairOf (x % 64) (m % 4)
+unfolding listOf pairOf onesOf secondIn
+pairs-are x m =
+    let h : x % 64 + 64 * (m % 4) < 256 = omega arith in
+    let a : (x % 64 + 64 * (m % 4)) % 64 ≡ x % 64 = omega arith in
+    let b : (x % 64 + 64 * (m % 4)) / 64 ≡ m % 4 = omega arith in
+    listOf-at 256 (λ k. pairOf (k % 64) (k / 64)) (x % 64 + 64 * (m % 4)) 0 h ∙ ap₂ pairOf a b
 
 -- a cell has at most three ones
 ones-le : (x : ℕ) → onesOf x ≤ 3
 unfolding onesOf
 ones-le x = omega arith
 
--- so two have at most 15
-pub pairs-le : (x : ℕ) → getD pairList (x % 64) 0 ≤ 15
+-- a second cell adds at most 56
+second-le : (l m : ℕ) → l ≤ 3 → secondIn l m ≤ 56
+unfolding secondIn
+second-le l zero h = omega arith
+second-le l (suc m) h = omega arith
+
+-- so a pair is at most 63
+pub pairs-le : (x m : ℕ) → getD pairList (x % 64 + 64 * (m % 4)) 0 ≤ 63
 unfolding pairOf
-pairs-le x = rw (pairs-are x) (omega (arith, ones-le (x % 64), ones-le (x % 64 / 8)))
+pairs-le x m =
+    rw (pairs-are x m) (omega (arith, ones-le (x % 64), second-le (onesOf (x % 64 / 8)) (m % 4 / 2) (ones-le (x % 64 / 8))))
 
-module _ (bits labels i : ℕ) where
+module _ (bits marks labels i : ℕ) where
   -- the row of stage i, as the program adds it up
-  pub row-added : getD pairList (bits / 2 ^ (6 * i) % 64) 0 + labels / 2 ^ (7 - i) % 2 * 16 ≡ stageRow bits labels i
+  pub row-added : getD pairList (bits / 2 ^ (6 * i) % 64 + 64 * (marks / 2 ^ (2 * i) % 4)) 0 + labels / 2 ^ (7 - i) % 2 * 32
+      ≡ stageRow bits marks labels i
   unfolding stageRow
-  row-added = rw (pairs-are (bits / 2 ^ (6 * i)))
+  row-added = rw (pairs-are (bits / 2 ^ (6 * i)) (marks / 2 ^ (2 * i)))
 
-  -- it is at most 31
-  row-most : stageRow bits labels i ≤ 31
-  row-most =
+  -- it is a byte
+  pub row-less : stageRow bits marks labels i < 2 ^ 8
+  row-less =
       let b : labels / 2 ^ (7 - i) % 2 ≤ 1 = omega arith in
-      omega (arith, row-added, pairs-le (bits / 2 ^ (6 * i)))
+      omega (arith, row-added, pairs-le (bits / 2 ^ (6 * i)) (marks / 2 ^ (2 * i)))
 
-  -- so it is a byte
-  pub row-less : stageRow bits labels i < 2 ^ 8
-  row-less = omega (arith, row-most)
-
--- eight rows packed are picked one by one
-pub picks-are : (bits labels picks : ℕ) → picks ≡ packedOf 8 (stageRow bits labels) 8 → (i : ℕ) → i < 8
-    → pickAt picks i ≡ stageRow bits labels i
+-- eight rows packed are picked one by one, counted round
+pub picks-are : (bits marks labels picks : ℕ) → picks ≡ packedOf 8 (stageRow bits marks labels) 8 → (i : ℕ) → i < 8
+    → pickAt picks i ≡ stageRow bits marks labels i % 64
 unfolding pickAt
-picks-are bits labels picks p i h =
+picks-are bits marks labels picks p i h =
     let z : 8 * i + 0 ≡ 8 * i = omega arith in
-    let e = packed-bits 8 (stageRow bits labels) (row-less bits labels) 8 i 0 5 h (omega arith) in
-    rw p (rw z at e ∙ omega (arith, row-most bits labels i))
+    let y : stageRow bits marks labels i / 2 ^ 0 ≡ stageRow bits marks labels i = omega arith in
+    let e = packed-bits 8 (stageRow bits marks labels) (row-less bits marks labels) 8 i 0 6 h (omega arith) in
+    rw p (rw (z, y) at e)
 
 -- THE BITS. 48 bits are six bytes
 six-bytes : (f : ℕ → ℕ) → number 48 f
@@ -210,10 +233,11 @@ module _ (strip : List ℕ) (bytes : (i : ℕ) → getD strip i 0 < 256) (q : �
       ∙ ap (λ (k : ℕ). k % 2) (shr-shr (bitsAt strip q) (6 * i) r)
       ∙ bits-bit (6 * i + r) (omega arith)
 
-  -- the pair of stage i is the levels of its two cells
-  pub pair-levels : (i : ℕ) → i < 8
-      → pairOf (bitsAt strip q / 2 ^ (6 * i) % 64) ≡ level strip (2 * (8 * q + i)) + 4 * level strip (2 * (8 * q + i) + 1)
-  unfolding pairOf onesOf level
+  -- the ones of its six bits are the levels of its two cells
+  pair-levels : (i : ℕ) → i < 8
+      → (onesOf (bitsAt strip q / 2 ^ (6 * i) % 64) ≡ level strip (2 * (8 * q + i)))
+      × (onesOf (bitsAt strip q / 2 ^ (6 * i) % 64 / 8) ≡ level strip (2 * (8 * q + i) + 1))
+  unfolding onesOf level
   pair-levels i h =
       let x = bitsAt strip q / 2 ^ (6 * i) % 64 in
       let c = 2 * (8 * q + i) in
@@ -228,20 +252,81 @@ module _ (strip : List ℕ) (bytes : (i : ℕ) → getD strip i 0 < 256) (q : �
       let z0 : x % 2 ≡ x / 2 ^ 0 % 2 = omega arith in
       let z3 : x / 8 / 2 ≡ x / 16 = omega arith in
       let z4 : x / 8 / 4 ≡ x / 32 = omega arith in
-      ap₂ (λ (m n : ℕ). m + 4 * n) (ap₂ _+_ (ap₂ _+_ (z0 ∙ b0) b1) b2)
-      (ap₂ _+_ (ap₂ _+_ b3 (ap (λ (k : ℕ). k % 2) z3 ∙ b4)) (ap (λ (k : ℕ). k % 2) z4 ∙ b5))
+      (
+        ap₂ _+_ (ap₂ _+_ (z0 ∙ b0) b1) b2,
+        ap₂ _+_ (ap₂ _+_ b3 (ap (λ (k : ℕ). k % 2) z3 ∙ b4)) (ap (λ (k : ℕ). k % 2) z4 ∙ b5),
+      )
+
+-- THE MARKS. A bit of the map says whether the cell is marked
+mark-bit : (map : List ℕ) (c : ℕ) → bitOf map c ≡ one-if (marksIn map c)
+unfolding marksIn one-if
+mark-bit map c = go (bitOf map c) (bit-bound map c)
+  where
+    go : (b : ℕ) → b < 2 → b ≡ one-if (eqb b 1)
+    go zero h = refl
+    go (suc zero) h = refl
+    go (suc (suc b)) h = absurd (let z : ⊥ = omega arith in z)
+
+-- two marks of a block are those of stage i
+module _ (map : List ℕ) (bytes : (i : ℕ) → getD map i 0 < 256) (q : ℕ) where
+  -- 16 marks as one number
+  marks-number : marksAt map q ≡ number 16 (λ j. bitOf map (16 * q + j))
+  unfolding marksAt number
+  marks-number =
+      let z : 2 * q + 0 ≡ 2 * q = omega arith in
+      omega (arith, two-bytes (λ j. bitOf map (16 * q + j)), byte 0 ∙ ap (λ (k : ℕ). getD map k 0) z, byte 1)
+    where
+      two-bytes : (f : ℕ → ℕ) → number 16 f ≡ number 8 (λ i. f (8 * 0 + i)) + number 8 (λ i. f (8 * 1 + i)) * 256
+      two-bytes f = omega arith
+
+      byte : (k : ℕ) → number 8 (λ i. bitOf map (16 * q + (8 * k + i))) ≡ getD map (2 * q + k) 0
+      byte k =
+          number-same 8 _ _ (λ i l. ap (bitOf map) (let e : 16 * q + (8 * k + i) ≡ 8 * (2 * q + k) + i = omega arith in e))
+          ∙ byte-bits map (2 * q + k) (bytes (2 * q + k))
+
+  -- a mark of the block
+  marks-bit : (j : ℕ) → j < 16 → marksAt map q / 2 ^ j % 2 ≡ bitOf map (16 * q + j)
+  marks-bit j h = rw marks-number (number-bit 16 (λ j. bitOf map (16 * q + j)) (λ i l. bit-bound map (16 * q + i)) j h)
+
+  -- of stage i
+  marks-two : (i : ℕ) → i < 8 → marksAt map q / 2 ^ (2 * i) % 4 ≡ one-if (marksIn map (2 * (8 * q + i))) + 2 * one-if
+      (marksIn map (2 * (8 * q + i) + 1))
+  marks-two i h =
+      let x = marksAt map q / 2 ^ (2 * i) in
+      let c = 2 * (8 * q + i) in
+      let e0 : 16 * q + 2 * i ≡ c = omega arith in
+      let e1 : 16 * q + (2 * i + 1) ≡ c + 1 = omega arith in
+      let a : x % 2 ≡ bitOf map c = marks-bit (2 * i) (omega arith) ∙ ap (bitOf map) e0 in
+      let b : x / 2 % 2 ≡ bitOf map (c + 1) =
+      ap (λ (k : ℕ). k % 2) (shr-shr (marksAt map q) (2 * i) 1) ∙ marks-bit (2 * i + 1) (omega arith) ∙ ap (bitOf map) e1 in
+      omega (arith, a, b, mark-bit map c, mark-bit map (c + 1))
+
+-- THE PAIR of stage i: the kinds of its two cells
+pub pair-cells : (strip map : List ℕ) → ((k : ℕ) → getD strip k 0 < 256) → ((k : ℕ) → getD map k 0 < 256) → (q i : ℕ) → i < 8
+    → pairOf (bitsAt strip q / 2 ^ (6 * i) % 64) (marksAt map q / 2 ^ (2 * i) % 4)
+    ≡ level strip (2 * (8 * q + i)) + 4 * one-if (marksIn map (2 * (8 * q + i)))
+    + secondIn (level strip (2 * (8 * q + i) + 1)) (one-if (marksIn map (2 * (8 * q + i) + 1)))
+unfolding pairOf
+pair-cells strip map strip-bytes map-bytes q i h =
+    let c = 2 * (8 * q + i) in
+    let m = one-if (marksIn map c) in
+    let n = one-if (marksIn map (c + 1)) in
+    let l = pair-levels strip strip-bytes q i h in
+    let s : (m + 2 * n) % 2 ≡ m = omega (arith, one-if-le (marksIn map c)) in
+    let t : (m + 2 * n) / 2 ≡ n = omega (arith, one-if-le (marksIn map c)) in
+    rw (l .0, l .1, marks-two map map-bytes q i h, s, t)
 
 -- THE PRICES of a row are those of its two cells
-pub row-price : (steps : List ℕ) (r j : ℕ) → r < 32 → j ≤ 3 → rowPrice steps (4 * r + j)
-    ≡ min (priceFor steps (r % 4) (j % 2) + priceFor steps (r / 4 % 4) ((j / 2 + r / 16) % 2)) closed
+pub row-price : (steps : List ℕ) (r j : ℕ) → r < 64 → j ≤ 3 → rowPrice steps (4 * r + j)
+    ≡ min (priceFor steps (r % 8) (j % 2) + priceFor steps (r / 8 % 4) ((j / 2 + r / 32) % 2)) closed
 unfolding rowPrice
 row-price steps r j h l =
     let a : (4 * r + j) / 4 ≡ r = omega arith in
     let b : (4 * r + j) % 2 ≡ j % 2 = omega arith in
-    let c : (4 * r + j) / 16 ≡ r / 4 = omega arith in
+    let c : (4 * r + j) / 32 ≡ r / 8 = omega arith in
     let d : (4 * r + j) / 2 ≡ 2 * r + j / 2 = omega arith in
-    let e : (4 * r + j) / 64 ≡ r / 16 = omega arith in
-    let f : (2 * r + j / 2 + r / 16) % 2 ≡ (j / 2 + r / 16) % 2 = omega arith in
+    let e : (4 * r + j) / 128 ≡ r / 32 = omega arith in
+    let f : (2 * r + j / 2 + r / 32) % 2 ≡ (j / 2 + r / 32) % 2 = omega arith in
     rw (a, b, c, d, e, f)
 
 -- a cell shows the bit b just where its level is as odd
@@ -255,62 +340,138 @@ shows l b = ap (λ (n : ℕ). eqb n (one-if b)) (mod-odd l) ∙ go (odd l) b
     go false true = refl
     go false false = refl
 
+-- a kind that is never raised has no step
+steps-closed : (W : List ℕ) → length W ≡ 3 → (k : ℕ) → 3 ≤ k → k < 8 → getD (stepList W) k 0 ≡ closed
+unfolding stepList
+steps-closed W three k h l =
+    let e : k ≡ length W + (k - 3) = omega arith in
+    ap (λ (n : ℕ). getD (W ++ replicate 5 closed) n 0) e
+    ∙ getD-append-add W (replicate 5 closed) (k - 3) 0
+    ∙ getD-replicate 5 (k - 3) closed 0 (omega arith)
+
 -- the price of a bit, by three weights of a byte each, tells the price of the plain search
-pub price-told : (W : List ℕ) → length W ≡ 3 → ((i : ℕ) → getD W i 0 ≤ 255) → (l : ℕ) (b : Bool) → l ≤ 3
-    → Tells closed 255 (priceFor (stepList W) l (one-if b)) (bitPrice (stepsOf W) (record { level = l; mark = false }) b)
-unfolding priceFor bitPrice keep-or-raise solutionCost stepList weightOf
-price-told W three bytes l b h = rw (shows l b, le-ltb 3 l h) (go (Bool·beq (odd l) b) (ltb l 3) refl)
+pub price-told : (W : List ℕ) → length W ≡ 3 → ((i : ℕ) → getD W i 0 ≤ 255) → (l : ℕ) (mark b : Bool) → l ≤ 3
+    → Tells closed 255 (priceFor (stepList W) (l + 4 * one-if mark) (one-if b)) (bitPrice (stepsOf W) (record { level = l; mark = mark }) b)
+unfolding priceFor bitPrice keep-or-raise solutionCost weightOf stepList one-if
+price-told W three bytes l mark b h =
+    let e : (l + 4 * one-if mark) % 2 ≡ l % 2 = omega arith in
+    rw (e, shows l b, le-ltb 3 l h) (go (Bool·beq (odd l) b) mark (ltb l 3) refl)
   where
-    go : (q r : Bool) → ltb l 3 ≡ r → Tells closed 255 (cond q 0 (getD (W ++ (closed ∷ [])) l 0))
+    step : (k : ℕ) → k < 3 → getD (stepList W) k 0 ≡ getD W k 0
+    step k i = List·getD-append W (replicate 5 closed) 0 k (omega arith)
+
+    go : (q m r : Bool) → ltb l 3 ≡ r → Tells closed 255 (cond q 0 (getD (stepList W) (l + 4 * one-if m) 0))
         (solutionCost (cond q (some (record { cost = 0; levels = l ∷ [] }))
-        (cond r (some (record { cost = getD W l 0; levels = suc l ∷ [] })) none)))
-    go true r e = open-at {c = 0} (omega arith)
-    go false true e = rw (List·getD-append W (closed ∷ []) 0 l (omega (arith, ltb-true))) (open-at {c = getD W l 0} (bytes l))
-    go false false e = rw (getD-at W closed [] 0 l (omega (arith, ltb-false))) (shut {v = closed} (omega arith))
+        (cond m none (cond r (some (record { cost = getD W l 0; levels = suc l ∷ [] })) none))))
+    go true m r e = open-at {c = 0} (omega arith)
+    go false true r e = rw (steps-closed W three (l + 4 * 1) (omega arith) (omega arith)) (shut {v = closed} (omega arith))
+    go false false true e =
+        let z : l + 4 * 0 ≡ l = omega arith in
+        rw (z, step l (ltb-true l 3 e)) (open-at {c = getD W l 0} (bytes l))
+    go false false false e =
+        rw (steps-closed W three (l + 4 * 0) (omega (arith, ltb-false l 3 e)) (omega arith)) (shut {v = closed} (omega arith))
 
--- THE ROW of two levels and a label. A stage of two cells at these levels, and the label
-abbrev stageAt : ℕ → ℕ → Bool → Stage
-stageAt a b x = record { adds = x ∷ []; cells = record { level = a; mark = false } ∷ record { level = b; mark = false } ∷ [] }
+-- a marked cell costs as much as a full one of which the other bit is asked where it shows 0
+as-full : (W : List ℕ) → length W ≡ 3 → (l w : ℕ) → l ≤ 3 → w < 2
+    → priceFor (stepList W) 3 ((w + 1 + l) % 2) ≡ priceFor (stepList W) (l + 4 * 1) w
+unfolding priceFor
+as-full W three l w i j =
+    let x : (w + 1 + l) % 2 ≡ (w + 1 + l % 2) % 2 = omega arith in
+    let y : (l + 4 * 1) % 2 ≡ l % 2 = omega arith in
+    rw (
+      x,
+      y,
+      go (l % 2) w (mod-lt _ (zero-lt-suc 1)) j,
+      steps-closed W three 3 (omega arith) (omega arith),
+      steps-closed W three (l + 4 * 1) (omega arith) (omega arith),
+    )
+  where
+    go : (b v : ℕ) → b < 2 → v < 2 → eqb 1 ((v + 1 + b) % 2) ≡ eqb b v
+    go zero zero h k = refl
+    go zero (suc zero) h k = refl
+    go zero (suc (suc v)) h k = absurd (let z : ⊥ = omega arith in z)
+    go (suc zero) zero h k = refl
+    go (suc zero) (suc zero) h k = refl
+    go (suc zero) (suc (suc v)) h k = absurd (let z : ⊥ = omega arith in z)
+    go (suc (suc b)) v h k = absurd (let z : ⊥ = omega arith in z)
 
-module _ (W rows : List ℕ) (P : Priced W rows) (a b r : ℕ) (x : Bool) (a-le : a ≤ 3) (b-le : b ≤ 3)
-    (e : r ≡ a + 4 * b + one-if x * 16) where
+-- the label of a row that is counted round
+turned : (k p b r : ℕ) → k ≤ 7 → p ≤ 1 → b ≤ 1 → r ≡ (k + (24 + 32 * p) + b * 32) % 64 → r / 32 ≡ (p + b) % 2
+turned k p b r h i j e = omega arith
+
+-- the bit that is asked by it
+asked : (v l b : ℕ) → (v + ((1 + l) % 2 + b) % 2) % 2 ≡ ((v + b) % 2 + 1 + l) % 2
+asked v l b = omega arith
+
+-- THE ROW of a stage of two cells and a label
+abbrev stageAt : Cell → Cell → Bool → Stage
+stageAt x y a = record { adds = a ∷ []; cells = x ∷ y ∷ [] }
+
+-- a second cell and a label in a row r that has the first cell's kind k
+module _ (W : List ℕ) (three : length W ≡ 3) (bytes : (i : ℕ) → getD W i 0 ≤ 255) (k l r : ℕ) (a : Bool) (k-le : k ≤ 7) (l-le : l ≤ 3) where
+  -- it tells the price of the bit that the word asks of the cell, the label added
+  second-told : (mark : Bool) → r ≡ (k + secondIn l (one-if mark) + one-if a * 32) % 64 → (v : ℕ) → v < 2
+      → Tells closed 255 (priceFor (stepList W) (r / 8 % 4) ((v + r / 32) % 2)) (bitPrice (stepsOf W) (record { level = l; mark = mark })
+      (odd v +₂ a))
+  unfolding secondIn one-if
+  second-told false e v h =
+      let n = one-if-le a in
+      let d : r / 8 % 4 ≡ l + 4 * 0 = omega arith in
+      let f : (v + r / 32) % 2 ≡ (v + one-if a) % 2 = omega arith in
+      let g : (v + one-if a) % 2 ≡ one-if (odd v +₂ a) = ap (λ (i : ℕ). (i + one-if a) % 2) (sym (one-if-odd v h)) ∙ sum-bits (odd v) a in
+      rw (d, f, g) (price-told W three bytes l false (odd v +₂ a) l-le)
+  second-told true e v h =
+      let n = one-if-le a in
+      let d : r / 8 % 4 ≡ 3 = omega arith in
+      let f : (v + r / 32) % 2 ≡ ((v + one-if a) % 2 + 1 + l) % 2 =
+      ap (λ (i : ℕ). (v + i) % 2) (turned k ((1 + l) % 2) (one-if a) r k-le (omega arith) n e) ∙ asked v l (one-if a) in
+      let g : (v + one-if a) % 2 ≡ one-if (odd v +₂ a) = ap (λ (i : ℕ). (i + one-if a) % 2) (sym (one-if-odd v h)) ∙ sum-bits (odd v) a in
+      rw (d, f, as-full W three l ((v + one-if a) % 2) l-le (mod-lt _ (zero-lt-suc 1)), g) (price-told W three bytes l true (odd v +₂ a) l-le)
+
+module _ (W rows : List ℕ) (P : Priced W rows) (x y : Cell) (r : ℕ) (a : Bool) (x-le : x .level ≤ 3) (y-le : y .level ≤ 3)
+    (e : r ≡ (x .level + 4 * one-if (x .mark) + secondIn (y .level) (one-if (y .mark)) + one-if a * 32) % 64) where
+  -- the first cell's kind
+  first-kind : r % 8 ≡ x .level + 4 * one-if (x .mark)
+  unfolding secondIn one-if
+  first-kind = go (y .mark) e
+    where
+      go : (m : Bool) → r ≡ (x .level + 4 * one-if (x .mark) + secondIn (y .level) (one-if m) + one-if a * 32) % 64
+          → r % 8 ≡ x .level + 4 * one-if (x .mark)
+      go true f = let n = one-if-le (x .mark) in omega arith
+      go false f = let n = one-if-le (x .mark) in omega arith
+
   -- it tells the price of each word of such a stage
-  word-told : (j : ℕ) → j ≤ 3 → Tells closed 510 (rowPrice (stepList W) (4 * r + j)) (oneBitPrices (stepsOf W) (stageAt a b x) .of j)
+  word-told : (j : ℕ) → j ≤ 3 → Tells closed 510 (rowPrice (stepList W) (4 * r + j)) (oneBitPrices (stepsOf W) (stageAt x y a) .of j)
   unfolding oneBitPrices cellAt
   word-told j h =
-      let n = one-if-le x in
-      let l : r < 32 = omega arith in
-      let f : r % 4 ≡ a = omega arith in
-      let d : r / 4 ≡ b + one-if x * 4 = omega arith in
-      let g : (b + one-if x * 4) % 4 ≡ b = omega arith in
-      let k : r / 16 ≡ one-if x = omega arith in
-      let m : j / 2 < 2 = omega arith in
-      let v : (j / 2 + one-if x) % 2 ≡ one-if (odd (j / 2) +₂ x) =
-      ap (λ (i : ℕ). (i + one-if x) % 2) (sym (one-if-odd (j / 2) m)) ∙ sum-bits (odd (j / 2)) x in
-      rw (row-price (stepList W) r j l h, f, d, g, k, mod-odd j, v)
-      (tells-cut (tells-add (price-told W (P .three) (P .bytes) a (odd j) a-le)
-      (price-told W (P .three) (P .bytes) b (odd (j / 2) +₂ x) b-le)) (omega arith))
+      let n = one-if-le (x .mark) in
+      let l : r < 64 = omega arith in
+      rw (row-price (stepList W) r j l h, first-kind, mod-odd j)
+      (tells-cut (tells-add (price-told W (P .three) (P .bytes) (x .level) (x .mark) (odd j) x-le)
+      (second-told W (P .three) (P .bytes) (x .level + 4 * one-if (x .mark)) (y .level) r a (omega arith) y-le (y .mark) e (j / 2)
+      (omega arith))) (omega arith))
 
   -- and the bit that its first cell shows
-  levels-quoted : Quoted 256 closed 510 rows r (oneBitPrices (stepsOf W) (stageAt a b x))
+  cells-quoted : Quoted 256 closed 510 rows r (oneBitPrices (stepsOf W) (stageAt x y a))
   unfolding oneBitPrices cellAt
-  levels-quoted =
-      let n = one-if-le x in
-      let f : r % 2 ≡ a % 2 = omega arith in
+  cells-quoted =
+      let f : r % 2 ≡ x .level % 2 = omega (arith, first-kind) in
       record {
         plain = λ j. rowPrice (stepList W) (4 * r + j);
-        in-units = λ j h. P .table .prices (4 * r + j) (let z : 4 * r + j < 128 = omega arith in z);
+        in-units = λ j h. P .table .prices (4 * r + j) (let z : 4 * r + j < 256 = omega arith in z);
         tells = word-told;
-        low = f ∙ mod-odd a;
+        low = f ∙ mod-odd (x .level);
       }
 
 -- THE MAIN LAW. The row that a block picks for its stage i tells the prices of that stage, and the bit that wins a tie
-pub row-quoted : (W rows : List ℕ) → Priced W rows → (strip : List ℕ) → ((k : ℕ) → getD strip k 0 < 256) → (G : Generators)
-    (content : List ℕ) (q i labels picks : ℕ) → i < 8 → pickAt picks i ≡ stageRow (bitsAt strip q) labels i
+pub row-quoted : (W rows : List ℕ) → Priced W rows → (strip map : List ℕ) → ((k : ℕ) → getD strip k 0 < 256)
+    → ((k : ℕ) → getD map k 0 < 256) → (G : Generators) (content : List ℕ) (q i labels picks : ℕ) → i < 8
+    → pickAt picks i ≡ stageRow (bitsAt strip q) (marksAt map q) labels i % 64
     → labels / 2 ^ (7 - i) % 2 ≡ one-if (labelFor G content (8 * q + i))
-    → Quoted 256 closed 510 rows (pickAt picks i) (quoteFor W (stageFor G strip content (8 * q + i)))
+    → Quoted 256 closed 510 rows (pickAt picks i) (quoteFor W (stageFor G strip (marksIn map) content (8 * q + i)))
 unfolding stageRow
-row-quoted W rows P strip bytes G content q i labels picks h e f =
+row-quoted W rows P strip map strip-bytes map-bytes G content q i labels picks h e f =
     let c = 2 * (8 * q + i) in
-    levels-quoted W rows P (level strip c) (level strip (c + 1)) (pickAt picks i) (labelFor G content (8 * q + i))
-    (level-bound strip c) (level-bound strip (c + 1)) (e ∙ ap₂ (λ (m n : ℕ). m + n * 16) (pair-levels strip bytes q i h) f)
+    cells-quoted W rows P (cellFor strip (marksIn map) c) (cellFor strip (marksIn map) (c + 1)) (pickAt picks i)
+    (labelFor G content (8 * q + i)) (level-bound strip c) (level-bound strip (c + 1))
+    (e ∙ ap (λ (n : ℕ). n % 64) (ap₂ (λ (m n : ℕ). m + n * 32) (pair-cells strip map strip-bytes map-bytes q i h) f))

@@ -11,7 +11,7 @@
 --   block-lows                                    the bits that the first cells of a block show
 --   store-back                                    a loop that stores from the last place back
 use mathlib.Core.Path.{_≡_, refl, sym, _∙_, ap, fun-ext, subst}
-use mathlib.Core.Bool.{true, false}
+use mathlib.Core.Bool.{Bool, true, false}
 use mathlib.Core.Logic.{⊎-elim}
 use mathlib.Core.List.{List, _∷_}
 use mathlib.Core.Option.{Option, none, some}
@@ -26,6 +26,7 @@ use borrow.Author.Tests.{lt-ltb, le-ltb}
 use Rattle.cells.specs.Places.{listOf, Each, no-more, and-each}
 use Rattle.cells.specs.Bytes.{bitOf}
 use Rattle.cells.specs.Levels.{level}
+use Rattle.cells.specs.Marks.{marksIn}
 use Rattle.cells.proofs.Places.{zeros-at, listOf-same}
 use Rattle.codes.specs.Generators.{Generators}
 use Rattle.codes.specs.Codes.{generatorsOf}
@@ -46,7 +47,7 @@ use Rattle.search.specs.Parity.{parity-choice}
 use Rattle.search.specs.Plan.{solutionCost, costs}
 use Rattle.search.specs.Numbered.{nextN}
 use Rattle.search.specs.OneBit.{oneBitPrices}
-use Rattle.search.specs.Layouts.{dataBits, unmarked, stripCells, stagesOf, rewriteOf, Sound}
+use Rattle.search.specs.Layouts.{dataBits, stripCells, stagesOf, rewriteOf, Sound}
 use Rattle.search.proofs.Plain.{plain-cost}
 use Rattle.search.proofs.OneBit.{Pair, pair, Both, oneBit-quotes}
 use Rattle.search.proofs.Layouts.{oneBit-sound, oneBit-write}
@@ -57,11 +58,11 @@ use Rattle.stages.specs.Trails.{stagesFrom, Quoted}
 use Rattle.stages.proofs.Runs.{settled-le}
 use Rattle.stages.proofs.Costs.{told-settled, told-low, told-cost}
 use Rattle.stages.proofs.Trails.{run-told}
-use Rattle.trellis.specs.Rows.{Priced, pairOf, stageRow, bitsAt}
+use Rattle.trellis.specs.Rows.{Priced, secondIn, stageRow, bitsAt, marksAt, packedOf}
 use Rattle.trellis.specs.Ways.{encoderFor, labelFor, cellFor, stageFor, quoteFor, nextFor, stagesFor, costsFor, trailFor, blocksFor}
 use Rattle.trellis.specs.Outcomes.{toldOutcome, solutionOutcome}
 use Rattle.trellis.specs.Plans.{writeOf}
-use Rattle.trellis.proofs.Quotes.{pair-levels, row-quoted}
+use Rattle.trellis.proofs.Quotes.{picks-are, pair-cells, row-quoted}
 
 -- what the program asks of a code and its weights: two generators that begin with 1, and weights of three bytes
 pub record Suits (G : Generators) (W : List ℕ) : Type 0 where
@@ -135,8 +136,8 @@ unfolding labelAt
 label-told G content t = rw (data-bits content)
 
 -- THE STAGES of a strip: each has two cells and a label
-module _ (G : Generators) (strip content : List ℕ) where
-  pub stages-pairs : (t k : ℕ) → Each Pair (stagesFor G strip content t k)
+module _ (G : Generators) (strip : List ℕ) (marks : ℕ → Bool) (content : List ℕ) where
+  pub stages-pairs : (t k : ℕ) → Each Pair (stagesFor G strip marks content t k)
   unfolding stagesFrom
   stages-pairs t zero = no-more
   stages-pairs t (suc k) = and-each pair (stages-pairs (suc t) k)
@@ -148,8 +149,8 @@ module _ (G : Generators) (strip content : List ℕ) where
     one-other = length-map (G .others) _ ∙ ap length (K .two)
 
     -- they are those of the search
-    stages-from : (t k : ℕ) → stages (encoderFor G) (dataBits oneBit content) 2 t k (listOf (k * 2) (λ c. cellFor strip (2 * t + c)))
-        ≡ stagesFor G strip content t k
+    stages-from : (t k : ℕ) → stages (encoderFor G) (dataBits oneBit content) 2 t k (listOf (k * 2) (λ c. cellFor strip marks (2 * t + c)))
+        ≡ stagesFor G strip marks content t k
     unfolding stages stagesFrom labels listOf
     stages-from t zero = refl
     stages-from t (suc k) =
@@ -157,52 +158,52 @@ module _ (G : Generators) (strip content : List ℕ) where
         let z : 2 * t + 0 ≡ 2 * t = omega arith in
         let f : (i : ℕ) → 2 * t + suc (suc i) ≡ 2 * suc t + i = omega arith in
         rw (e, z, one-other)
-        (ap (λ (l : List Stage). stageFor G strip content t ∷ l)
-        (ap (stages (encoderFor G) (dataBits oneBit content) 2 (suc t) k) (listOf-same (k * 2) _ _ (λ i h. ap (cellFor strip) (f i)))
+        (ap (λ (l : List Stage). stageFor G strip marks content t ∷ l)
+        (ap (stages (encoderFor G) (dataBits oneBit content) 2 (suc t) k) (listOf-same (k * 2) _ _ (λ i h. ap (cellFor strip marks) (f i)))
         ∙ stages-from (suc t) k))
 
     -- all stages of a strip for L bytes of data
-    pub stages-are : (L : ℕ) → stagesOf oneBit (encoderFor G) L strip unmarked content ≡ stagesFor G strip content 0 (8 * L)
+    pub stages-are : (L : ℕ) → stagesOf oneBit (encoderFor G) L strip marks content ≡ stagesFor G strip marks content 0 (8 * L)
     unfolding stagesOf stripCells cellsOf
     stages-are L =
         let e : 16 * L ≡ 8 * L * 2 = omega arith in
         let f : (i : ℕ) → i ≡ 2 * 0 + i = omega arith in
         rw (oneBit-stages L, oneBit-cells L)
         (ap (stages (encoderFor G) (dataBits oneBit content) 2 0 (8 * L))
-        (ap (λ (n : ℕ). listOf n (cellFor strip)) e ∙ listOf-same (8 * L * 2) _ _ (λ i h. ap (cellFor strip) (f i)))
+        (ap (λ (n : ℕ). listOf n (cellFor strip marks)) e ∙ listOf-same (8 * L * 2) _ _ (λ i h. ap (cellFor strip marks) (f i)))
         ∙ stages-from 0 (8 * L))
 
 -- THE COST of state 0 before the first stage of L blocks is the write's
-pub cost-start : (G : Generators) (W : List ℕ) → Suits G W → Dear (stepsOf W) → (L : ℕ) (strip content : List ℕ)
-    → costsFor G W (stagesFor G strip content 0 (8 * L)) 0 ≡ solutionCost (rewriteOf oneBit G W L strip unmarked content)
+pub cost-start : (G : Generators) (W : List ℕ) → Suits G W → Dear (stepsOf W) → (L : ℕ) (strip : List ℕ) (marks : ℕ → Bool) (content : List ℕ)
+    → costsFor G W (stagesFor G strip marks content 0 (8 * L)) 0 ≡ solutionCost (rewriteOf oneBit G W L strip marks content)
 unfolding stagesOf
-cost-start G W K D L strip content =
-    rw (← (stages-are G strip content (K .both) L))
+cost-start G W K D L strip marks content =
+    rw (← (stages-are G strip marks content (K .both) L))
     (plain-cost (encoderFor G) (parity-choice (stepsOf W)) (wordsOf G) (oneBitPrices (stepsOf W)) Pair
     (oneBit-quotes (G .memory) G (K .both) (stepsOf W))
-    (dataBits oneBit content) 2 (stageCount oneBit L) (stripCells oneBit L strip unmarked)
-    (rw (stages-are G strip content (K .both) L) (stages-pairs G strip content 0 (8 * L)))
-    ∙ ap solutionCost (oneBit-write (G .memory) G (suits-sound K) (omega arith) W D L strip unmarked content))
+    (dataBits oneBit content) 2 (stageCount oneBit L) (stripCells oneBit L strip marks)
+    (rw (stages-are G strip marks content (K .both) L) (stages-pairs G strip marks content 0 (8 * L)))
+    ∙ ap solutionCost (oneBit-write (G .memory) G (suits-sound K) (omega arith) W D L strip marks content))
 
 -- A LOOP over the blocks from the last to the first holds, before block q, the eight labels before it and numbers that tell what the states
 -- cost from there on, for all weights whose table it has
-pub record BlocksTold (G : Generators) (rows strip content : List ℕ) (q before : ℕ) (numbers : List ℕ) : Type 0 where
+pub record BlocksTold (G : Generators) (rows strip : List ℕ) (marks : ℕ → Bool) (content : List ℕ) (q before : ℕ) (numbers : List ℕ) : Type 0 where
   pub within : q ≤ length content
   pub labels-are : before ≡ windowOf 8 (labelAt G content) (8 * q)
   pub long : length numbers ≡ 64
   pub cut : (i : ℕ) → getD numbers i 0 ≤ top
   pub told : (W : List ℕ) → Priced W rows → (s : ℕ) → s < 2 ^ G .memory
       → Trailed 256 closed (510 * (8 * (length content - q))) 0 (getD numbers s 0)
-      (costsFor G W (blocksFor G strip content (length content) q) s) 0
+      (costsFor G W (blocksFor G strip marks content (length content) q) s) 0
 
-module _ (G : Generators) (rows strip content : List ℕ) where
+module _ (G : Generators) (rows strip : List ℕ) (marks : ℕ → Bool) (content : List ℕ) where
   -- the number of blocks
   abbrev n : ℕ
   n = length content
 
   -- after the last block nothing costs anything
   pub blocks-last : {before : ℕ} → before ≡ windowOf 8 (labelAt G content) (8 * n)
-      → BlocksTold G rows strip content n before (replicate 64 0)
+      → BlocksTold G rows strip marks content n before (replicate 64 0)
   unfolding stagesFrom costs
   blocks-last e =
       let z : 8 * (n - n) ≡ 0 = omega arith in record {
@@ -215,14 +216,14 @@ module _ (G : Generators) (rows strip content : List ℕ) where
 
   -- A TURN goes from before block q + 1 to before block q, by the numbers before the block and after it is settled
   module _ (K : Proper G) (q picks : ℕ) {before : ℕ} {numbers ran : List ℕ} (most : n ≤ 64) (inside : q < n)
-      (h : BlocksTold G rows strip content (q + 1) before numbers)
+      (h : BlocksTold G rows strip marks content (q + 1) before numbers)
       (quoted : (W : List ℕ) → Priced W rows → (i : ℕ) → i < 8
-      → Quoted 256 closed 510 rows (pickAt picks i) (quoteFor W (stageFor G strip content (8 * q + i))))
+      → Quoted 256 closed 510 rows (pickAt picks i) (quoteFor W (stageFor G strip marks content (8 * q + i))))
       (r : Ran (2 ^ G .memory) (wordsOf G) rows picks numbers ran) where
     -- the numbers before the block tell costs and trails
     pub block-told : (W : List ℕ) → Priced W rows → (s : ℕ) → s < 2 ^ G .memory
-        → Trailed 256 closed (510 * (8 * (n - q))) 8 (getD ran s 0) (costsFor G W (blocksFor G strip content n q) s)
-        (trailFor G W 8 (blocksFor G strip content n q) s)
+        → Trailed 256 closed (510 * (8 * (n - q))) 8 (getD ran s 0) (costsFor G W (blocksFor G strip marks content n q) s)
+        (trailFor G W 8 (blocksFor G strip marks content n q) s)
     block-told W P s l =
         let later : ℕ = 8 * (n - (q + 1)) in
         let z : 8 * q + (8 - 8) ≡ 8 * q = omega arith in
@@ -230,25 +231,25 @@ module _ (G : Generators) (rows strip content : List ℕ) where
         let f : 8 * (q + 1) ≡ 8 * q + 8 = omega arith in
         let b : 8 * 510 + 510 * later ≡ 510 * (8 * (n - q)) = omega arith in
         let room : 8 * 510 + 510 * later < closed = omega arith in
-        subst (λ (v : ℕ). Trailed 256 closed (510 * (8 * (n - q))) 8 v (costsFor G W (blocksFor G strip content n q) s)
-        (trailFor G W 8 (blocksFor G strip content n q) s)) (sym (r .states s l))
+        subst (λ (v : ℕ). Trailed 256 closed (510 * (8 * (n - q))) 8 v (costsFor G W (blocksFor G strip marks content n q) s)
+        (trailFor G W 8 (blocksFor G strip marks content n q) s)) (sym (r .states s l))
         (rw (z, e, b) at
         (run-told (2 ^ G .memory) (wordsOf G) (words-le G) (quoteFor W) (nextFor G) (state-inside G (K .some-memory))
         (next-zero G (K .some-memory)) (next-one G (K .some-memory)) 8 256 closed 510 (510 * later) (8 * q) later
-        (stageFor G strip content) rows picks (λ i. getD numbers i 0) (quoted W P) (rw f at (h .told W P)) room (omega arith)
+        (stageFor G strip marks content) rows picks (λ i. getD numbers i 0) (quoted W P) (rw f at (h .told W P)) room (omega arith)
         8 (omega arith) s l))
 
     -- and once they are settled the turn is done
     pub blocks-more : {earlier : ℕ} {settled : List ℕ} → earlier ≡ windowOf 8 (labelAt G content) (8 * q)
         → Settled (2 ^ G .memory) ran settled
-        → BlocksTold G rows strip content q earlier settled
+        → BlocksTold G rows strip marks content q earlier settled
     blocks-more {settled = settled} e t = record {
       within = omega arith;
       labels-are = e;
       long = t .long;
       cut = settled-le t (λ i l. omega (arith, r .others i l, h .cut i));
       told = λ W P s l.
-          subst (λ (v : ℕ). Trailed 256 closed (510 * (8 * (n - q))) 0 v (costsFor G W (blocksFor G strip content n q) s) 0)
+          subst (λ (v : ℕ). Trailed 256 closed (510 * (8 * (n - q))) 0 v (costsFor G W (blocksFor G strip marks content n q) s) 0)
           (sym (t .states s l)) (told-settled (omega arith) (omega arith) (block-told W P s l));
     }
 
@@ -259,40 +260,43 @@ outcome-told m v none l (shut h) = rw (le-ltb v closed h)
 outcome-told m v (some a) l (open-at h) = rw (lt-ltb v closed (omega arith))
 
 -- before the first block the number of state 0 tells the strip's outcome
-pub blocks-first : {G : Generators} {rows strip content : List ℕ} {before : ℕ} {numbers : List ℕ} → length content ≤ 64
-    → BlocksTold G rows strip content 0 before numbers → (W : List ℕ) → Suits G W → Priced W rows
-    → toldOutcome (getD numbers 0 0 / 256) ≡ solutionOutcome (writeOf G W strip content)
-blocks-first {G} {rows} {strip} {content} {before} {numbers} most h W K P =
+pub blocks-first : {G : Generators} {rows strip : List ℕ} {marks : ℕ → Bool} {content : List ℕ} {before : ℕ} {numbers : List ℕ} → length content ≤ 64
+    → BlocksTold G rows strip marks content 0 before numbers → (W : List ℕ) → Suits G W → Priced W rows
+    → toldOutcome (getD numbers 0 0 / 256) ≡ solutionOutcome (writeOf G W strip marks content)
+blocks-first {G} {rows} {strip} {marks} {content} {before} {numbers} most h W K P =
     let z : length content - 0 ≡ length content = omega arith in
-    outcome-told (510 * (8 * length content)) (getD numbers 0 0 / 256) (writeOf G W strip content) (omega arith)
-    (rw (z, cost-start G W K (P .dear) (length content) strip content) at (told-cost (h .told W P 0 (pow-pos (G .memory)))))
+    outcome-told (510 * (8 * length content)) (getD numbers 0 0 / 256) (writeOf G W strip marks content) (omega arith)
+    (rw (z, cost-start G W K (P .dear) (length content) strip marks content) at (told-cost (h .told W P 0 (pow-pos (G .memory)))))
 
--- THE ROWS of block q, by its labels and its bits, tell the prices of its stages
-pub block-quoted : (G : Generators) {rows strip content numbers : List ℕ} (q picks : ℕ) {before bits : ℕ} → ((k : ℕ) → getD strip k 0 < 256)
-    → BlocksTold G rows strip content (q + 1) before numbers → bits ≡ bitsAt strip q
-    → ((i : ℕ) → i < 8 → pickAt picks i ≡ stageRow bits before i) → (W : List ℕ) → Priced W rows → (i : ℕ) → i < 8
-    → Quoted 256 closed 510 rows (pickAt picks i) (quoteFor W (stageFor G strip content (8 * q + i)))
-block-quoted G {rows} {strip} {content} {numbers} q picks {before} {bits} octets h e p W P i l =
+-- THE ROWS of block q, by its labels, its bits and its marks, tell the prices of its stages
+pub block-quoted : (G : Generators) {rows strip : List ℕ} (map : List ℕ) {content numbers : List ℕ} (q picks : ℕ) {before : ℕ}
+    → ((k : ℕ) → getD strip k 0 < 256) → ((k : ℕ) → getD map k 0 < 256)
+    → BlocksTold G rows strip (marksIn map) content (q + 1) before numbers
+    → picks ≡ packedOf 8 (stageRow (bitsAt strip q) (marksAt map q) before) 8 → (W : List ℕ) → Priced W rows → (i : ℕ) → i < 8
+    → Quoted 256 closed 510 rows (pickAt picks i) (quoteFor W (stageFor G strip (marksIn map) content (8 * q + i)))
+block-quoted G {rows} {strip} map {content} q picks {before} octets marks h p W P i l =
     let z : 8 * q + (7 - (7 - i)) ≡ 8 * q + i = omega arith in
     let m : 7 - i < 8 = omega arith in
-    row-quoted W rows P strip octets G content q i before picks l (p i l ∙ ap (λ (b : ℕ). stageRow b before i) e)
+    row-quoted W rows P strip map octets marks G content q i before picks l (picks-are _ _ _ picks p i l)
     (ap (λ (w : ℕ). w / 2 ^ (7 - i) % 2) (h .labels-are) ∙ window-byte (labelAt G content) (label-bound G content) q (7 - i) m
     ∙ ap (labelAt G content) z ∙ label-told G content (8 * q + i))
 
 -- THE HISTORY has the trails of the blocks from q on
-pub record TracedFrom (G : Generators) (rows strip content history : List ℕ) (q : ℕ) : Type 0 where
+pub record TracedFrom (G : Generators) (rows strip : List ℕ) (marks : ℕ → Bool) (content history : List ℕ) (q : ℕ) : Type 0 where
   pub long : length history ≡ 4096
   pub kept : (W : List ℕ) → Priced W rows → (k : ℕ) → q ≤ k → k < length content → (s : ℕ) → s < 2 ^ G .memory
-      → (costsFor G W (blocksFor G strip content (length content) k) s ≡ none → ⊥)
-      → getD history (64 * k + s) 0 ≡ trailFor G W 8 (blocksFor G strip content (length content) k) s
+      → (costsFor G W (blocksFor G strip marks content (length content) k) s ≡ none → ⊥)
+      → getD history (64 * k + s) 0 ≡ trailFor G W 8 (blocksFor G strip marks content (length content) k) s
 
 -- one block more, whose numbers tell its trails
-pub traced-more : (G : Generators) {rows strip content history history′ ran : List ℕ} {m : ℕ} (q : ℕ) → 2 ^ G .memory ≤ 64
-    → TracedFrom G rows strip content history (q + 1) → Kept (2 ^ G .memory) q ran history history′
+pub traced-more : (G : Generators) {rows strip : List ℕ} {marks : ℕ → Bool} {content history history′ ran : List ℕ} {m : ℕ} (q : ℕ)
+    → 2 ^ G .memory ≤ 64
+    → TracedFrom G rows strip marks content history (q + 1) → Kept (2 ^ G .memory) q ran history history′
     → ((W : List ℕ) → Priced W rows → (s : ℕ) → s < 2 ^ G .memory → Trailed 256 closed m 8 (getD ran s 0)
-    (costsFor G W (blocksFor G strip content (length content) q) s) (trailFor G W 8 (blocksFor G strip content (length content) q) s))
-    → TracedFrom G rows strip content history′ q
-traced-more G {rows} {strip} {content} {history} {history′} {ran} q fits t k told = record {
+    (costsFor G W (blocksFor G strip marks content (length content) q) s)
+    (trailFor G W 8 (blocksFor G strip marks content (length content) q) s))
+    → TracedFrom G rows strip marks content history′ q
+traced-more G {rows} {strip} {marks} {content} {history} {history′} {ran} q fits t k told = record {
   long = k .long;
   kept = λ W P j h l s b some-cost. ⊎-elim
       (λ (e : q ≡ j). rw (← e) (k .here s b ∙ told-low (told W P s b) (rw e some-cost)))
@@ -301,20 +305,22 @@ traced-more G {rows} {strip} {content} {history} {history′} {ran} q fits t k t
 }
 
 -- THE LOWS. The row of a stage is odd where its first cell shows a one
-pub block-lows : (strip : List ℕ) (q picks before : ℕ) {bits r : ℕ} → ((k : ℕ) → getD strip k 0 < 256) → bits ≡ bitsAt strip q
-    → ((i : ℕ) → i < 8 → pickAt picks i ≡ stageRow bits before i) → r ≡ windowOf 8 (λ i. picks / 2 ^ (8 * i) % 2) 8
+pub block-lows : (strip map : List ℕ) (q picks before : ℕ) {r : ℕ} → ((k : ℕ) → getD strip k 0 < 256) → ((k : ℕ) → getD map k 0 < 256)
+    → picks ≡ packedOf 8 (stageRow (bitsAt strip q) (marksAt map q) before) 8 → r ≡ windowOf 8 (λ i. picks / 2 ^ (8 * i) % 2) 8
     → r ≡ windowOf 8 (firstBit (level strip)) (8 * (q + 1))
-unfolding pickAt stageRow firstBit
-block-lows strip q picks before octets e p f =
+unfolding pickAt stageRow firstBit secondIn one-if
+block-lows strip map q picks before octets marks p f =
     f ∙ window-of-word picks 8 (firstBit (level strip)) (λ t. mod-lt _ (zero-lt-suc 1)) q
     (λ i l.
-    let a = pair-levels strip octets q i l in
-    let b : picks / 2 ^ (8 * i) % 32 ≡ pairOf (bitsAt strip q / 2 ^ (6 * i) % 64) + before / 2 ^ (7 - i) % 2 * 16 =
-    p i l ∙ ap (λ (x : ℕ). pairOf (x / 2 ^ (6 * i) % 64) + before / 2 ^ (7 - i) % 2 * 16) e in
-    even-row (picks / 2 ^ (8 * i)) _ _ _ (before / 2 ^ (7 - i) % 2) b a)
+    let c = 2 * (8 * q + i) in
+    let a = pair-cells strip map octets marks q i l in
+    even-row (picks / 2 ^ (8 * i)) _ (level strip c) (one-if (marksIn map c)) (level strip (c + 1)) (marksIn map (c + 1))
+    (before / 2 ^ (7 - i) % 2) (picks-are _ _ _ picks p i l) a)
   where
-    even-row : (x levels first second label : ℕ) → x % 32 ≡ levels + label * 16 → levels ≡ first + 4 * second → x % 2 ≡ first % 2
-    even-row x levels first second label h k = omega arith
+    even-row : (x both first mark second : ℕ) (marked : Bool) (label : ℕ) → x % 64 ≡ (both + label * 32) % 64
+        → both ≡ first + 4 * mark + secondIn second (one-if marked) → x % 2 ≡ first % 2
+    even-row x both first mark second true label h k = omega arith
+    even-row x both first mark second false label h k = omega arith
 
 -- STORES. A loop that stores f k at each place k from the last back has stored one more
 pub store-back : (r : List ℕ) (n u x : ℕ) (f : ℕ → ℕ) → u < length r → x ≡ f u → ((k : ℕ) → suc u ≤ k → k < n → getD r k 0 ≡ f k)

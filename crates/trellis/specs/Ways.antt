@@ -6,7 +6,7 @@
 --   Lows                          the bits that the first cells show, eight stages a byte
 --   Followed                      digits that the history and these bits give
 use mathlib.Core.Path.{_≡_}
-use mathlib.Core.Bool.{Bool, false}
+use mathlib.Core.Bool.{Bool}
 use mathlib.Core.List.{List, [], _∷_}
 use mathlib.Core.Option.{Option, none}
 use Prim.Native.Nat.{ℕ, _+_, _-_, _*_, _^_, _<_, _≤_}
@@ -37,13 +37,14 @@ encoderFor G = withMemory (G .memory) (encoderOf G)
 abbrev pub labelFor : Generators → List ℕ → ℕ → Bool
 labelFor G content t = quotient (G .memory) (encoderOf G .first) (dataBits oneBit content 0) t
 
--- cell c of a strip, which may be raised
-abbrev pub cellFor : List ℕ → ℕ → Cell
-cellFor strip c = record { level = level strip c; mark = false }
+-- cell c of a strip, by its level and its mark
+abbrev pub cellFor : List ℕ → (ℕ → Bool) → ℕ → Cell
+cellFor strip marks c = record { level = level strip c; mark = marks c }
 
 -- stage t of a strip
-abbrev pub stageFor : Generators → List ℕ → List ℕ → ℕ → Stage
-stageFor G strip content t = record { adds = labelFor G content t ∷ []; cells = cellFor strip (2 * t) ∷ cellFor strip (2 * t + 1) ∷ [] }
+abbrev pub stageFor : Generators → List ℕ → (ℕ → Bool) → List ℕ → ℕ → Stage
+stageFor G strip marks content t =
+    record { adds = labelFor G content t ∷ []; cells = cellFor strip marks (2 * t) ∷ cellFor strip marks (2 * t + 1) ∷ [] }
 
 -- the prices of its words
 abbrev pub quoteFor : List ℕ → Stage → Prices
@@ -54,8 +55,8 @@ abbrev pub nextFor : Generators → Stage → ℕ → Bool → ℕ
 nextFor G = nextN (encoderFor G)
 
 -- k stages of a strip from stage t on
-abbrev pub stagesFor : Generators → List ℕ → List ℕ → ℕ → ℕ → List Stage
-stagesFor G strip content = stagesFrom (stageFor G strip content)
+abbrev pub stagesFor : Generators → List ℕ → (ℕ → Bool) → List ℕ → ℕ → ℕ → List Stage
+stagesFor G strip marks content = stagesFrom (stageFor G strip marks content)
 
 -- what stages cost from each state
 abbrev pub costsFor : Generators → List ℕ → List Stage → ℕ → Option ℕ
@@ -66,8 +67,8 @@ abbrev pub trailFor : Generators → List ℕ → ℕ → List Stage → ℕ →
 trailFor G W = trailOf (wordsOf G) (quoteFor W) (nextFor G)
 
 -- the stages of block q and those after it, of n blocks
-abbrev pub blocksFor : Generators → List ℕ → List ℕ → ℕ → ℕ → List Stage
-blocksFor G strip content n q = stagesFor G strip content (8 * q) (8 * (n - q))
+abbrev pub blocksFor : Generators → List ℕ → (ℕ → Bool) → List ℕ → ℕ → ℕ → List Stage
+blocksFor G strip marks content n q = stagesFor G strip marks content (8 * q) (8 * (n - q))
 
 -- what the search of a strip asks: a table that is cut off, data of at most 64 bytes and a strip for them
 pub record Shaped (rows strip content : List ℕ) : Type 0 where
@@ -76,10 +77,10 @@ pub record Shaped (rows strip content : List ℕ) : Type 0 where
   pub most : length content ≤ 64
 
 -- the history of n blocks: the trail of each state before block q that has a cost. What stands there for another state is free
-pub record Traced (G : Generators) (W strip content history : List ℕ) : Type 0 where
+pub record Traced (G : Generators) (W strip : List ℕ) (marks : ℕ → Bool) (content history : List ℕ) : Type 0 where
   pub kept : (q : ℕ) → q < length content → (s : ℕ) → s < 2 ^ G .memory
-      → (costsFor G W (blocksFor G strip content (length content) q) s ≡ none → ⊥)
-      → getD history (64 * q + s) 0 ≡ trailFor G W 8 (blocksFor G strip content (length content) q) s
+      → (costsFor G W (blocksFor G strip marks content (length content) q) s ≡ none → ⊥)
+      → getD history (64 * q + s) 0 ≡ trailFor G W 8 (blocksFor G strip marks content (length content) q) s
 
 -- the bits that the first cells of n blocks show
 pub record Lows (strip : List ℕ) (n : ℕ) (lows : List ℕ) : Type 0 where

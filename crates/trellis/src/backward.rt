@@ -1,7 +1,6 @@
 // From the last block of eight stages to the first: what the data of a strip costs, and what the states keep of their ways.
 use crate::Outcome;
-use crate::rows::bits_of;
-use crate::rows::picks_of;
+use crate::rows::picks_at;
 use codes::Code;
 use codes::window;
 use stages::CLOSED;
@@ -14,6 +13,7 @@ ghost use Prim.Native.Nat.{ℕ, _+_, _*_, _<_, _≤_};
 ghost use lib.ListN.{length};
 ghost use Rattle.cells.specs.Places.{Untouched};
 ghost use Rattle.cells.specs.Bytes.{bitOf};
+ghost use Rattle.cells.specs.Marks.{marksIn};
 ghost use Rattle.codes.specs.Codes.{generatorsOf};
 ghost use Rattle.codes.specs.Taps.{windowOf};
 ghost use Rattle.codes.specs.Blocks.{labelAt};
@@ -70,10 +70,10 @@ fn labels_before(code: Code, labels: u32, data: &[u8], q: usize) -> u32
 }
 
 // What the data of a strip costs. It is lent nothing that it may change, and keeps no array with a place for each stage or cell.
-pub fn price_strip(code: Code, rows: &[u32; 128], strip: &[u8], data: &[u8]) -> Outcome
+pub fn price_strip(code: Code, rows: &[u32; 256], strip: &[u8], map: &[u8], data: &[u8]) -> Outcome
     requires { ⌜ Shaped (now rows) (now strip) (now «data») ⌝ }
     ensures { λ r. ⌜ ((W : List ℕ) → Priced W (now (rows .entry))
-        → r ≡ solutionOutcome (writeOf (generatorsOf code) W (now (strip .entry)) (now («data» .entry)))) ⌝ }
+        → r ≡ solutionOutcome (writeOf (generatorsOf code) W (now (strip .entry)) (marksIn (now (map .entry))) (now («data» .entry)))) ⌝ }
 {
     let states = code.states();
     let mut labels = last_labels(code, data);
@@ -81,7 +81,7 @@ pub fn price_strip(code: Code, rows: &[u32; 128], strip: &[u8], data: &[u8]) -> 
     let mut q = data.len();
     while q > 0 {
         q -= 1;
-        let picks = picks_of(bits_of(strip, q), labels);
+        let picks = picks_at(strip, map, q, labels);
         run(code, &mut costs, rows, picks);
         settle(&mut costs, states);
         labels = labels_before(code, labels, data, q);
@@ -93,8 +93,9 @@ pub fn price_strip(code: Code, rows: &[u32; 128], strip: &[u8], data: &[u8]) -> 
 // history for a state without a cost, or beyond the code's states, is free.
 pub fn decide(
     code: Code,
-    rows: &[u32; 128],
+    rows: &[u32; 256],
     strip: &[u8],
+    map: &[u8],
     data: &[u8],
     history: &mut [u8; 4096],
     lows: &mut [u8; 64],
@@ -102,9 +103,9 @@ pub fn decide(
     requires { ⌜ Shaped (now rows) (now strip) (now «data») ⌝ }
     requires { ⌜ (length (now history) ≡ 4096) × (length (now lows) ≡ 64) ⌝ }
     ensures { λ r. ⌜ ((W : List ℕ) → Priced W (now (rows .entry))
-        → r ≡ solutionOutcome (writeOf (generatorsOf code) W (now (strip .entry)) (now («data» .entry)))) ⌝ }
+        → r ≡ solutionOutcome (writeOf (generatorsOf code) W (now (strip .entry)) (marksIn (now (map .entry))) (now («data» .entry)))) ⌝ }
     ensures { λ _. ⌜ ((W : List ℕ) → Priced W (now (rows .entry))
-        → Traced (generatorsOf code) W (now (strip .entry)) (now («data» .entry)) (now (history .exit))) ⌝ }
+        → Traced (generatorsOf code) W (now (strip .entry)) (marksIn (now (map .entry))) (now («data» .entry)) (now (history .exit))) ⌝ }
     ensures { λ _. ⌜ Untouched (64 * length (now («data» .entry))) (now (history .entry)) (now (history .exit)) ⌝ }
     ensures { λ _. ⌜ Lows (now (strip .entry)) (length (now («data» .entry))) (now (lows .exit)) ⌝ }
     ensures { λ _. ⌜ Untouched (length (now («data» .entry))) (now (lows .entry)) (now (lows .exit)) ⌝ }
@@ -115,7 +116,7 @@ pub fn decide(
     let mut q = data.len();
     while q > 0 {
         q -= 1;
-        let picks = picks_of(bits_of(strip, q), labels);
+        let picks = picks_at(strip, map, q, labels);
         lows[q] = window(picks, 8) as u8;
         run(code, &mut costs, rows, picks);
         keep(history, &costs, states, q);

@@ -7,6 +7,7 @@ ghost use mathlib.Core.List.{List};
 ghost use Prim.Native.Nat.{ℕ, _+_, _*_, _<_, _≤_};
 ghost use lib.ListN.{length, getD};
 ghost use Rattle.cells.specs.Places.{Free};
+ghost use Rattle.cells.specs.Marks.{marksIn};
 ghost use Rattle.codes.specs.Codes.{generatorsOf};
 ghost use Rattle.codes.specs.Taps.{windowOf};
 ghost use Rattle.trellis.specs.Rows.{Priced};
@@ -44,22 +45,23 @@ fn follow(code: Code, lows: &[u8; 64], history: &[u8; 4096], digits: &mut [u8])
 // What the data of a strip costs, and the digits of the cheapest way, one bit a stage. Where there is none, what is put there is free.
 pub fn plan_strip(
     code: Code,
-    rows: &[u32; 128],
+    rows: &[u32; 256],
     strip: &[u8],
+    map: &[u8],
     data: &[u8],
     digits: &mut [u8],
 ) -> Outcome
     requires { ⌜ Shaped (now rows) (now strip) (now «data») ⌝ }
     requires { ⌜ length (now digits) ≡ length (now «data») ⌝ }
     ensures { λ r. ⌜ ((W : List ℕ) → Priced W (now (rows .entry))
-        → r ≡ solutionOutcome (writeOf (generatorsOf code) W (now (strip .entry)) (now («data» .entry)))) ⌝ }
+        → r ≡ solutionOutcome (writeOf (generatorsOf code) W (now (strip .entry)) (marksIn (now (map .entry))) (now («data» .entry)))) ⌝ }
     ensures { λ _. ⌜ Free (now (digits .entry)) (now (digits .exit)) ⌝ }
     ensures { λ _. ⌜ ((W : List ℕ) → Priced W (now (rows .entry))
-        → Plans (generatorsOf code) W (now (strip .entry)) (now («data» .entry)) (now (digits .exit))) ⌝ }
+        → Plans (generatorsOf code) W (now (strip .entry)) (marksIn (now (map .entry))) (now («data» .entry)) (now (digits .exit))) ⌝ }
 {
     let mut history = [0u8; 4096];
     let mut lows = [0u8; 64];
-    let r = decide(code, rows, strip, data, &mut history, &mut lows);
+    let r = decide(code, rows, strip, map, data, &mut history, &mut lows);
     follow(code, &lows, &history, digits);
     r
 }

@@ -1,16 +1,16 @@
 // THE LAYOUT, for the search: a table of rows, each with the prices of the four words of a stage, and which row a stage picks. Two cells a
-// stage, one bit a cell: a row is the levels of the two cells and the label. Marks, two bits a cell and three cells a stage will be other
-// rows.
+// stage, one bit a cell: a row is the kinds of the two cells and the label. Two bits a cell and three cells a stage will be other rows.
 use stages::CLOSED;
 use stages::stage::least;
 ghost use mathlib.Core.Path.{_≡_};
 ghost use Prim.Native.Nat.{ℕ, _+_, _*_, _<_, _≤_};
 ghost use lib.ListN.{length, getD};
 ghost use Rattle.stages.specs.Stage.{closed, top};
-ghost use Rattle.trellis.specs.Rows.{stepList, priceFor, Table, stageRow, packedOf, bitsAt};
+ghost use Rattle.trellis.specs.Rows.{stepList, priceFor, Table, stageRow, packedOf, bitsAt, marksAt};
 
-// The levels of two cells by their six bits: the ones of the first three, and four times those of the other three.
-const PAIRS: [u8; 64] = [
+// The cells of a stage by their six bits and their two marks: the first cell's level, and 4 more where it is marked; eight times that of
+// the second, which is 3 where it is marked, and 32 more where it is and shows 0.
+const PAIRS: [u8; 256] = [
     0,
     1,
     1,
@@ -19,38 +19,6 @@ const PAIRS: [u8; 64] = [
     2,
     2,
     3,
-    4,
-    5,
-    5,
-    6,
-    5,
-    6,
-    6,
-    7,
-    4,
-    5,
-    5,
-    6,
-    5,
-    6,
-    6,
-    7,
-    8,
-    9,
-    9,
-    10,
-    9,
-    10,
-    10,
-    11,
-    4,
-    5,
-    5,
-    6,
-    5,
-    6,
-    6,
-    7,
     8,
     9,
     9,
@@ -67,6 +35,54 @@ const PAIRS: [u8; 64] = [
     10,
     10,
     11,
+    16,
+    17,
+    17,
+    18,
+    17,
+    18,
+    18,
+    19,
+    8,
+    9,
+    9,
+    10,
+    9,
+    10,
+    10,
+    11,
+    16,
+    17,
+    17,
+    18,
+    17,
+    18,
+    18,
+    19,
+    16,
+    17,
+    17,
+    18,
+    17,
+    18,
+    18,
+    19,
+    24,
+    25,
+    25,
+    26,
+    25,
+    26,
+    26,
+    27,
+    4,
+    5,
+    5,
+    6,
+    5,
+    6,
+    6,
+    7,
     12,
     13,
     13,
@@ -75,38 +91,214 @@ const PAIRS: [u8; 64] = [
     14,
     14,
     15,
+    12,
+    13,
+    13,
+    14,
+    13,
+    14,
+    14,
+    15,
+    20,
+    21,
+    21,
+    22,
+    21,
+    22,
+    22,
+    23,
+    12,
+    13,
+    13,
+    14,
+    13,
+    14,
+    14,
+    15,
+    20,
+    21,
+    21,
+    22,
+    21,
+    22,
+    22,
+    23,
+    20,
+    21,
+    21,
+    22,
+    21,
+    22,
+    22,
+    23,
+    28,
+    29,
+    29,
+    30,
+    29,
+    30,
+    30,
+    31,
+    56,
+    57,
+    57,
+    58,
+    57,
+    58,
+    58,
+    59,
+    24,
+    25,
+    25,
+    26,
+    25,
+    26,
+    26,
+    27,
+    24,
+    25,
+    25,
+    26,
+    25,
+    26,
+    26,
+    27,
+    56,
+    57,
+    57,
+    58,
+    57,
+    58,
+    58,
+    59,
+    24,
+    25,
+    25,
+    26,
+    25,
+    26,
+    26,
+    27,
+    56,
+    57,
+    57,
+    58,
+    57,
+    58,
+    58,
+    59,
+    56,
+    57,
+    57,
+    58,
+    57,
+    58,
+    58,
+    59,
+    24,
+    25,
+    25,
+    26,
+    25,
+    26,
+    26,
+    27,
+    60,
+    61,
+    61,
+    62,
+    61,
+    62,
+    62,
+    63,
+    28,
+    29,
+    29,
+    30,
+    29,
+    30,
+    30,
+    31,
+    28,
+    29,
+    29,
+    30,
+    29,
+    30,
+    30,
+    31,
+    60,
+    61,
+    61,
+    62,
+    61,
+    62,
+    62,
+    63,
+    28,
+    29,
+    29,
+    30,
+    29,
+    30,
+    30,
+    31,
+    60,
+    61,
+    61,
+    62,
+    61,
+    62,
+    62,
+    63,
+    60,
+    61,
+    61,
+    62,
+    61,
+    62,
+    62,
+    63,
+    28,
+    29,
+    29,
+    30,
+    29,
+    30,
+    30,
+    31,
 ];
 
-// The weights of the three steps, and closed for a step from level 3.
-fn steps_of(weights: [u8; 3]) -> [u32; 4]
+// The weights of the three steps, and closed for a step from level 3 and for a marked cell at each level.
+fn steps_of(weights: [u8; 3]) -> [u32; 8]
     ensures { λ r. ⌜ r ≡ stepList weights ⌝ }
 {
     let a = cells::weight(weights, 0);
     let b = cells::weight(weights, 1);
     let c = cells::weight(weights, 2);
-    [a, b, c, CLOSED]
+    [a, b, c, CLOSED, CLOSED, CLOSED, CLOSED, CLOSED]
 }
 
-// What it costs in 256ths that a cell at a level shows the bit v.
-fn price_for(steps: [u32; 4], level: usize, v: usize) -> u32
-    requires { ⌜ (level ≤ 3) × ((i : ℕ) → getD steps i 0 ≤ closed) ⌝ }
-    ensures { λ r. ⌜ (r ≡ 256 * priceFor steps level v) × (r ≤ top) ⌝ }
+// What it costs in 256ths that a cell of a kind shows the bit v.
+fn price_for(steps: [u32; 8], kind: usize, v: usize) -> u32
+    requires { ⌜ (kind ≤ 7) × ((i : ℕ) → getD steps i 0 ≤ closed) ⌝ }
+    ensures { λ r. ⌜ (r ≡ 256 * priceFor steps kind v) × (r ≤ top) ⌝ }
 {
-    let w = steps[level];
-    if level % 2 == v { 0 } else { 256 * w }
+    let w = steps[kind];
+    if kind % 2 == v { 0 } else { 256 * w }
 }
 
-// The table of rows by the weights: row r has the first level r mod 4, the second level r div 4 mod 4 and the label r div 16. A word
-// that is closed costs closed, however many of its cells are.
-pub fn rows_of(weights: [u8; 3]) -> [u32; 128]
+// The table of rows by the weights: row r has the first cell's kind r mod 8, the second cell's level r div 8 mod 4 and the label r div 32.
+// A word that is closed costs closed, however many of its cells are.
+pub fn rows_of(weights: [u8; 3]) -> [u32; 256]
     ensures { λ r. ⌜ Table weights r ⌝ }
 {
     let steps = steps_of(weights);
-    let mut rows = [0u32; 128];
+    let mut rows = [0u32; 256];
     let mut k: usize = 0;
-    while k < 128 {
-        let first = price_for(steps, k / 4 % 4, k % 2);
-        let second = price_for(steps, k / 16 % 4, (k / 2 + k / 64) % 2);
+    while k < 256 {
+        let first = price_for(steps, k / 4 % 8, k % 2);
+        let second = price_for(steps, k / 32 % 4, (k / 2 + k / 128) % 2);
         rows[k] = least(first + second, CLOSED * 256);
         k += 1;
     }
@@ -141,18 +333,44 @@ pub fn bits_of(strip: &[u8], q: usize) -> u64
     )
 }
 
-// The rows of eight stages, by the 48 bits of their cells and their labels, as the bytes of one number.
-pub fn picks_of(bits: u64, labels: u32) -> u64
-    ensures { λ r. ⌜ r ≡ packedOf 8 (stageRow bits labels) 8 ⌝ }
+// The 16 marks of block q: two bytes of the strip's part of the map, and none past its end.
+fn marks_of(map: &[u8], q: usize) -> u64
+    requires { ⌜ q < 64 ⌝ }
+    ensures { λ r. ⌜ r ≡ marksAt (now (map .entry)) q ⌝ }
+{
+    let low = cells::byte(map, 2 * q);
+    let high = cells::byte(map, 2 * q + 1);
+    (low + high * 256) as u64
+}
+
+// The rows of eight stages, by the 48 bits of their cells, their 16 marks and their labels, as the bytes of one number.
+fn picks_of(bits: u64, marks: u64, labels: u32) -> u64
+    ensures { λ r. ⌜ r ≡ packedOf 8 (stageRow bits marks labels) 8 ⌝ }
 {
     let pairs = PAIRS;
     let mut picks: u64 = 0;
     let mut i: u32 = 0;
     while i < 8 {
-        let pair = pairs[((bits >> (6 * i)) % 64) as usize] as u64;
+        let six = (bits >> (6 * i)) % 64;
+        let two = (marks >> (2 * i)) % 4;
+        let pair = pairs[(six + 64 * two) as usize] as u64;
         let label = ((labels >> (7 - i)) % 2) as u64;
-        picks += (pair + label * 16) << (8 * i);
+        picks += (pair + label * 32) << (8 * i);
         i += 1;
     }
     picks
+}
+
+// The rows of block q of a strip. A block without a mark is the rule, and the compiler makes a loop of its own of it.
+pub fn picks_at(strip: &[u8], map: &[u8], q: usize, labels: u32) -> u64
+    requires { ⌜ (6 * q + 6 ≤ length (now strip)) × (q < 64) ⌝ }
+    ensures { λ r. ⌜ r ≡ packedOf 8 (stageRow (bitsAt (now (strip .entry)) q) (marksAt (now (map .entry)) q) labels) 8 ⌝ }
+{
+    let bits = bits_of(strip, q);
+    let marks = marks_of(map, q);
+    if marks == 0 {
+        picks_of(bits, 0, labels)
+    } else {
+        picks_of(bits, marks, labels)
+    }
 }

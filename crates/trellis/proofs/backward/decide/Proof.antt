@@ -7,28 +7,28 @@ use lib.Seq.{getD-set-other}
 use borrow.Author.Needs.{needs}
 use Rattle.cells.specs.Places.{Untouched}
 use Rattle.cells.specs.Levels.{level}
+use Rattle.cells.specs.Marks.{marksIn}
 use Rattle.codes.specs.Codes.{generatorsOf}
 use Rattle.codes.specs.Taps.{windowOf, firstBit}
 use Rattle.codes.proofs.Codes.{proper}
 use Rattle.codes.proofs.Layouts.{oneBit-bytes}
 use Rattle.codes.proofs.Taps.{window-less}
 use Rattle.stages.proofs.Runs.{ran-le}
-use Rattle.trellis.proofs.Quotes.{picks-are}
 use Rattle.trellis.proofs.Ways.{suits, BlocksTold, blocks-last, block-told, blocks-more, blocks-first, block-quoted, TracedFrom, traced-more, block-lows, store-back}
 use Rattle.trellis.proofs.backward.decide.Statement.{statement}
 use Rattle.trellis.proofs.backward.decide.Tie as tie
 
 abbrev Inv-loop : tie.InvT-loop
-Inv-loop code rows strip «data» history₀ lows₀ states labels₀ costs₀ q₀ history lows labels costs q =
-    (BlocksTold (generatorsOf code) rows strip «data» q labels costs)
-    × (TracedFrom (generatorsOf code) rows strip «data» history q)
+Inv-loop code rows strip map «data» history₀ lows₀ states labels₀ costs₀ q₀ history lows labels costs q =
+    (BlocksTold (generatorsOf code) rows strip (marksIn map) «data» q labels costs)
+    × (TracedFrom (generatorsOf code) rows strip (marksIn map) «data» history q)
     × (length lows ≡ 64)
     × ((k : ℕ) → q ≤ k → k < length «data» → getD lows k 0 ≡ windowOf 8 (firstBit (level strip)) (8 * (k + 1)))
     × Untouched (64 * length «data») history₀ history
     × Untouched (length «data») lows₀ lows
 
 abbrev μ-loop : tie.MeasureT-loop
-μ-loop code rows strip «data» history₀ lows₀ states labels₀ costs₀ q₀ history lows labels costs q = q
+μ-loop code rows strip map «data» history₀ lows₀ states labels₀ costs₀ q₀ history lows labels costs q = q
 
 states-requires : tie.Need-states-requires Inv-loop μ-loop
 states-requires c κs = search needs
@@ -38,9 +38,9 @@ last-labels-requires c κs = search needs
 
 loop-holds : tie.Need-loop-holds Inv-loop μ-loop
 loop-holds c =
-    let s = c .before .before .before .before in
+    let s = c .before .before .before .before .before in
     let a = s .args in (
-      blocks-last (generatorsOf (a .code)) (a .rows .now) (a .strip .now) (a .«data» .now) (c .last-labels .ensures .0),
+      blocks-last (generatorsOf (a .code)) (a .rows .now) (a .strip .now) (marksIn (a .map .now)) (a .«data» .now) (c .last-labels .ensures .0),
       record { long = s .pre .1 .0; kept = λ W P k h l. absurd (let z : ⊥ = omega arith in z) },
       s .pre .1 .1,
       (λ k h l. absurd (let z : ⊥ = omega arith in z)),
@@ -51,14 +51,11 @@ loop-holds c =
 sub-q : tie.Need-sub-q Inv-loop μ-loop
 sub-q c = search needs
 
-bits-of-requires : tie.Need-bits-of-requires Inv-loop μ-loop
-bits-of-requires c κs =
-    let s = c .before .before .before .before .before .before in
+picks-at-requires : tie.Need-picks-at-requires Inv-loop μ-loop
+picks-at-requires c κs =
+    let s = c .before .before .before .before .before .before .before in
     let h = c .before .loop .inv .0 .within in
     (omega (arith, h, s .pre .0 .size, oneBit-bytes (length (s .args .«data» .now))), omega (arith, h, s .pre .0 .most))
-
-picks-of-requires : tie.Need-picks-of-requires Inv-loop μ-loop
-picks-of-requires c κs = search needs
 
 window-requires : tie.Need-window-requires Inv-loop μ-loop
 window-requires c κs = search needs
@@ -68,47 +65,47 @@ cast-lows c = record {
   fits = omega (
     arith,
     c .window .ensures,
-    window-less 8 (λ (i : ℕ). c .before .picks-of .result / 2 ^
+    window-less 8 (λ (i : ℕ). c .before .picks-at .result / 2 ^
         (8 * i) % 2) 8,
   );
 }
 
 element-write-lows : tie.Need-element-write-lows Inv-loop μ-loop
 element-write-lows c =
-    let t = c .before .before .before in
-    omega (arith, t .before .loop .inv .0 .within, t .before .before .before .before .before .before .pre .0 .most)
+    let t = c .before .before in
+    omega (arith, t .before .loop .inv .0 .within, t .before .before .before .before .before .before .before .pre .0 .most)
 
 run-requires : tie.Need-run-requires Inv-loop μ-loop
 run-requires c κs =
-    let t = c .before .before .before .before in
+    let t = c .before .before .before in
     let h = t .before .loop .inv .0 in
-    record { long = h .long; costs-le = h .cut; rows-le = t .before .before .before .before .before .before .pre .0 .cut }
+    record { long = h .long; costs-le = h .cut; rows-le = t .before .before .before .before .before .before .before .pre .0 .cut }
 
 keep-requires : tie.Need-keep-requires Inv-loop μ-loop
 keep-requires c κs =
-    let t = c .before .before .before .before .before .before .before in
+    let t = c .before .before .before .before .before .before in
     let l = t .before .loop in (
-      omega (arith, l .inv .0 .within, t .before .before .before .before .before .before .pre .0 .most),
+      omega (arith, l .inv .0 .within, t .before .before .before .before .before .before .before .pre .0 .most),
       t .before .before .before .states .ensures .1,
       l .inv .1 .long,
     )
 
 settle-requires : tie.Need-settle-requires Inv-loop μ-loop
 settle-requires c κs =
-    let t = c .before .before .before .before .before .before .before .before .before in
+    let t = c .before .before .before .before .before .before .before .before in
     let h = t .before .loop .inv .0 in
     let r = c .before .before .before .before .run .ensures in (
       t .before .before .before .states .ensures .1,
       r .long,
       ran-le r (h .cut)
-          (t .before .before .before .before .before .before .pre .0 .cut),
+          (t .before .before .before .before .before .before .before .pre .0 .cut),
     )
 
 labels-before-requires : tie.Need-labels-before-requires Inv-loop μ-loop
 labels-before-requires c κs =
-    let t = c .before .before .before .before .before .before .before .before .before .before in
+    let t = c .before .before .before .before .before .before .before .before .before in
     let l = t .before .loop in
-    let s = t .before .before .before .before .before .before in
+    let s = t .before .before .before .before .before .before .before in
     let e : l .q - 1 + 1 ≡ l .q = omega arith in
     (omega (arith, l .inv .0 .within), s .pre .0 .most, rw e (l .inv .0 .labels-are))
 
@@ -117,30 +114,30 @@ loop-less c = search needs
 
 loop-again : tie.Need-loop-again Inv-loop μ-loop
 loop-again c =
-    let t = c .before .before .before .before .before .before .before .before .before .before .before in
+    let t = c .before .before .before .before .before .before .before .before .before .before in
     let l = t .before .loop in
     let k = t .before .before .before .before .before in
-    let s = k .before in
+    let s = k .before .before in
     let a = s .args in
     let G = generatorsOf (a .code) in
+    let marks = marksIn (a .map .now) in
     let q : ℕ = l .q - 1 in
     let e : q + 1 ≡ l .q = omega arith in
     let near : q < length (a .«data» .now) = omega (arith, l .inv .0 .within) in
     let fits = t .before .before .before .states .ensures in
-    let h : BlocksTold G (a .rows .now) (a .strip .now) (a .«data» .now) (q + 1) (l .labels) (l .costs) = rw e (l .inv .0) in
-    let octets : (i : ℕ) → getD (a .strip .now) i 0 < 256 = λ i. omega (arith, k .shared-slice-known .given i) in
-    let bits = c .before .before .before .before .before .before .before .before .before .before .bits-of .ensures in
-    let picks = c .before .before .before .before .before .before .before .before .before .picks-of .ensures in
-    let rows = picks-are _ _ _ picks in
-    let quoted = block-quoted G q _ octets h bits rows in
+    let h : BlocksTold G (a .rows .now) (a .strip .now) marks (a .«data» .now) (q + 1) (l .labels) (l .costs) = rw e (l .inv .0) in
+    let octets : (i : ℕ) → getD (a .strip .now) i 0 < 256 = λ i. omega (arith, k .before .shared-slice-known .given i) in
+    let map-octets : (i : ℕ) → getD (a .map .now) i 0 < 256 = λ i. omega (arith, k .shared-slice-known2 .given i) in
+    let picks = c .before .before .before .before .before .before .before .before .before .picks-at .ensures in
+    let quoted = block-quoted G (a .map .now) q _ octets map-octets h picks in
     let kept = c .before .before .before .keep .ensures in
     let ran = c .before .before .before .before .before .before .run .ensures in
-    let low = block-lows (a .strip .now) q _ (l .labels) octets bits rows
+    let low = block-lows (a .strip .now) (a .map .now) q _ (l .labels) octets map-octets picks
     (c .before .before .before .before .before .before .before .before .window .ensures) in (
-      blocks-more G (a .rows .now) (a .strip .now) (a .«data» .now) (proper (a .code)) q _ (s .pre .0 .most) near h quoted ran
+      blocks-more G (a .rows .now) (a .strip .now) marks (a .«data» .now) (proper (a .code)) q _ (s .pre .0 .most) near h quoted ran
           (c .labels-before .ensures .0) (rw (fits .0) at (c .before .settle .ensures .0)),
       traced-more G q (omega arith) (rw e (l .inv .1)) (rw (fits .0) at kept)
-          (block-told G (a .rows .now) (a .strip .now) (a .«data» .now) (proper (a .code)) q _ (s .pre .0 .most) near h quoted ran),
+          (block-told G (a .rows .now) (a .strip .now) marks (a .«data» .now) (proper (a .code)) q _ (s .pre .0 .most) near h quoted ran),
       simp length-set (l .inv .2),
       store-back (l .lows) (length (a .«data» .now)) q _ (λ k. windowOf 8 (firstBit (level (a .strip .now))) (8 * (k + 1)))
           (omega (arith, l .inv .2, s .pre .0 .most)) low (λ k m n. l .inv .3 k (omega arith) n),
@@ -157,7 +154,7 @@ outcome-requires c κs = search needs
 returns : tie.Need-returns Inv-loop μ-loop
 returns c =
     let l = c .before .before .loop in
-    let s = c .before .before .before .before .before .before .before in
+    let s = c .before .before .before .before .before .before .before .before in
     let z : l .q ≡ 0 = omega arith in (
       λ W P. c .outcome .ensures ∙ blocks-first (s .pre .0 .most) (rw z at (l .inv .0)) W (suits (s .args .code) W (P .three) (P .bytes)) P,
       (
@@ -176,8 +173,7 @@ decide-spec =
     last-labels-requires
     loop-holds
     sub-q
-    bits-of-requires
-    picks-of-requires
+    picks-at-requires
     window-requires
     cast-lows
     element-write-lows

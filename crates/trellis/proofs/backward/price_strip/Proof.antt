@@ -4,20 +4,21 @@ use Prim.Native.Nat.{ℕ, _<_, _+_, _-_}
 use native.Mathlib.Omega.{arith}
 use lib.ListN.{length, getD}
 use borrow.Author.Needs.{needs}
+use Rattle.cells.specs.Marks.{marksIn}
 use Rattle.codes.specs.Codes.{generatorsOf}
 use Rattle.codes.proofs.Codes.{proper}
 use Rattle.codes.proofs.Layouts.{oneBit-bytes}
 use Rattle.stages.proofs.Runs.{ran-le}
-use Rattle.trellis.proofs.Quotes.{picks-are}
 use Rattle.trellis.proofs.Ways.{suits, BlocksTold, blocks-last, blocks-more, blocks-first, block-quoted}
 use Rattle.trellis.proofs.backward.price_strip.Statement.{statement}
 use Rattle.trellis.proofs.backward.price_strip.Tie as tie
 
 abbrev Inv-loop : tie.InvT-loop
-Inv-loop code rows strip «data» states labels₀ costs₀ q₀ labels costs q = BlocksTold (generatorsOf code) rows strip «data» q labels costs
+Inv-loop code rows strip map «data» states labels₀ costs₀ q₀ labels costs q = 
+    BlocksTold (generatorsOf code) rows strip (marksIn map) «data» q labels costs
 
 abbrev μ-loop : tie.MeasureT-loop
-μ-loop code rows strip «data» states labels₀ costs₀ q₀ labels costs q = q
+μ-loop code rows strip map «data» states labels₀ costs₀ q₀ labels costs q = q
 
 states-requires : tie.Need-states-requires Inv-loop μ-loop
 states-requires c κs = search needs
@@ -27,32 +28,29 @@ last-labels-requires c κs = search needs
 
 loop-holds : tie.Need-loop-holds Inv-loop μ-loop
 loop-holds c =
-    let a = c .before .before .before .before .args in
-    blocks-last (generatorsOf (a .code)) (a .rows .now) (a .strip .now) (a .«data» .now) (c .last-labels .ensures .0)
+    let a = c .before .before .before .before .before .args in
+    blocks-last (generatorsOf (a .code)) (a .rows .now) (a .strip .now) (marksIn (a .map .now)) (a .«data» .now) (c .last-labels .ensures .0)
 
 sub-q : tie.Need-sub-q Inv-loop μ-loop
 sub-q c = search needs
 
-bits-of-requires : tie.Need-bits-of-requires Inv-loop μ-loop
-bits-of-requires c κs =
-    let s = c .before .before .before .before .before .before in
+picks-at-requires : tie.Need-picks-at-requires Inv-loop μ-loop
+picks-at-requires c κs =
+    let s = c .before .before .before .before .before .before .before in
     let h = c .before .loop .inv .within in
     (omega (arith, h, s .pre .size, oneBit-bytes (length (s .args .«data» .now))), omega (arith, h, s .pre .most))
 
-picks-of-requires : tie.Need-picks-of-requires Inv-loop μ-loop
-picks-of-requires c κs = search needs
-
 run-requires : tie.Need-run-requires Inv-loop μ-loop
 run-requires c κs =
-    let h = c .before .before .before .before .loop .inv in
+    let h = c .before .before .before .loop .inv in
     let s = c .before .before .before .before .before .before .before .before .before in
     record { long = h .long; costs-le = h .cut; rows-le = s .pre .cut }
 
 settle-requires : tie.Need-settle-requires Inv-loop μ-loop
 settle-requires c κs =
-    let h = c .before .before .before .before .before .before .loop .inv in
+    let h = c .before .before .before .before .before .loop .inv in
     let s = c .before .before .before .before .before .before .before .before .before .before .before in (
-      c .before .before .before .before .before .before .before .before .states .ensures .1,
+      c .before .before .before .before .before .before .before .states .ensures .1,
       c .before .run .ensures .long,
       ran-le
           (c .before .run .ensures) (h .cut) (s .pre .cut),
@@ -60,7 +58,7 @@ settle-requires c κs =
 
 labels-before-requires : tie.Need-labels-before-requires Inv-loop μ-loop
 labels-before-requires c κs =
-    let l = c .before .before .before .before .before .before .before .loop in
+    let l = c .before .before .before .before .before .before .loop in
     let s = c .before .before .before .before .before .before .before .before .before .before .before .before in
     let e : l .q - 1 + 1 ≡ l .q = omega arith in
     (omega (arith, l .inv .within), s .pre .most, rw e (l .inv .labels-are))
@@ -70,20 +68,21 @@ loop-less c = search needs
 
 loop-again : tie.Need-loop-again Inv-loop μ-loop
 loop-again c =
-    let t = c .before .before .before .before .before .before .before in
+    let t = c .before .before .before .before .before .before in
     let l = t .before .loop in
     let k = t .before .before .before .before .before in
-    let s = k .before in
+    let s = k .before .before in
     let a = s .args in
     let q : ℕ = l .q - 1 in
     let e : q + 1 ≡ l .q = omega arith in
-    let h : BlocksTold (generatorsOf (a .code)) (a .rows .now) (a .strip .now) (a .«data» .now) (q + 1) (l .labels) (l .costs) = rw e
-    (l .inv) in
-    let octets : (i : ℕ) → getD (a .strip .now) i 0 < 256 = λ i. omega (arith, k .shared-slice-known .given i) in
-    blocks-more (generatorsOf (a .code)) (a .rows .now) (a .strip .now) (a .«data» .now) (proper (a .code)) q _ (s .pre .most) (omega
+    let G = generatorsOf (a .code) in
+    let marks = marksIn (a .map .now) in
+    let h : BlocksTold G (a .rows .now) (a .strip .now) marks (a .«data» .now) (q + 1) (l .labels) (l .costs) = rw e (l .inv) in
+    let octets : (i : ℕ) → getD (a .strip .now) i 0 < 256 = λ i. omega (arith, k .before .shared-slice-known .given i) in
+    let map-octets : (i : ℕ) → getD (a .map .now) i 0 < 256 = λ i. omega (arith, k .shared-slice-known2 .given i) in
+    blocks-more G (a .rows .now) (a .strip .now) marks (a .«data» .now) (proper (a .code)) q _ (s .pre .most) (omega
     (arith, l .inv .within)) h
-    (block-quoted (generatorsOf (a .code)) q _ octets h (c .before .before .before .before .before .before .bits-of .ensures)
-    (picks-are _ _ _ (c .before .before .before .before .before .picks-of .ensures)))
+    (block-quoted G (a .map .now) q _ octets map-octets h (c .before .before .before .before .before .picks-at .ensures))
     (c .before .before .before .run .ensures)
     (c .labels-before .ensures .0)
     (rw (t .before .before .before .states .ensures .0) at (c .before .settle .ensures .0))
@@ -97,7 +96,7 @@ outcome-requires c κs = search needs
 returns : tie.Need-returns Inv-loop μ-loop
 returns c = λ W P.
     let l = c .before .before .loop in
-    let s = c .before .before .before .before .before .before .before in
+    let s = c .before .before .before .before .before .before .before .before in
     let z : l .q ≡ 0 = omega arith in
     c .outcome .ensures ∙ blocks-first (s .pre .most) (rw z at (l .inv)) W (suits (s .args .code) W (P .three) (P .bytes)) P
 
@@ -111,8 +110,7 @@ price-strip-spec =
     last-labels-requires
     loop-holds
     sub-q
-    bits-of-requires
-    picks-of-requires
+    picks-at-requires
     run-requires
     settle-requires
     labels-before-requires

@@ -18,7 +18,7 @@ returns : tie.Need-returns
 returns c =
     let d = c .before .before .before .before .before .before .decide .ensures in
     let f = c .before .before .follow .ensures in
-    let s = c .before .before .before .before .before .before .before .before .before .before .before .before in
+    let s = c .before .before .before .before .before .before .before .before .before .before .before .before .before in
     let e = s .pre .1 in (
       d .0,
       (

@@ -10,30 +10,45 @@ use Rattle.trellis.proofs.rows.picks_of.Statement.{statement}
 use Rattle.trellis.proofs.rows.picks_of.Tie as tie
 
 abbrev Inv-loop : tie.InvT-loop
-Inv-loop bits labels pairs picks₀ i₀ picks i =
-    (i ≤ 8) × (picks ≡ packedOf 8 (stageRow bits labels) i)
+Inv-loop bits marks labels pairs picks₀ i₀ picks i =
+    (i ≤ 8) × (picks ≡ packedOf 8 (stageRow bits marks labels) i)
 
 abbrev μ-loop : tie.MeasureT-loop
-μ-loop bits labels pairs picks₀ i₀ picks i = 8 - i
+μ-loop bits marks labels pairs picks₀ i₀ picks i = 8 - i
 
 loop-holds : tie.Need-loop-holds Inv-loop μ-loop
 unfolding packedOf
 loop-holds c = (search needs, refl)
 
+mul-six : tie.Need-mul-six Inv-loop μ-loop
+mul-six c = search needs
+
+cast-six : tie.Need-cast-six Inv-loop μ-loop
+cast-six c = search needs
+
+shr-six : tie.Need-shr-six Inv-loop μ-loop
+shr-six c = search needs
+
+mul-two : tie.Need-mul-two Inv-loop μ-loop
+mul-two c = search needs
+
+cast-two : tie.Need-cast-two Inv-loop μ-loop
+cast-two c = search needs
+
+shr-two : tie.Need-shr-two Inv-loop μ-loop
+shr-two c = search needs
+
 mul-pair : tie.Need-mul-pair Inv-loop μ-loop
 mul-pair c = search needs
 
-cast-pair : tie.Need-cast-pair Inv-loop μ-loop
-cast-pair c = search needs
-
-shr-pair : tie.Need-shr-pair Inv-loop μ-loop
-shr-pair c = search needs
+add-pair : tie.Need-add-pair Inv-loop μ-loop
+add-pair c = search needs
 
 array-read-pair : tie.Need-array-read-pair Inv-loop μ-loop
 array-read-pair c = search needs
 
-cast-pair-2 : tie.Need-cast-pair-2 Inv-loop μ-loop
-cast-pair-2 c = record { fits = omega (arith, pairs-le (c .before .before .args .bits / 2 ^ (6 * c .before .loop .i))) }
+cast-pair : tie.Need-cast-pair Inv-loop μ-loop
+cast-pair c = record { fits = omega (arith, pairs-le (c .before .before .args .bits / 2 ^ (6 * c .before .loop .i)) (c .before .before .args .marks / 2 ^ (2 * c .before .loop .i))) }
 
 sub-label : tie.Need-sub-label Inv-loop μ-loop
 sub-label c = search needs
@@ -48,7 +63,7 @@ mul-picks : tie.Need-mul-picks Inv-loop μ-loop
 mul-picks c = search needs
 
 add-picks : tie.Need-add-picks Inv-loop μ-loop
-add-picks c = record { fits = omega (arith, pairs-le (c .before .before .args .bits / 2 ^ (6 * c .before .loop .i))) }
+add-picks c = record { fits = omega (arith, pairs-le (c .before .before .args .bits / 2 ^ (6 * c .before .loop .i)) (c .before .before .args .marks / 2 ^ (2 * c .before .loop .i))) }
 
 mul-picks-2 : tie.Need-mul-picks-2 Inv-loop μ-loop
 mul-picks-2 c = search needs
@@ -71,14 +86,14 @@ loop-again c =
     let l = c .before .loop in
     let t : l .i < 8 = c .loop-test .taken in (
       search needs,
-      rw (row-added (a .bits) (a .labels) (l .i))
-          (packed-more 8 (stageRow (a .bits) (a .labels)) (row-less (a .bits) (a .labels)) (l .i) (l .picks) (omega arith) (l .inv .1)),
+      rw (row-added (a .bits) (a .marks) (a .labels) (l .i))
+          (packed-more 8 (stageRow (a .bits) (a .marks) (a .labels)) (row-less (a .bits) (a .marks) (a .labels)) (l .i) (l .picks) (omega arith) (l .inv .1)),
     )
 
 add-picks-2 : tie.Need-add-picks-2 Inv-loop μ-loop
 add-picks-2 c =
     let a = c .before .before .args in
-    let f = packed-fits 8 (stageRow (a .bits) (a .labels)) (row-less (a .bits) (a .labels)) (c .before .loop .i + 1) 8 (loop-again c .0) in
+    let f = packed-fits 8 (stageRow (a .bits) (a .marks) (a .labels)) (row-less (a .bits) (a .marks) (a .labels)) (c .before .loop .i + 1) 8 (loop-again c .0) in
     record { fits = omega (arith, f, loop-again c .1) }
 
 returns : tie.Need-returns Inv-loop μ-loop
@@ -94,11 +109,16 @@ picks-of-spec =
     Inv-loop
     μ-loop
     loop-holds
+    mul-six
+    cast-six
+    shr-six
+    mul-two
+    cast-two
+    shr-two
     mul-pair
-    cast-pair
-    shr-pair
+    add-pair
     array-read-pair
-    cast-pair-2
+    cast-pair
     sub-label
     shr-label
     cast-label

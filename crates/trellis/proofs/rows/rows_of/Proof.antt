@@ -1,4 +1,4 @@
--- The loop's invariant: the places below k hold their prices. The measure is what is left of 128 places.
+-- The loop's invariant: the places below k hold their prices. The measure is what is left of 256 places.
 use mathlib.Core.Path.{_≡_, refl, _∙_}
 use Prim.Native.Nat.{ℕ, _*_, _-_, _≤_, _<_}
 use native.Mathlib.Omega.{arith}
@@ -13,10 +13,10 @@ use Rattle.trellis.proofs.rows.rows_of.Statement.{statement}
 use Rattle.trellis.proofs.rows.rows_of.Tie as tie
 
 abbrev Inv-loop : tie.InvT-loop
-Inv-loop steps rows₀ k₀ rows k = (k ≤ 128) × (length rows ≡ 128) × ((j : ℕ) → j < k → getD rows j 0 ≡ 256 * rowPrice steps j)
+Inv-loop steps rows₀ k₀ rows k = (k ≤ 256) × (length rows ≡ 256) × ((j : ℕ) → j < k → getD rows j 0 ≡ 256 * rowPrice steps j)
 
 abbrev μ-loop : tie.MeasureT-loop
-μ-loop steps rows₀ k₀ rows k = 128 - k
+μ-loop steps rows₀ k₀ rows k = 256 - k
 
 -- no step is more than closed
 steps-cut : (c : tie.After-steps-of Inv-loop μ-loop) (i : ℕ) → getD (c .steps-of .result) i 0 ≤ closed
