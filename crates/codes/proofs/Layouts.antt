@@ -4,6 +4,7 @@
 --   oneBit-first, oneBit-second                 one bit a cell: the code bits are those of the two cells
 --   oneBit-data                                 and data bit t is the paper's sum of stage t
 --   oneBit-stages, oneBit-cells, oneBit-bytes   8·L stages, 16·L cells and 6·L bytes
+--   oneBit-map                                  and 2·L bytes of a map of the cells
 use mathlib.Core.Path.{_≡_, ap}
 use mathlib.Core.List.{List}
 use Prim.Native.Nat.{ℕ, _<_, _+_, _*_, _/_, _%_}
@@ -13,7 +14,7 @@ use Rattle.cells.specs.Places.{listOf}
 use Rattle.cells.proofs.Places.{listOf-same}
 use Rattle.cells.proofs.Parts.{place-inside}
 use Rattle.codes.specs.Generators.{Generators, g2}
-use Rattle.codes.specs.Layouts.{Layout, oneBit, stageCount, cellCount, byteCount}
+use Rattle.codes.specs.Layouts.{Layout, oneBit, stageCount, cellCount, byteCount, mapCount}
 use Rattle.codes.specs.Reading.{sumBit, codeBit, dataBit}
 use Rattle.codes.specs.Taps.{firstBit, secondBit}
 use Rattle.codes.proofs.Reading.{sumBit-bound, sumBit-same}
@@ -69,3 +70,8 @@ oneBit-cells L = omega (arith, oneBit-stages L)
 pub oneBit-bytes : (L : ℕ) → byteCount oneBit L ≡ 6 * L
 unfolding byteCount
 oneBit-bytes L = omega (arith, oneBit-cells L)
+
+-- and 2·L bytes of a map with one bit for each cell
+pub oneBit-map : (L : ℕ) → mapCount oneBit L ≡ 2 * L
+unfolding mapCount
+oneBit-map L = omega (arith, oneBit-cells L)

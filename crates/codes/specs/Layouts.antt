@@ -2,6 +2,7 @@
 --   Layout                             the cells and the data bits of a stage, and the code bits that its cells' levels show
 --   oneBit                             two cells a stage, one bit a cell
 --   stageCount, cellCount, byteCount   the stages, the cells and the bytes of a strip that takes L bytes of data
+--   mapCount                           the bytes of its part of a map with one bit for each cell
 use mathlib.Core.List.{List, map}
 use Prim.Native.Nat.{ℕ, _*_, _/_, _%_}
 
@@ -26,3 +27,7 @@ cellCount lay L = lay .cells * stageCount lay L
 -- 'so 6·L bytes': three bits a cell
 unfoldable pub byteCount : Layout → ℕ → ℕ
 byteCount lay L = 3 * cellCount lay L / 8
+
+-- 'A map with one bit for each cell of the page (strip by strip, 2·L·S bytes ..)' (document 02, K3): the bytes of a strip's part of it
+unfoldable pub mapCount : Layout → ℕ → ℕ
+mapCount lay L = cellCount lay L / 8

@@ -1,5 +1,6 @@
 // Reading a strip: eight data bits a turn, by windows of the last bits of the first cells and of the second.
 use crate::Code;
+use crate::MAP_BYTES;
 use crate::STRIP_BYTES;
 use crate::STRIP_CELLS;
 use crate::parities::parity;
@@ -8,7 +9,7 @@ ghost use Prim.Native.Nat.{_+_, _*_, _<_, _≤_};
 ghost use lib.ListN.{length};
 ghost use Rattle.cells.specs.Places.{number};
 ghost use Rattle.cells.specs.Levels.{level};
-ghost use Rattle.codes.specs.Layouts.{oneBit, cellCount, byteCount};
+ghost use Rattle.codes.specs.Layouts.{oneBit, cellCount, byteCount, mapCount};
 ghost use Rattle.codes.specs.Reading.{readStrip};
 ghost use Rattle.codes.specs.Codes.{generatorsOf, WindowsBefore};
 ghost use Rattle.codes.specs.Taps.{tappedBit};
@@ -58,6 +59,7 @@ impl Code {
         requires { ⌜ length (now «data») ≤ 64 ⌝ }
         ensures { λ _. ⌜ now («data» .exit) ≡ readStrip oneBit (generatorsOf self) (length (now («data» .entry))) (now (strip .entry)) ⌝ }
         ensures { λ _. do ⌜ ((← ⟦STRIP_BYTES⟧ .entry) ≡ byteCount oneBit 1) × ((← ⟦STRIP_CELLS⟧ .entry) ≡ cellCount oneBit 1) ⌝ }
+        ensures { λ _. do ⌜ (← ⟦MAP_BYTES⟧ .entry) ≡ mapCount oneBit 1 ⌝ }
     {
         let g1 = self.g1_taps();
         let g2 = self.g2_taps();

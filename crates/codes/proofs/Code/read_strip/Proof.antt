@@ -11,7 +11,7 @@ use Rattle.codes.specs.Codes.{generatorsOf, WindowsBefore}
 use Rattle.codes.specs.Taps.{windowOf, tappedBit}
 use Rattle.cells.proofs.Places.{store-more}
 use Rattle.codes.proofs.Codes.{memory-bounds}
-use Rattle.codes.proofs.Layouts.{oneBit-cells, oneBit-bytes}
+use Rattle.codes.proofs.Layouts.{oneBit-cells, oneBit-bytes, oneBit-map}
 use Rattle.codes.proofs.Taps.{read-bytes}
 use Rattle.codes.proofs.Code.read_strip.Statement.{statement}
 use Rattle.codes.proofs.Code.read_strip.Tie as tie
@@ -72,7 +72,7 @@ returns c =
     let e : l .q ≡ length (a .«data» .now) = omega arith in (
       read-bytes (generatorsOf (a .self)) _ (a .strip .now) (l .«data») m (l .inv .0)
           (λ k h. rw (s .before .g1-taps .ensures .0, s .g2-taps .ensures .0) at (l .inv .3 k (omega arith))),
-      (sym (oneBit-bytes 1), sym (oneBit-cells 1)),
+      ((sym (oneBit-bytes 1), sym (oneBit-cells 1)), sym (oneBit-map 1)),
     )
 
 pub read-strip-spec : {M : Type 1} → statement M
