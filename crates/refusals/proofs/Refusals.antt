@@ -1,11 +1,13 @@
 -- The grounds of a refusal: what holds of a call that has none, and what an answer tells of the ground.
 --   one-to-64, limits-in, limits-below, limits-above   the limits
 --   limits-in-order, limits-most, sizes-limits   L and S where the limits have no ground
---   shape-in-order, in-order                     a call without a ground
+--   shape-limits, shape-in-order, in-order       a call without a ground
 --   weights-dear                                 no step is free where the weights have no ground
 --   no-free-step, permitted-ground               a price or write is refused as a read is, or by its weights
 --   house-ground                                 with the house's weights it is refused as a read is
---   weighted-in-order                            a price or write without a ground
+--   weighted-in-order, map-in-order              a price or write without a ground, with a map or without
+--   erasing-in-order                             an erase without a ground, with a map
+--   same-ground, same-erasing                    a map of the right length refuses nothing more
 --   sizes-number                                 the code, L and S are refused by 1 to 3
 --   done-none, refused-some                      an answer tells its ground
 --   refused-first, done-next                     grounds tested one after the other
@@ -16,11 +18,12 @@ use mathlib.Core.Option.{Option, none, some}
 use Prim.Native.Nat.{ℕ, zero, suc, _*_, _<_, _≤_}
 use native.Mathlib.Omega.{arith}
 use lib.Dec.{eqb, leb}
-use borrow.Author.Tests.{eqb-true, eqb-false, le-leb, lt-leb, leb-true}
+use lib.IntN.{ℤ}
+use borrow.Author.Tests.{eq-eqb, eqb-true, eqb-false, le-leb, lt-leb, leb-true}
 use Rattle.cells.specs.Climbs.{house, weightOf}
 use Rattle.cells.proofs.Places.{and-both}
-use Rattle.codes.specs.Layouts.{oneBit, byteCount}
-use Rattle.refusals.specs.Refusals.{oneTo64, isCode, freeStep, first-of, codeGround, bytesGround, stripsGround, weightsGround, pageGround, dataGround, lengthsGround, limitsGround, sizesGround, shapeGround, ground, writeGround, completionOf, refusalNumber}
+use Rattle.codes.specs.Layouts.{oneBit, byteCount, mapCount}
+use Rattle.refusals.specs.Refusals.{oneTo64, isCode, freeStep, first-of, codeGround, bytesGround, stripsGround, weightsGround, pageGround, mapGround, dataGround, lengthsGround, limitsGround, sizesGround, shapeGround, ground, callGround, writeGround, eraseGround, erasingGround, completionOf, refusalNumber}
 use Rattle.refusals.specs.declared.Refusal.{Refusal}
 use Rattle.refusals.specs.declared.Refusal.the-variants.{CodeUnknown, BytesOutside, StripsOutside, WeightZero}
 use Rattle.refusals.specs.declared.Completion.{Completion}
@@ -57,6 +60,10 @@ no-ground : (b : Bool) (r : Refusal) → cond b none (some r) ≡ none → b ≡
 no-ground true r e = refl
 no-ground false r e = let z : _≡_ {A = ℕ} 0 1 = cc in absurd (omega arith)
 
+-- two lengths are equal where the ground of their test does not apply
+same-length : (m n : ℕ) (r : Refusal) → cond (eqb m n) none (some r) ≡ none → m ≡ n
+same-length m n r e = eqb-true m n (no-ground (eqb m n) r e)
+
 -- L and S where the limits are kept
 limits-in-order : (L S : ℕ) → limitsGround L S ≡ none → (oneTo64 L ≡ true) × (oneTo64 S ≡ true)
 unfolding limitsGround bytesGround stripsGround
@@ -68,6 +75,11 @@ limits-in-order L S e =
 pub limits-most : (L S : ℕ) → limitsGround L S ≡ none → (L ≤ 64) × (S ≤ 64)
 limits-most L S e = let l = limits-in-order L S e in (one-to-64 L (l .0) .1, one-to-64 S (l .1) .1)
 
+-- the limits are kept where the shape has no ground
+pub shape-limits : (L S page : ℕ) → shapeGround L S page ≡ none → limitsGround L S ≡ none
+unfolding shapeGround
+shape-limits L S page e = neither (limitsGround L S) (pageGround oneBit L S page) e .0
+
 -- L, S and the page's length where the shape is in order
 pub shape-in-order : (L S page : ℕ) → shapeGround L S page ≡ none
     → (oneTo64 L ≡ true) × (oneTo64 S ≡ true) × (page ≡ byteCount oneBit L * S)
@@ -75,7 +87,7 @@ unfolding shapeGround pageGround
 shape-in-order L S page e =
     let p = neither (limitsGround L S) (pageGround oneBit L S page) e in
     let l = limits-in-order L S (p .0) in
-    (l .0, l .1, eqb-true page (byteCount oneBit L * S) (no-ground (eqb page (byteCount oneBit L * S)) _ (p .1)))
+    (l .0, l .1, same-length page (byteCount oneBit L * S) _ (p .1))
 
 -- the limits are kept where the code and the limits have no ground
 pub sizes-limits : (code L S : ℕ) → sizesGround code L S ≡ none → limitsGround L S ≡ none
@@ -89,13 +101,8 @@ unfolding ground lengthsGround pageGround dataGround
 in-order code L S page content e =
     let p = neither (sizesGround code L S) (lengthsGround L S page content) e in
     let q = neither (pageGround oneBit L S page) (dataGround L S content) (p .1) in
-    let l = limits-in-order L S (sizes-limits code L S (p .0)) in (
-      l .0,
-      l .1,
-      eqb-true page (byteCount oneBit L * S) (no-ground (eqb page (byteCount oneBit L * S)) _ (q .0)),
-      eqb-true content (L * S)
-          (no-ground (eqb content (L * S)) _ (q .1)),
-    )
+    let l = limits-in-order L S (sizes-limits code L S (p .0)) in
+    (l .0, l .1, same-length page (byteCount oneBit L * S) _ (q .0), same-length content (L * S) _ (q .1))
 
 -- THE WEIGHTS. No step is free where they have no ground
 weights-told : (a b c : Bool) → cond (a || b || c) (some WeightZero) none ≡ none → (a ≡ false) × (b ≡ false) × (c ≡ false)
@@ -119,27 +126,75 @@ weights-dear W e l h = go l h (weights-told (eqb (weightOf W 0) 0) (eqb (weightO
     go (suc (suc zero)) h p = above _ (p .2)
     go (suc (suc (suc l))) h p = absurd (let z : ⊥ = omega arith in z)
 
--- they have none where a price or a write has none
-pub no-free-step : (W : List ℕ) (code L S page content : ℕ) → writeGround W code L S page content ≡ none → weightsGround W ≡ none
-unfolding writeGround
-no-free-step W code L S page content e = neither (weightsGround W) _ (neither (sizesGround code L S) _ e .1) .0
+-- A PRICE OR A WRITE without a ground has none of the five
+none-of-five : (map : Option ℕ) (W : List ℕ) (code L S page content : ℕ) → callGround map W code L S page content ≡ none
+    → (sizesGround code L S ≡ none)
+    × (weightsGround W ≡ none)
+    × (pageGround oneBit L S page ≡ none)
+    × (mapGround oneBit L S map ≡ none)
+    × (dataGround L S content ≡ none)
+unfolding callGround
+none-of-five map W code L S page content e =
+    let p = neither (sizesGround code L S) _ e in
+    let q = neither (weightsGround W) _ (p .1) in
+    let r = neither (pageGround oneBit L S page) _ (q .1) in
+    let s = neither (mapGround oneBit L S map) (dataGround L S content) (r .1) in
+    (p .0, q .0, r .0, s .0, s .1)
 
--- and then it is refused as a read is
+-- so no step is free
+pub no-free-step : (map : Option ℕ) (W : List ℕ) (code L S page content : ℕ) → callGround map W code L S page content ≡ none
+    → weightsGround W ≡ none
+no-free-step map W code L S page content e = none-of-five map W code L S page content e .1
+
+-- L, S and both lengths are in order
+pub weighted-in-order : (map : Option ℕ) (W : List ℕ) (code L S page content : ℕ) → callGround map W code L S page content ≡ none
+    → (oneTo64 L ≡ true) × (oneTo64 S ≡ true) × (page ≡ byteCount oneBit L * S) × (content ≡ L * S)
+unfolding pageGround dataGround
+weighted-in-order map W code L S page content e =
+    let p = none-of-five map W code L S page content e in
+    let l = limits-in-order L S (sizes-limits code L S (p .0)) in
+    (l .0, l .1, same-length page (byteCount oneBit L * S) _ (p .2), same-length content (L * S) _ (p .4))
+
+-- and the map's length, where there is a map
+pub map-in-order : (map : ℕ) (W : List ℕ) (code L S page content : ℕ) → callGround (some map) W code L S page content ≡ none
+    → map ≡ mapCount oneBit L * S
+map-in-order map W code L S page content e =
+    same-length map (mapCount oneBit L * S) _ (none-of-five (some map) W code L S page content e .3)
+
+-- a map of the right length refuses nothing more
+right-map : (L S : ℕ) → mapGround oneBit L S (some (mapCount oneBit L * S)) ≡ none
+right-map L S = rw (eq-eqb (mapCount oneBit L * S) (mapCount oneBit L * S) refl)
+
+pub same-ground : (W : List ℕ) (code L S page content : ℕ)
+    → callGround (some (mapCount oneBit L * S)) W code L S page content ≡ callGround none W code L S page content
+unfolding callGround
+same-ground W code L S page content = rw (right-map L S)
+
+-- AN ERASE without a ground: the lengths of its page and of its map
+pub erasing-in-order : (map L S page : ℕ) (tenths : ℤ) → erasingGround (some map) L S page tenths ≡ none
+    → (page ≡ byteCount oneBit L * S) × (map ≡ mapCount oneBit L * S)
+unfolding erasingGround
+erasing-in-order map L S page tenths e =
+    let p = neither (shapeGround L S page) _ e in
+    let q = neither (mapGround oneBit L S (some map)) (eraseGround tenths) (p .1) in
+    (shape-in-order L S page (p .0) .2, same-length map (mapCount oneBit L * S) _ (q .0))
+
+-- a map of the right length refuses nothing more
+pub same-erasing : (L S page : ℕ) (tenths : ℤ)
+    → erasingGround (some (mapCount oneBit L * S)) L S page tenths ≡ erasingGround none L S page tenths
+unfolding erasingGround
+same-erasing L S page tenths = rw (right-map L S)
+
+-- WITHOUT A MAP a price or a write is refused as a read is, where no step is free
 pub permitted-ground : (W : List ℕ) (code L S page content : ℕ) → weightsGround W ≡ none
     → writeGround W code L S page content ≡ ground code L S page content
-unfolding writeGround ground
+unfolding callGround ground lengthsGround
 permitted-ground W code L S page content e = rw e
 
 -- as with the house's weights, none of which is 0
 pub house-ground : (code L S page content : ℕ) → writeGround house code L S page content ≡ ground code L S page content
 unfolding weightsGround freeStep weightOf
 house-ground code L S page content = permitted-ground house code L S page content refl
-
--- L, S and both lengths where it has no ground
-pub weighted-in-order : (W : List ℕ) (code L S page content : ℕ) → writeGround W code L S page content ≡ none
-    → (oneTo64 L ≡ true) × (oneTo64 S ≡ true) × (page ≡ byteCount oneBit L * S) × (content ≡ L * S)
-weighted-in-order W code L S page content e =
-    in-order code L S page content (sym (permitted-ground W code L S page content (no-free-step W code L S page content e)) ∙ e)
 
 -- the code, L and S are refused by 1 to 3
 three-tests : (a b c : Bool) {r : Refusal}

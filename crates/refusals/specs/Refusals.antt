@@ -4,10 +4,13 @@
 --   limitsGround, sizesGround   the grounds of L and S; of the code, L and S
 --   freeStep, weightsGround     whether a weight is 0, and the ground of that
 --   shapeGround, lengthsGround  the grounds of erase and census; of both lengths
+--   mapGround                   the ground of a map's length, where there is a map
 --   ground                      the grounds of read
---   writeGround                 the grounds of price and write
+--   callGround                  the grounds of price and write, with a map or without
+--   writeGround                 those without
 --   tooCold, tooWarm            an erase outside 50 to 400
 --   eraseGround                 from the state: such an erase
+--   erasingGround               the grounds of erase, with a map or without
 --   refusalNumber               the paper's number of a refusal
 --   textNumber                  the number of the refusal that no call has
 --   completionOf                done, or the refusal; completionNumber, the paper's number of it
@@ -20,9 +23,9 @@ use lib.IntN.{ℤ, pos}
 use lib.Signed.{ltZ}
 use Rattle.cells.specs.Climbs.{weightOf}
 use Rattle.codes.specs.Generators.{Generators, short, long}
-use Rattle.codes.specs.Layouts.{Layout, oneBit, byteCount}
+use Rattle.codes.specs.Layouts.{Layout, oneBit, byteCount, mapCount}
 use Rattle.refusals.specs.declared.Refusal.{Refusal}
-use Rattle.refusals.specs.declared.Refusal.the-variants.{CodeUnknown, BytesOutside, StripsOutside, WeightZero, PageLength, DataLength, EraseTemperature}
+use Rattle.refusals.specs.declared.Refusal.the-variants.{CodeUnknown, BytesOutside, StripsOutside, WeightZero, PageLength, MapLength, DataLength, EraseTemperature}
 use Rattle.refusals.specs.declared.Completion.{Completion}
 use Rattle.refusals.specs.declared.Completion.the-variants as C
 
@@ -54,6 +57,11 @@ stripsGround S = cond (oneTo64 S) none (some StripsOutside)
 -- '4: the page is not 6·L·S bytes long': a strip of the layout has so many bytes for L bytes of data
 unfoldable pub pageGround : Layout → ℕ → ℕ → ℕ → Option Refusal
 pageGround lay L S size = cond (eqb size (byteCount lay L * S)) none (some PageLength)
+
+-- '11, the map has another length, tested after 4 and before 5'; 'calls without one mean a map with no cell marked'
+abbrev pub mapGround : Layout → ℕ → ℕ → Option ℕ → Option Refusal
+mapGround lay L S none = none
+mapGround lay L S (some size) = cond (eqb size (mapCount lay L * S)) none (some MapLength)
 
 -- '5: the data, or the buffer for it, is not L·S bytes long'
 unfoldable pub dataGround : ℕ → ℕ → ℕ → Option Refusal
@@ -87,9 +95,16 @@ lengthsGround L S page content = first-of (pageGround oneBit L S page) (dataGrou
 unfoldable pub ground : ℕ → ℕ → ℕ → ℕ → ℕ → Option Refusal
 ground code L S page content = first-of (sizesGround code L S) (lengthsGround L S page content)
 
--- for price and write, with the weights W: 9 is 'tested after 3 and before 4'
-unfoldable pub writeGround : List ℕ → ℕ → ℕ → ℕ → ℕ → ℕ → Option Refusal
-writeGround W code L S page content = first-of (sizesGround code L S) (first-of (weightsGround W) (lengthsGround L S page content))
+-- for price and write, with the weights W and perhaps a map: 9 is 'tested after 3 and before 4', 11 'after 4 and before 5'
+unfoldable pub callGround : Option ℕ → List ℕ → ℕ → ℕ → ℕ → ℕ → ℕ → Option Refusal
+callGround map W code L S page content =
+    first-of (sizesGround code L S)
+    (first-of (weightsGround W)
+    (first-of (pageGround oneBit L S page) (first-of (mapGround oneBit L S map) (dataGround L S content))))
+
+-- 'calls without one': those without a map
+abbrev pub writeGround : List ℕ → ℕ → ℕ → ℕ → ℕ → ℕ → Option Refusal
+writeGround W code L S page content = callGround none W code L S page content
 
 -- 'From 50 to 400, both included', in tenths of a degree Celsius
 unfoldable pub tooCold : ℤ → Bool
@@ -102,6 +117,10 @@ tooWarm tenths = ltZ (pos 400) tenths
 unfoldable pub eraseGround : ℤ → Option Refusal
 eraseGround tenths = cond (tooCold tenths || tooWarm tenths) (some EraseTemperature) none
 
+-- for erase, perhaps with a map: 11 is 'tested after 4', and 8 'after those of the input'
+unfoldable pub erasingGround : Option ℕ → ℕ → ℕ → ℕ → ℤ → Option Refusal
+erasingGround map L S page tenths = first-of (shapeGround L S page) (first-of (mapGround oneBit L S map) (eraseGround tenths))
+
 -- the paper's number of each refusal
 abbrev pub refusalNumber : Refusal → ℕ
 refusalNumber CodeUnknown = 1
@@ -111,6 +130,7 @@ refusalNumber PageLength = 4
 refusalNumber DataLength = 5
 refusalNumber EraseTemperature = 8
 refusalNumber WeightZero = 9
+refusalNumber MapLength = 11
 
 -- '6: text of the program is not in its form': the run program's own, so no member of the enum, which a call could answer
 abbrev pub textNumber : ℕ

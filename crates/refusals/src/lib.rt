@@ -1,18 +1,19 @@
 // Which input is in order: the grounds of a refusal, each tested in one place, in the paper's order.
 use codes::Code;
 ghost use mathlib.Core.Path.{_≡_};
-ghost use mathlib.Core.Option.{Option, none};
+ghost use mathlib.Core.Option.{Option, none, some};
 ghost use Rattle.codes.specs.Layouts.{oneBit};
 ghost use Rattle.codes.specs.Codes.{generatorsOf};
-ghost use Rattle.refusals.specs.Refusals.{oneTo64, isCode, tooCold, tooWarm, freeStep, limitsGround, sizesGround, weightsGround, pageGround, dataGround, lengthsGround, shapeGround, ground, writeGround, eraseGround, first-of, numbered, refusalNumber, completionOf, completionNumber};
+ghost use Rattle.refusals.specs.Refusals.{oneTo64, isCode, tooCold, tooWarm, freeStep, limitsGround, sizesGround, weightsGround, pageGround, mapGround, dataGround, lengthsGround, shapeGround, ground, callGround, writeGround, eraseGround, erasingGround, first-of, numbered, refusalNumber, completionOf, completionNumber};
 
-// Why a call is refused, in the order of the tests; the paper's numbers are 1, 2, 3, 9, 4, 5 and 8.
+// Why a call is refused, in the order of the tests; the paper's numbers are 1, 2, 3, 9, 4, 11, 5 and 8.
 pub enum Refusal {
     CodeUnknown,
     BytesOutside,
     StripsOutside,
     WeightZero,
     PageLength,
+    MapLength,
     DataLength,
     EraseTemperature,
 }
@@ -73,6 +74,17 @@ fn judge_page(bytes: u32, strips: u32, page: usize) -> Completion
 {
     if page != codes::STRIP_BYTES * (bytes as usize) * (strips as usize) {
         return Completion::Refused(Refusal::PageLength);
+    }
+    Completion::Done
+}
+
+// Judges the map's length.
+fn judge_map(bytes: u32, strips: u32, map: usize) -> Completion
+    requires { ⌜ limitsGround bytes strips ≡ none ⌝ }
+    ensures { λ r. ⌜ r ≡ completionOf (mapGround oneBit bytes strips (some map)) ⌝ }
+{
+    if map != codes::MAP_BYTES * (bytes as usize) * (strips as usize) {
+        return Completion::Refused(Refusal::MapLength);
     }
     Completion::Done
 }
@@ -153,6 +165,25 @@ fn judge_weights(weights: [u8; 3]) -> Completion
     Completion::Done
 }
 
+// Judges the weights, then the lengths of page, map and data. The map's is judged already: done where there is no map.
+fn judge_weighted(
+    bytes: u32,
+    strips: u32,
+    weights: [u8; 3],
+    page: usize,
+    judged: Completion,
+    data: usize,
+) -> Completion
+    requires { ⌜ limitsGround bytes strips ≡ none ⌝ }
+    ensures { λ r. ⌜ ((g : Option Refusal) → judged ≡ completionOf g → r ≡ completionOf (first-of (weightsGround weights)
+        (first-of (pageGround oneBit bytes strips page) (first-of g (dataGround bytes strips «data»))))) ⌝ }
+{
+    let steps = judge_weights(weights);
+    let of_page = judge_page(bytes, strips, page);
+    let of_data = judge_data(bytes, strips, data);
+    earlier(steps, earlier(of_page, earlier(judged, of_data)))
+}
+
 // Judges what a price or a write is given: the code, L and S, then the weights, then both lengths.
 pub fn judge_write(
     code: u32,
@@ -168,9 +199,27 @@ pub fn judge_write(
     let Completion::Done = sizes else {
         return sizes;
     };
-    let steps = judge_weights(weights);
-    let lengths = judge_lengths(bytes, strips, page, data);
-    earlier(steps, lengths)
+    judge_weighted(bytes, strips, weights, page, Completion::Done, data)
+}
+
+// And with a map, whose length is judged between the page's and the data's.
+pub fn judge_mapped(
+    code: u32,
+    bytes: u32,
+    strips: u32,
+    weights: [u8; 3],
+    page: usize,
+    map: usize,
+    data: usize,
+) -> Completion
+    ensures { λ r. ⌜ r ≡ completionOf (callGround (some map) weights code bytes strips page «data») ⌝ }
+{
+    let sizes = judge_sizes(code, bytes, strips);
+    let Completion::Done = sizes else {
+        return sizes;
+    };
+    let of_map = judge_map(bytes, strips, map);
+    judge_weighted(bytes, strips, weights, page, of_map, data)
 }
 
 // The code of a number that is 3 or 7.
@@ -198,6 +247,19 @@ fn too_warm(tenths: i16) -> bool
     tenths > 400
 }
 
+// Judges the temperature.
+fn judge_tenths(tenths: i16) -> Completion
+    ensures { λ r. ⌜ r ≡ completionOf (eraseGround tenths) ⌝ }
+{
+    if too_cold(tenths) {
+        return Completion::Refused(Refusal::EraseTemperature);
+    }
+    if too_warm(tenths) {
+        return Completion::Refused(Refusal::EraseTemperature);
+    }
+    Completion::Done
+}
+
 // Judges the shape, then the temperature.
 pub fn judge_erase(bytes: u32, strips: u32, page: usize, tenths: i16) -> Completion
     ensures { λ r. ⌜ r ≡ completionOf (first-of (shapeGround bytes strips page) (eraseGround tenths)) ⌝ }
@@ -206,13 +268,26 @@ pub fn judge_erase(bytes: u32, strips: u32, page: usize, tenths: i16) -> Complet
     let Completion::Done = judged else {
         return judged;
     };
-    if too_cold(tenths) {
-        return Completion::Refused(Refusal::EraseTemperature);
-    }
-    if too_warm(tenths) {
-        return Completion::Refused(Refusal::EraseTemperature);
-    }
-    Completion::Done
+    judge_tenths(tenths)
+}
+
+// And with a map, whose length is judged between them.
+pub fn judge_mapped_erase(
+    bytes: u32,
+    strips: u32,
+    page: usize,
+    map: usize,
+    tenths: i16,
+) -> Completion
+    ensures { λ r. ⌜ r ≡ completionOf (erasingGround (some map) bytes strips page tenths) ⌝ }
+{
+    let judged = judge_shape(bytes, strips, page);
+    let Completion::Done = judged else {
+        return judged;
+    };
+    let of_map = judge_map(bytes, strips, map);
+    let of_tenths = judge_tenths(tenths);
+    earlier(of_map, of_tenths)
 }
 
 // The number of a refusal.
@@ -227,6 +302,7 @@ pub fn refusal_number(refusal: Refusal) -> u32
         Refusal::DataLength => 5,
         Refusal::EraseTemperature => 8,
         Refusal::WeightZero => 9,
+        Refusal::MapLength => 11,
     }
 }
 
