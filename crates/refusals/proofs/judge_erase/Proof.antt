@@ -1,4 +1,6 @@
 -- The shape, then the temperature: the grounds in the same order.
+use mir.Syntax.{w16}
+use mir.ValLaws.{toZ-ofZ}
 use borrow.Author.Needs.{needs}
 use Rattle.refusals.specs.Refusals.{shapeGround, eraseGround}
 use Rattle.refusals.proofs.Refusals.{done-next, refused-first}
@@ -25,7 +27,11 @@ judge-tenths-requires : tie.Need-judge-tenths-requires
 judge-tenths-requires c κs = search needs
 
 returns-2 : tie.Need-returns-2
-returns-2 c = ?
+returns-2 c =
+    let j = c .before .before .before in
+    let a = j .before .args in
+    done-next (shapeGround (a .bytes) (a .strips) (a .page)) (eraseGround (a .tenths)) (j .judge-shape .ensures)
+    (c .before .enum-told .given .1) (rw (toZ-ofZ w16 (a .tenths) (j .before .fits .tenths)) at (c .judge-tenths .ensures))
 
 pub judge-erase-spec : {M : Type 1} → statement M
 judge-erase-spec =

@@ -1,0 +1,58 @@
+-- The sizes, then the weights and the three lengths: the grounds in the same order.
+use mathlib.Core.Path.{sym, _∙_}
+use mathlib.Core.Option.{some}
+use borrow.Author.Needs.{needs}
+use Rattle.codes.specs.Layouts.{oneBit}
+use Rattle.refusals.specs.Refusals.{callGround, sizesGround, mapGround}
+use Rattle.refusals.proofs.Refusals.{done-none, done-next, refused-first, sizes-limits}
+use Rattle.refusals.proofs.judge_mapped.Statement.{statement}
+use Rattle.refusals.proofs.judge_mapped.Tie as tie
+
+judge-sizes-requires : tie.Need-judge-sizes-requires
+judge-sizes-requires c κs = search needs
+
+enum-told : tie.Need-enum-told
+enum-told c = search needs
+
+enum-told-2 : tie.Need-enum-told-2
+enum-told-2 c = search needs
+
+returns : tie.Need-returns
+unfolding callGround
+returns c =
+    let j = c .before .before in
+    let a = j .before .args in
+    refused-first (sizesGround (a .code) (a .bytes) (a .strips)) _ (j .judge-sizes .result) (j .judge-sizes .ensures) (c .enum-told2 .given .1)
+
+judge-map-requires : tie.Need-judge-map-requires
+judge-map-requires c κs =
+    let j = c .before .before in
+    let a = j .before .args in
+    sizes-limits (a .code) (a .bytes) (a .strips) (done-none _ (sym (j .judge-sizes .ensures) ∙ c .enum-told .given .1))
+
+judge-weighted-requires : tie.Need-judge-weighted-requires
+judge-weighted-requires c κs =
+    let j = c .before .before .before in
+    let a = j .before .args in
+    sizes-limits (a .code) (a .bytes) (a .strips) (done-none _ (sym (j .judge-sizes .ensures) ∙ c .before .enum-told .given .1))
+
+returns-2 : tie.Need-returns-2
+unfolding callGround
+returns-2 c =
+    let t = c .before .before in
+    let j = t .before .before in
+    let a = j .before .args in
+    done-next (sizesGround (a .code) (a .bytes) (a .strips)) _ (j .judge-sizes .ensures) (t .enum-told .given .1)
+    (c .judge-weighted .ensures (mapGround oneBit (a .bytes) (a .strips) (some (a .map))) (c .before .judge-map .ensures))
+
+pub judge-mapped-spec : {M : Type 1} → statement M
+judge-mapped-spec =
+    tie.close
+    (tie.spec
+    judge-sizes-requires
+    enum-told
+    enum-told-2
+    returns
+    judge-map-requires
+    judge-weighted-requires
+    returns-2)
