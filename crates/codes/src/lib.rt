@@ -14,11 +14,11 @@ ghost use Rattle.codes.specs.Codes.{generatorsOf, nextOf, TableRow};
 // The bytes of a strip for each byte of its data: `byteCount` of `oneBit`.
 pub const STRIP_BYTES: usize = 6;
 
-// The bytes of its part of a map of cells: `mapCount` of `oneBit`.
-pub const MAP_BYTES: usize = 2;
-
 // And its cells: `cellCount` of `oneBit`.
 pub const STRIP_CELLS: u32 = 16;
+
+// And the bytes of its part of a map with one bit for each cell: `mapCount` of `oneBit`.
+pub const MAP_BYTES: usize = 2;
 
 enum Name {
     Short,

@@ -5,7 +5,7 @@ use mir.Syntax.{w16}
 use mir.ValLaws.{toZ-ofZ}
 use borrow.Author.Needs.{needs}
 use Rattle.codes.specs.Layouts.{oneBit}
-use Rattle.refusals.specs.Refusals.{first-of, shapeGround, mapGround, eraseGround, erasingGround}
+use Rattle.refusals.specs.Refusals.{shapeGround, mapGround, eraseGround, erasingGround}
 use Rattle.refusals.proofs.Refusals.{done-none, done-next, refused-first, shape-limits}
 use Rattle.refusals.proofs.judge_mapped_erase.Statement.{statement}
 use Rattle.refusals.proofs.judge_mapped_erase.Tie as tie
@@ -44,10 +44,10 @@ returns-2 c =
     let t = c .before .before .before in
     let j = t .before .before in
     let a = j .before .args in
-    let of-map = mapGround oneBit (a .bytes) (a .strips) (some (a .map)) in
-    done-next (shapeGround (a .bytes) (a .strips) (a .page)) (first-of of-map (eraseGround (a .tenths))) (j .judge-shape .ensures)
+    done-next (shapeGround (a .bytes) (a .strips) (a .page)) _ (j .judge-shape .ensures)
     (t .enum-told .given .1)
-    (c .earlier .ensures of-map (eraseGround (a .tenths)) (c .before .before .judge-map .ensures)
+    (c .earlier .ensures (mapGround oneBit (a .bytes) (a .strips) (some (a .map))) (eraseGround (a .tenths))
+    (c .before .before .judge-map .ensures)
     (rw (toZ-ofZ w16 (a .tenths) (j .before .fits .tenths)) at (c .before .judge-tenths .ensures)))
 
 pub judge-mapped-erase-spec : {M : Type 1} → statement M
