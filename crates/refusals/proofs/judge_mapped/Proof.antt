@@ -22,7 +22,8 @@ unfolding callGround
 returns c =
     let j = c .before .before in
     let a = j .before .args in
-    refused-first (sizesGround (a .code) (a .bytes) (a .strips)) _ (j .judge-sizes .result) (j .judge-sizes .ensures) (c .enum-told2 .given .1)
+    refused-first (sizesGround (a .code) (a .bytes) (a .strips)) _ (j .judge-sizes .result) (j .judge-sizes .ensures)
+    (c .enum-told2 .given .1)
 
 judge-map-requires : tie.Need-judge-map-requires
 judge-map-requires c κs =

@@ -24,7 +24,8 @@ unfolding erasingGround
 returns c =
     let j = c .before .before in
     let a = j .before .args in
-    refused-first (shapeGround (a .bytes) (a .strips) (a .page)) _ (j .judge-shape .result) (j .judge-shape .ensures) (c .enum-told2 .given .1)
+    refused-first (shapeGround (a .bytes) (a .strips) (a .page)) _ (j .judge-shape .result) (j .judge-shape .ensures)
+    (c .enum-told2 .given .1)
 
 judge-map-requires : tie.Need-judge-map-requires
 judge-map-requires c κs =
@@ -44,8 +45,7 @@ returns-2 c =
     let t = c .before .before .before in
     let j = t .before .before in
     let a = j .before .args in
-    done-next (shapeGround (a .bytes) (a .strips) (a .page)) _ (j .judge-shape .ensures)
-    (t .enum-told .given .1)
+    done-next (shapeGround (a .bytes) (a .strips) (a .page)) _ (j .judge-shape .ensures) (t .enum-told .given .1)
     (c .earlier .ensures (mapGround oneBit (a .bytes) (a .strips) (some (a .map))) (eraseGround (a .tenths))
     (c .before .before .judge-map .ensures)
     (rw (toZ-ofZ w16 (a .tenths) (j .before .fits .tenths)) at (c .before .judge-tenths .ensures)))

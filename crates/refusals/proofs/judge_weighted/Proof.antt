@@ -1,7 +1,7 @@
 -- The weights, then the page's length, the map's and the data's: the grounds in the same order.
 use borrow.Author.Needs.{needs}
 use Rattle.codes.specs.Layouts.{oneBit}
-use Rattle.refusals.specs.Refusals.{first-of, weightsGround, pageGround, dataGround}
+use Rattle.refusals.specs.Refusals.{weightsGround, pageGround, dataGround}
 use Rattle.refusals.proofs.judge_weighted.Statement.{statement}
 use Rattle.refusals.proofs.judge_weighted.Tie as tie
 
@@ -27,11 +27,9 @@ returns : tie.Need-returns
 returns c =
     let d = c .before .before .before in
     let a = d .before .before .before .args in
-    let of-page = pageGround oneBit (a .bytes) (a .strips) (a .page) in
-    let of-data = dataGround (a .bytes) (a .strips) (a .«data») in
-    λ g e. c .earlier3 .ensures (weightsGround (a .weights)) (first-of of-page (first-of g of-data)) (d .before .before .judge-weights .ensures)
-    (c .before .earlier2 .ensures of-page (first-of g of-data) (d .before .judge-page .ensures)
-    (c .before .before .earlier .ensures g of-data e (d .judge-data .ensures)))
+    λ g e. c .earlier3 .ensures (weightsGround (a .weights)) _ (d .before .before .judge-weights .ensures)
+    (c .before .earlier2 .ensures (pageGround oneBit (a .bytes) (a .strips) (a .page)) _ (d .before .judge-page .ensures)
+    (c .before .before .earlier .ensures g (dataGround (a .bytes) (a .strips) (a .«data»)) e (d .judge-data .ensures)))
 
 pub judge-weighted-spec : {M : Type 1} → statement M
 judge-weighted-spec =

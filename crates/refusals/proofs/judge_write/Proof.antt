@@ -21,7 +21,8 @@ unfolding callGround
 returns c =
     let j = c .before .before in
     let a = j .before .args in
-    refused-first (sizesGround (a .code) (a .bytes) (a .strips)) _ (j .judge-sizes .result) (j .judge-sizes .ensures) (c .enum-told2 .given .1)
+    refused-first (sizesGround (a .code) (a .bytes) (a .strips)) _ (j .judge-sizes .result) (j .judge-sizes .ensures)
+    (c .enum-told2 .given .1)
 
 judge-weighted-requires : tie.Need-judge-weighted-requires
 judge-weighted-requires c κs =
