@@ -2,7 +2,7 @@
 --   level-bound     a level is at most 3
 --   level-same      the same three bits, the same level
 --   raisesOf-more   the levels of one cell more, added up
---   level-past      past the end a level is 0
+--   bit-past        past the end a bit is 0, and so is a level (level-past)
 --   levels-at       pages with the same levels: each level, also past the end; both ways round (levels-sym); a page itself (levels-self)
 --   three-bits      three bits in a row are the ones of three digits of two bytes
 use mathlib.Core.Path.{_≡_, refl, sym, _∙_, ap}
@@ -41,7 +41,7 @@ unfolding raisesOf
 raisesOf-more n bytes = sumOf-more n (level bytes)
 
 -- THE SAME LEVELS. Past the end a bit is 0
-bit-past : (bytes : List ℕ) (k : ℕ) → 8 * length bytes ≤ k → bitOf bytes k ≡ 0
+pub bit-past : (bytes : List ℕ) (k : ℕ) → 8 * length bytes ≤ k → bitOf bytes k ≡ 0
 unfolding bitOf
 bit-past bytes k h =
     let e : getD bytes (k / 8) 0 ≡ 0 = List·getD-eq-default bytes 0 (omega arith) in

@@ -3,5 +3,6 @@ pub mod Places
 pub mod Bytes
 pub mod Levels
 pub mod Raising
+pub mod Marks
 pub mod Climbs
 pub mod Parts

@@ -4,4 +4,5 @@ pub mod Bytes
 pub mod Levels
 pub mod Marks
 pub mod Raising
+pub mod Marks
 pub mod Climbs

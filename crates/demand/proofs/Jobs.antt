@@ -3,6 +3,7 @@
 --   part-length, part-octets   a part has its bytes
 --   part-data                  its data bits are those of the data
 --   part-at, parts-same        the same parts, the same list
+--   part-marks                 the marks of strip k by its part of the map
 --   part-level                 cell c of strip k is cell n·k + c of the page
 --   part-raised                strip k of a page raised is strip k raised
 use mathlib.Core.Path.{_≡_, sym, _∙_, ap, ap₂}
@@ -10,11 +11,13 @@ use mathlib.Core.List.{List, [], _∷_}
 use Prim.Native.Nat.{ℕ, _<_, _≤_, _+_, _*_, _-_, _/_, _%_}
 use native.Mathlib.Omega.{arith}
 use native.Mathlib.Nat.{mul-assoc, div-add-mod}
+use lib.Dec.{eqb}
 use lib.ListN.{length, getD, take, drop, length-drop}
 use lib.Seq.{ext-getD, getD-take, getD-drop, length-take-le}
 use Rattle.cells.specs.Bytes.{bitOf, bytesOf, Octets}
 use Rattle.cells.specs.Levels.{level}
 use Rattle.cells.specs.Raising.{raisedTimes, triple, raisedTo}
+use Rattle.cells.specs.Marks.{marksIn}
 use Rattle.cells.proofs.Places.{length-listOf, listOf-at, number-same}
 use Rattle.cells.proofs.Bytes.{part-bit, length-bytesOf, bytesOf-same}
 use Rattle.cells.proofs.Levels.{level-same}
@@ -39,6 +42,11 @@ part-octets n S k x e h b = record {
 pub part-data : (L k : ℕ) (content : List ℕ) (t : ℕ) → t < 8 * L → bitOf (part L k content) t ≡ bitOf content (8 * L * k + t)
 unfolding part
 part-data L k content t h = part-bit (L * k) L content t h ∙ ap (bitOf content) (omega arith)
+
+-- mark c of part k of a map is mark 8·n·k + c of the map
+pub part-marks : (n k : ℕ) (bytes : List ℕ) (c : ℕ) → c < 8 * n → marksIn (part n k bytes) c ≡ marksIn bytes (8 * n * k + c)
+unfolding marksIn
+part-marks n k bytes c h = ap (λ (b : ℕ). eqb b 1) (part-data n k bytes c h)
 
 -- place i of part k
 part-at : (n k : ℕ) (x : List ℕ) (i : ℕ) → i < n → getD (part n k x) i 0 ≡ getD x (n * k + i) 0
