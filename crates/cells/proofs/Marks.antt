@@ -9,21 +9,24 @@
 --   emptied-none      with no cell marked every byte is 0
 --   emptied-same      it depends on the marks of the page's own cells alone
 --   emptied-levels    pages with the same levels, emptied, have the same levels
+--   keptBit-bound     a bit kept is a bit: that of a marked cell (-marked), and 0 for another (-other)
+--   keptByte-none     a byte none of whose cells is marked is 0
+--   emptied-byte      a byte of the page emptied is the byte kept
 use mathlib.Core.Path.{_≡_, refl, sym, _∙_, ap, fun-ext}
 use mathlib.Core.Bool.{Bool, true, false, cond}
 use mathlib.Core.List.{List, [], _∷_}
 use Prim.Native.Nat.{ℕ, zero, suc, _<_, _≤_, _+_, _*_, _/_, _%_, _^_}
 use native.Mathlib.Omega.{arith}
 use native.Mathlib.Nat.{zero-div}
-use lib.Dec.{ltb}
-use lib.ListN.{length, replicate}
-use borrow.Author.Tests.{ltb-true, ltb-false}
+use lib.Dec.{eqb, ltb}
+use lib.ListN.{length, getD, replicate}
+use borrow.Author.Tests.{ltb-true, ltb-false, eq-eqb, ne-eqb}
 use Rattle.cells.specs.Places.{listOf, sumOf, number}
 use Rattle.cells.specs.Bytes.{bitOf, bytesOf}
 use Rattle.cells.specs.Levels.{level, raisesOf, SameLevels}
 use Rattle.cells.specs.Raising.{triple}
-use Rattle.cells.specs.Marks.{marksIn, emptied}
-use Rattle.cells.proofs.Places.{sumOf-same, zeros-at}
+use Rattle.cells.specs.Marks.{marksIn, emptied, keptBit, keptByte}
+use Rattle.cells.proofs.Places.{listOf-at, sumOf-same, number-same, zeros-at}
 use Rattle.cells.proofs.Bytes.{bit-bound, length-bytesOf, bytesOf-bit, bytesOf-same}
 use Rattle.cells.proofs.Levels.{level-same, bit-past, levels-at}
 
@@ -125,3 +128,44 @@ emptied-levels marks {x} {y} s = record {
   same = λ c h.
       emptied-level marks x c ∙ ap (λ (l : ℕ). cond (marks c) l 0) (levels-at s c) ∙ sym (emptied-level marks y c);
 }
+
+-- BYTES. A bit kept is a bit
+module _ (byte marked third j : ℕ) where
+  pub keptBit-bound : keptBit byte marked third j < 2
+  unfolding keptBit
+  keptBit-bound = go (eqb ((marked / 2 ^ ((8 * third + j) / 3)) % 2) 1)
+    where
+      go : (b : Bool) → cond b ((byte / 2 ^ j) % 2) 0 < 2
+      go true = omega arith
+      go false = omega arith
+
+  -- that of a marked cell
+  pub keptBit-marked : (marked / 2 ^ ((8 * third + j) / 3)) % 2 ≡ 1 → keptBit byte marked third j ≡ (byte / 2 ^ j) % 2
+  unfolding keptBit
+  keptBit-marked e = rw (eq-eqb _ _ e)
+
+  -- and 0 for another
+  pub keptBit-other : ((marked / 2 ^ ((8 * third + j) / 3)) % 2 ≡ 1 → ⊥) → keptBit byte marked third j ≡ 0
+  unfolding keptBit
+  keptBit-other n = rw (ne-eqb _ _ n)
+
+-- a byte none of whose cells is marked is 0
+pub keptByte-none : (byte third : ℕ) → keptByte byte 0 third ≡ 0
+unfolding keptByte number
+keptByte-none byte third =
+    number-same 8 _ (λ j. 0) (λ j h. keptBit-other byte 0 third j (λ e. omega (arith, zero-div (2 ^ ((8 * third + j) / 3)))))
+
+-- the cells of byte i lie in byte i div 3 of the map
+pub emptied-byte : (bits page : List ℕ) (i : ℕ) → i < length page
+    → getD (emptied (marksIn bits) page) i 0 ≡ keptByte (getD page i 0) (getD bits (i / 3) 0) (i % 3)
+unfolding emptied bytesOf marksIn bitOf keptByte keptBit
+emptied-byte bits page i h =
+    listOf-at (length page) _ i 0 h
+    ∙ number-same 8 _ _ (λ j l.
+    let x : (8 * i + j) / 3 ≡ 8 * (i / 3) + (8 * (i % 3) + j) / 3 = omega arith in
+    let s : (8 * (i % 3) + j) / 3 < 8 = omega arith in
+    let q : (8 * i + j) / 3 / 8 ≡ i / 3 = omega arith in
+    let r : (8 * i + j) / 3 % 8 ≡ (8 * (i % 3) + j) / 3 = omega arith in
+    let y : (8 * i + j) / 8 ≡ i = omega arith in
+    let z : (8 * i + j) % 8 ≡ j = omega arith in
+    rw (q, r, y, z))

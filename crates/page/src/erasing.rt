@@ -1,7 +1,9 @@
 // Erasing a page.
 use refusals::Completion;
 ghost use mathlib.Core.Path.{_≡_};
+ghost use Prim.Native.Nat.{_<_};
 ghost use lib.ListN.{length, replicate};
+ghost use Rattle.cells.specs.Marks.{marksIn, emptied, keptByte};
 ghost use Rattle.refusals.specs.Refusals.{shapeGround, eraseGround, first-of, completionOf};
 ghost use Rattle.page.specs.Answers.{kept};
 
@@ -12,6 +14,39 @@ fn clear(page: &mut [u8])
     let mut i: usize = 0;
     while i < page.len() {
         page[i] = 0;
+        i += 1;
+    }
+}
+
+// Byte number `third` of three bytes, whose eight cells are marked by the bits of `marked`: the bits of the marked cells, and zeros for the
+// others.
+fn kept_byte(byte: u8, marked: u32, third: usize) -> u8
+    requires { ⌜ third < 3 ⌝ }
+    ensures { λ r. ⌜ r ≡ keptByte byte marked third ⌝ }
+{
+    if marked == 0 {
+        return 0;
+    }
+    let mut out: u8 = 0;
+    let mut j: usize = 0;
+    while j < 8 {
+        if (marked >> ((8 * third + j) / 3)) % 2 == 1 {
+            out += ((byte >> j) % 2) << j;
+        }
+        j += 1;
+    }
+    out
+}
+
+// Empties every cell that the map does not mark, and leaves the bits of those that it marks.
+fn empty_unmarked(page: &mut [u8], map: &[u8])
+    ensures { λ _. ⌜ now (page .exit) ≡ emptied (marksIn (now (map .entry))) (now (page .entry)) ⌝ }
+{
+    let mut i: usize = 0;
+    while i < page.len() {
+        let marked = cells::byte(map, i / 3);
+        let kept = kept_byte(page[i], marked, i % 3);
+        page[i] = kept;
         i += 1;
     }
 }
