@@ -2,7 +2,6 @@
 pub mod Places
 pub mod Bytes
 pub mod Levels
-pub mod Marks
 pub mod Raising
 pub mod Marks
 pub mod Climbs

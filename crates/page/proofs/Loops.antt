@@ -7,7 +7,7 @@
 --   done-page, spent-page         the page that a write leaves
 --   Judged, in-order-answer, ..   the calls
 use mathlib.Core.Path.{_≡_, refl, sym, _∙_, ap}
-use mathlib.Core.Bool.{true}
+use mathlib.Core.Bool.{Bool, true}
 use mathlib.Core.List.{List, _++_}
 use mathlib.Core.Option.{Option, none, some}
 use Prim.Native.Nat.{ℕ, suc, _+_, _*_, _-_, _<_, _≤_}
@@ -16,6 +16,7 @@ use native.Mathlib.Nat.{not-suc-le-zero, add-sub-cancel-left, sub-zero, mul-le-m
 use lib.ListN.{length, take, drop, length-append}
 use lib.Seq.{drop-drop, take-at, drop-at, length-take-le}
 use Rattle.cells.specs.Bytes.{Octets}
+use Rattle.cells.specs.Marks.{marksIn}
 use Rattle.cells.specs.Raising.{startOf, startIn, raisedTo}
 use Rattle.cells.proofs.Raising.{raisedTo-length}
 use Rattle.cells.proofs.Parts.{within}
@@ -36,10 +37,10 @@ use Rattle.demand.specs.Computed.{stripWrite, pageWrite, spentStrip}
 use Rattle.demand.proofs.Jobs.{part-length}
 use Rattle.page.specs.Shape.{stripOf, Sized}
 use Rattle.page.specs.Totals.{noTotal, added, totalFrom, answerFor}
-use Rattle.refusals.specs.Refusals.{writeGround, numbered, completionOf}
-use Rattle.page.specs.Answers.{callAnswer, callPage, plainJob, jobAnswer, jobPage, answerOf, pageBy, pageOf}
-use Rattle.page.specs.Promise.{Wrote}
-use Rattle.page.specs.Plans.{stripPart, Planned, Carried}
+use Rattle.refusals.specs.Refusals.{numbered, completionOf}
+use Rattle.page.specs.Answers.{callAnswer, callPage, oneBitJob, jobAnswer, jobPage, markedBy, mapSize, groundWith, answerWith, pageWith}
+use Rattle.page.specs.Promise.{WroteWith}
+use Rattle.page.specs.Plans.{mapPart, stripPart, Planned, Carried}
 use Rattle.refusals.specs.declared.Refusal.{Refusal}
 use Rattle.page.specs.declared.Total.{Total}
 use Rattle.page.specs.declared.Answer.{Answer}
@@ -71,18 +72,18 @@ pub table-priced : {G : Generators} {W rows : List ℕ} → Suits G W → Dear (
 table-priced K D T = record { three = K .three; bytes = K .bytes; dear = D; table = T }
 
 -- THE PLANS of the strips before k
-pub record PlannedTo (G : Generators) (W : List ℕ) (L S : ℕ) (page content digits : List ℕ) (k : ℕ) : Type 0 where
+pub record PlannedTo (G : Generators) (W : List ℕ) (L S : ℕ) (page map content digits : List ℕ) (k : ℕ) : Type 0 where
   pub size : length digits ≡ L * S
-  pub so-far : (j : ℕ) → j < k → Plans G W (stripPart L j page) (part L j content) (part L j digits)
+  pub so-far : (j : ℕ) → j < k → Plans G W (stripPart L j page) (marksIn (mapPart L j map)) (part L j content) (part L j digits)
 
 -- at first
-pub planned-none : {G : Generators} {W : List ℕ} {L S : ℕ} {page content digits : List ℕ} → length digits ≡ L * S
-    → PlannedTo G W L S page content digits 0
+pub planned-none : {G : Generators} {W : List ℕ} {L S : ℕ} {page map content digits : List ℕ} → length digits ≡ L * S
+    → PlannedTo G W L S page map content digits 0
 planned-none e = record { size = e; so-far = λ j h. absurd (not-suc-le-zero h) }
 
--- TURN k, with the strip x that `strip` gave
-module _ {L S : ℕ} {page content : List ℕ} (Z : Sized oneBit L S page content) {k : ℕ} (h : k < S) {x : List ℕ}
-    (is : x ≡ stripOf L k page) where
+-- TURN k, with the strip x that `strip` gave, and its part m of the map
+module _ {L S : ℕ} {page content : List ℕ} (map : List ℕ) (Z : Sized oneBit L S page content) {k : ℕ} (h : k < S) {x m : List ℕ}
+    (is : x ≡ stripOf L k page) (marked : m ≡ mapPart L k map) where
   -- it is strip k
   strip-is : x ≡ stripPart L k page
   strip-is = is ∙ strip-there L S k page (Z .bytes-in) (Z .page-is) h
@@ -101,25 +102,27 @@ module _ {L S : ℕ} {page content : List ℕ} (Z : Sized oneBit L S page conten
 
   -- its outcome is that of the strip's write
   pub turn-outcome : {G : Generators} {W : List ℕ} {o : Outcome} → Suits G W → Dear (stepsOf W)
-      → o ≡ solutionOutcome (writeOf G W x (take (L * k + L - L * k) (drop (L * k) content)))
-      → o ≡ solutionOutcome (stripWrite (plainJob G W L S page content) k)
+      → o ≡ solutionOutcome (writeOf G W x (marksIn m) (take (L * k + L - L * k) (drop (L * k) content)))
+      → o ≡ solutionOutcome (stripWrite (oneBitJob (marksIn map) G W L S page content) k)
   turn-outcome {G} {W} K D e =
-      (rw (lent L k content, strip-is) at e)
+      (rw (lent L k content, strip-is, marked) at e)
       ∙ ap solutionOutcome
-      (write-same G W K D L S (one-to-64 L (Z .bytes-in) .1) page content k (ap length (sym (lent L k content)) ∙ data-length))
+      (write-same G W K D L S (one-to-64 L (Z .bytes-in) .1) page map content k (ap length (sym (lent L k content)) ∙ data-length))
 
   -- with its digits the strips before it and it are planned
-  pub planned-more : {G : Generators} {W digits ys : List ℕ} → PlannedTo G W L S page content digits k
+  pub planned-more : {G : Generators} {W digits ys : List ℕ} → PlannedTo G W L S page map content digits k
       → (length ys ≡ length (take (L * k + L - L * k) (drop (L * k) digits)))
-      × Plans G W x (take (L * k + L - L * k) (drop (L * k) content)) ys
-      → PlannedTo G W L S page content (take (L * k) digits ++ (ys ++ drop (L * k + L - L * k) (drop (L * k) digits))) (k + 1)
+      × Plans G W x (marksIn m) (take (L * k + L - L * k) (drop (L * k) content)) ys
+      → PlannedTo G W L S page map content (take (L * k) digits ++ (ys ++ drop (L * k + L - L * k) (drop (L * k) digits))) (k + 1)
   planned-more {G} {W} {digits} {ys} p e =
       let fits : L * k + L ≤ length digits = omega (arith, p .size, within L k S h) in
       let long : length ys ≡ L = e .0 ∙ lent-length L k digits fits in
-      let own : Plans G W (stripPart L k page) (part L k content) ys = rw (lent L k content, strip-is) at (e .1) in
+      let own : Plans G W (stripPart L k page) (marksIn (mapPart L k map)) (part L k content) ys =
+      rw (lent L k content, strip-is, marked) at (e .1) in
       record {
         size = stored-length L k digits ys fits long ∙ p .size;
-        so-far = part-more L k digits ys (λ j. Plans G W (stripPart L j page) (part L j content)) fits long own (p .so-far);
+        so-far = part-more L k digits ys (λ j. Plans G W (stripPart L j page) (marksIn (mapPart L j map)) (part L j content))
+            fits long own (p .so-far);
       }
 
 -- THE TOTAL after k strips: with the outcomes of the others it comes to the page's answer
@@ -127,12 +130,12 @@ pub record Reached (J : Job) (total : Total) (k : ℕ) : Type 0 where
   pub comes-to : answerFor (totalFrom total (λ i. solutionOutcome (stripWrite J (k + i))) (J .strips - k)) ≡ jobAnswer none J
 
 -- at first
-pub reached-none : {G : Generators} {W : List ℕ} {L S : ℕ} {page content : List ℕ} → Suits G W → Dear (stepsOf W)
+pub reached-none : {G : Generators} {W : List ℕ} {L S : ℕ} {page : List ℕ} (map : List ℕ) {content : List ℕ} → Suits G W → Dear (stepsOf W)
     → Sized oneBit L S page content → {t : Total}
-    → t ≡ noTotal → Reached (plainJob G W L S page content) t 0
+    → t ≡ noTotal → Reached (oneBitJob (marksIn map) G W L S page content) t 0
 unfolding jobAnswer
-reached-none {G} {W} {L} {S} {page} {content} K D Z e =
-    let J : Job = plainJob G W L S page content in
+reached-none {G} {W} {L} {S} {page} map {content} K D Z e =
+    let J : Job = oneBitJob (marksIn map) G W L S page content in
     record {
       comes-to =
           rw (e, sub-zero S)
@@ -140,7 +143,7 @@ reached-none {G} {W} {L} {S} {page} {content} K D Z e =
           (total-same noTotal _ (λ i. solutionOutcome (stripWrite J i)) S
           (λ i h. ap (λ (j : ℕ). solutionOutcome (stripWrite J j)) (omega arith)))
           ∙ page-answers J (one-to-64 S (Z .strips-in) .1)
-          (λ k h a. strip-below G W K D L S (one-to-64 L (Z .bytes-in) .1) page content k a));
+          (λ k h a. strip-below G W K D L S (one-to-64 L (Z .bytes-in) .1) page map content k a));
     }
 
 module _ {J : Job} where
@@ -252,30 +255,31 @@ pub front-back : (n : ℕ) (y rest : List ℕ) → length y ≡ n → take (n - 
 front-back n y rest e = rw (sub-zero n) (take-at y rest n e)
 
 -- THE PAGE that a write leaves, by the plans' answer
-module _ {G : Generators} {W : List ℕ} (K : Suits G W) (D : Dear (stepsOf W)) {L S : ℕ} {before content : List ℕ}
+module _ {G : Generators} {W : List ℕ} (K : Suits G W) (D : Dear (stepsOf W)) {L S : ℕ} {before : List ℕ} (map : List ℕ) {content : List ℕ}
     (Z : Sized oneBit L S before content)
-    {r : Answer} (e : r ≡ jobAnswer none (plainJob G W L S before content)) where
+    {r : Answer} (e : r ≡ jobAnswer none (oneBitJob (marksIn map) G W L S before content)) where
   -- the job
   abbrev J : Job
-  J = plainJob G W L S before content
+  J = oneBitJob (marksIn map) G W L S before content
 
   -- the page raised to the levels of a write
   abbrev raised : Solution → List ℕ
   raised a = raisedTo (startIn startOf (cellCount oneBit L)) before (levelAt (a .levels))
 
   -- where it is done, each strip is carried out as it was planned
-  pub done-page : {digits after : List ℕ} {cost : ℕ} → r ≡ A.Done cost → Planned G W L S before content digits
+  pub done-page : {digits after : List ℕ} {cost : ℕ} → r ≡ A.Done cost → Planned G W L S before map content digits
       → Carried G L S before content digits after
-      → after ≡ jobPage none (plainJob G W L S before content) startOf
+      → after ≡ jobPage none (oneBitJob (marksIn map) G W L S before content) startOf
   unfolding jobPage jobAnswer
   done-page {digits} {after} {cost} f p c = go (pageWrite J) refl
     where
       go : (w : Option Solution) → pageWrite J ≡ w → after ≡ callPage none w raised before
-      go (some a) q = carried-page G W K D L S (one-to-64 L (Z .bytes-in) .1) before content (Z .page-is) (Z .data-is) digits after a q p c
+      go (some a) q = carried-page G W K D L S (one-to-64 L (Z .bytes-in) .1) before map content (Z .page-is) (Z .data-is) digits
+          after a q p c
       go none q = absurd (let z : _≡_ {A = ℕ} 0 1 = cc in omega arith)
 
   -- where it is spent, nothing is changed
-  pub spent-page : {n : ℕ} → r ≡ A.Spent n → before ≡ jobPage none (plainJob G W L S before content) startOf
+  pub spent-page : {n : ℕ} → r ≡ A.Spent n → before ≡ jobPage none (oneBitJob (marksIn map) G W L S before content) startOf
   unfolding jobPage jobAnswer
   spent-page {n} f = go (pageWrite J) e
     where
@@ -292,53 +296,54 @@ module _ {G : Generators} {W : List ℕ} (K : Suits G W) (D : Dear (stepsOf W)) 
       go none h = let z : _≡_ {A = ℕ} 0 1 = cc in omega arith
       go (some a) h = let z : _≡_ {A = ℕ} 0 1 = cc in omega arith
 
--- THE CALLS. What `judge_write` answered
-pub record Judged (W : List ℕ) (code L S : ℕ) (before content : List ℕ) (j : Completion) : Type 0 where
-  pub by : j ≡ completionOf (writeGround W code L S (length before) (length content))
+-- THE CALLS. What the judge of a call answered
+pub record Judged (map : Option (List ℕ)) (W : List ℕ) (code L S : ℕ) (before content : List ℕ) (j : Completion) : Type 0 where
+  pub by : j ≡ completionOf (groundWith map W code L S before content)
 
-module _ {W : List ℕ} {code L S : ℕ} {before content : List ℕ} {j : Completion} (J : Judged W code L S before content j) where
+module _ (map : Option (List ℕ)) {W : List ℕ} {code L S : ℕ} {before content : List ℕ} {j : Completion}
+    (J : Judged map W code L S before content j) where
   -- where it is done there is no ground
-  no-ground : j ≡ C.Done → writeGround W code L S (length before) (length content) ≡ none
+  no-ground : j ≡ C.Done → groundWith map W code L S before content ≡ none
   no-ground e = done-none _ (sym (J .by) ∙ e)
 
   -- so the call is in order
   pub sized-by : j ≡ C.Done → Sized oneBit L S before content
   sized-by e =
-      let i = weighted-in-order W code L S (length before) (length content) (no-ground e) in
+      let i = weighted-in-order (mapSize map) W code L S (length before) (length content) (no-ground e) in
       record { bytes-in = i .0; strips-in = i .1; page-is = i .2; data-is = i .3 }
 
   -- no step is free
   pub judged-dear : j ≡ C.Done → Dear (stepsOf W)
-  judged-dear e = dear-by W code L S (length before) (length content) (no-ground e)
+  judged-dear e = dear-by (mapSize map) W code L S (length before) (length content) (no-ground e)
 
-  -- it answers as its strips do
-  pub in-order-answer : j ≡ C.Done → {G : Generators} {r : Answer} → G ≡ numbered code
-      → r ≡ jobAnswer none (plainJob G W L S before content) → r ≡ answerOf W code L S before content
-  unfolding answerOf
-  in-order-answer e g f = rw (no-ground e, ← g) f
+  -- it answers as its strips do, whose cells are marked by the map
+  pub in-order-answer : j ≡ C.Done → {G : Generators} {marks : ℕ → Bool} {r : Answer} → G ≡ numbered code → marks ≡ markedBy map
+      → r ≡ jobAnswer none (oneBitJob marks G W L S before content) → r ≡ answerWith map W code L S before content
+  unfolding answerWith
+  in-order-answer e g m f = rw (no-ground e, ← g, ← m) f
 
   -- and leaves the page that they do
-  pub in-order-page : j ≡ C.Done → {G : Generators} {after : List ℕ} → G ≡ numbered code
-      → after ≡ jobPage none (plainJob G W L S before content) startOf → after ≡ pageOf W code L S before content
-  unfolding pageOf pageBy
-  in-order-page e g f = rw (no-ground e, ← g) f
+  pub in-order-page : j ≡ C.Done → {G : Generators} {marks : ℕ → Bool} {after : List ℕ} → G ≡ numbered code → marks ≡ markedBy map
+      → after ≡ jobPage none (oneBitJob marks G W L S before content) startOf → after ≡ pageWith map W code L S before content startOf
+  unfolding pageWith
+  in-order-page e g m f = rw (no-ground e, ← g, ← m) f
 
   -- where it is refused, that is the ground
-  the-ground : {q : Refusal} → j ≡ C.Refused q → writeGround W code L S (length before) (length content) ≡ some q
+  the-ground : {q : Refusal} → j ≡ C.Refused q → groundWith map W code L S before content ≡ some q
   the-ground e = refused-some _ (sym (J .by) ∙ e)
 
   -- and the answer
-  pub refused-answer : {q : Refusal} → j ≡ C.Refused q → A.Refused q ≡ answerOf W code L S before content
-  unfolding answerOf jobAnswer
+  pub refused-answer : {q : Refusal} → j ≡ C.Refused q → A.Refused q ≡ answerWith map W code L S before content
+  unfolding answerWith jobAnswer
   refused-answer e = rw (the-ground e)
 
   -- and nothing is changed
-  pub refused-page : {q : Refusal} → j ≡ C.Refused q → before ≡ pageOf W code L S before content
-  unfolding pageOf pageBy jobPage
+  pub refused-page : {q : Refusal} → j ≡ C.Refused q → before ≡ pageWith map W code L S before content startOf
+  unfolding pageWith jobPage
   refused-page e = rw (the-ground e)
 
 -- such an answer and such a page keep the promise
-pub kept-by : (W : List ℕ) (code L S : ℕ) (before content : List ℕ) {after : List ℕ} {r : Answer} → Octets content
-    → after ≡ pageOf W code L S before content
-    → r ≡ answerOf W code L S before content → Wrote W code L S before content after r
-kept-by W code L S before content b p e = rw (p, e) (wrote W code L S before content b)
+pub kept-by : (map : Option (List ℕ)) (W : List ℕ) (code L S : ℕ) (before content : List ℕ) {after : List ℕ} {r : Answer} → Octets content
+    → after ≡ pageWith map W code L S before content startOf
+    → r ≡ answerWith map W code L S before content → WroteWith map W code L S before content after r
+kept-by map W code L S before content b p e = rw (p, e) (wrote map W code L S before content b)

@@ -2,7 +2,7 @@
 --   promise-kept                    of any job that is in order where it has no ground
 --   numbered-sound, oneBit-whole    both codes and every L go with one bit a cell
 --   job-in-order, dear-by           a call without a ground is in order, and none of its steps is free
---   wrote-by, wrote                 so the calls keep it, with any weights: wherever the raises start, and those of this release
+--   wrote-by, wrote                 so the calls keep it, with any map and weights: wherever the raises start, and those of this release
 --   page-length                     a write keeps the page's length
 --   one-ground                      no ground and a ground exclude each other
 --   could-done                      a call with no ground is done where some page could be
@@ -36,13 +36,13 @@ use Rattle.demand.specs.Demand.{Could}
 use Rattle.demand.specs.Computed.{pageWrite, spentStrip}
 use Rattle.demand.proofs.Demand.{cheapest, spent-at}
 use Rattle.demand.proofs.Weights.{could-any-weights, spent-any-strip, spent-once}
-use Rattle.refusals.specs.Refusals.{weightsGround, writeGround, numbered}
-use Rattle.page.specs.Answers.{callAnswer, callPage, jobAnswer, jobPage, jobOf, answerOf, pageBy, pageOf}
-use Rattle.page.specs.Promise.{Promised, Wrote, done, spent, refused}
+use Rattle.refusals.specs.Refusals.{weightsGround, callGround, numbered}
+use Rattle.page.specs.Answers.{callAnswer, callPage, jobAnswer, jobPage, mapSize, groundWith, jobWith, answerWith, pageWith}
+use Rattle.page.specs.Promise.{Promised, WroteWith, done, spent, refused}
 use Rattle.refusals.specs.declared.Refusal.{Refusal}
 use Rattle.page.specs.declared.Answer.{Answer}
 use Rattle.page.specs.declared.Answer.the-variants as A
-use Rattle.refusals.proofs.Refusals.{weights-dear, no-free-step, permitted-ground, weighted-in-order}
+use Rattle.refusals.proofs.Refusals.{weights-dear, no-free-step, same-weights, weighted-in-order}
 
 -- ANY JOB that is in order where it has no ground
 pub promise-kept : (start : ℕ → ℕ) (g : Option Refusal) (J : Job) → (g ≡ none → InOrder J)
@@ -89,42 +89,40 @@ numbered-suits code W three bytes =
     record { proper = numbered-proper code .0; both = numbered-both code; reach = numbered-proper code .1; three = three; bytes = bytes }
 
 -- A CALL without a ground is in order
-pub job-in-order : (W : List ℕ) (code L S : ℕ) (before content : List ℕ) → Octets content
-    → writeGround W code L S (length before) (length content) ≡ none
-    → InOrder (jobOf W code L S before content)
-job-in-order W code L S before content b e =
-    let i = weighted-in-order W code L S (length before) (length content) e in
+pub job-in-order : (map : Option (List ℕ)) (W : List ℕ) (code L S : ℕ) (before content : List ℕ) → Octets content
+    → groundWith map W code L S before content ≡ none → InOrder (jobWith map W code L S before content)
+job-in-order map W code L S before content b e =
+    let i = weighted-in-order (mapSize map) W code L S (length before) (length content) e in
     record { sound = numbered-sound code; whole = oneBit-whole L; page-is = i .2; data-is = i .3; octets = b }
 
 -- and none of its steps is free
-pub dear-by : (W : List ℕ) (code L S page content : ℕ) → writeGround W code L S page content ≡ none → Dear (stepsOf W)
-dear-by W code L S page content e = record { dear = weights-dear W (no-free-step W code L S page content e) }
+pub dear-by : (map : Option ℕ) (W : List ℕ) (code L S page content : ℕ) → callGround map W code L S page content ≡ none → Dear (stepsOf W)
+dear-by map W code L S page content e = record { dear = weights-dear W (no-free-step map W code L S page content e) }
 
--- so the computed answer and page keep the promise, with any weights
--- and wherever the raises start
-pub wrote-by : (start : ℕ → ℕ) (W : List ℕ) (code L S : ℕ) (before content : List ℕ) → Octets content
-    → Promised start (writeGround W code L S (length before) (length content)) (jobOf W code L S before content)
-    (pageBy W code L S before content start) (answerOf W code L S before content)
-unfolding pageBy answerOf
-wrote-by start W code L S before content b =
-    promise-kept start (writeGround W code L S (length before) (length content)) (jobOf W code L S before content)
-    (job-in-order W code L S before content b)
+-- so the computed answer and page keep the promise, with any map and weights, and wherever the raises start
+pub wrote-by : (start : ℕ → ℕ) (map : Option (List ℕ)) (W : List ℕ) (code L S : ℕ) (before content : List ℕ) → Octets content
+    → Promised start (groundWith map W code L S before content) (jobWith map W code L S before content)
+    (pageWith map W code L S before content start) (answerWith map W code L S before content)
+unfolding pageWith answerWith
+wrote-by start map W code L S before content b =
+    promise-kept start (groundWith map W code L S before content) (jobWith map W code L S before content)
+    (job-in-order map W code L S before content b)
 
 -- so do those of this release
-pub wrote : (W : List ℕ) (code L S : ℕ) (before content : List ℕ) → Octets content
-    → Wrote W code L S before content (pageOf W code L S before content) (answerOf W code L S before content)
-unfolding pageOf
+pub wrote : (map : Option (List ℕ)) (W : List ℕ) (code L S : ℕ) (before content : List ℕ) → Octets content
+    → WroteWith map W code L S before content (pageWith map W code L S before content startOf) (answerWith map W code L S before content)
 wrote = wrote-by startOf
 
 -- A WRITE KEEPS THE PAGE'S LENGTH, whatever its answer
-pub page-length : (W : List ℕ) (code L S : ℕ) (before content : List ℕ) → length (pageOf W code L S before content) ≡ length before
-unfolding pageOf pageBy jobPage
-page-length W code L S before content =
-    go (writeGround W code L S (length before) (length content)) (pageWrite (jobOf W code L S before content))
+pub page-length : (map : Option (List ℕ)) (W : List ℕ) (code L S : ℕ) (before content : List ℕ)
+    → length (pageWith map W code L S before content startOf) ≡ length before
+unfolding pageWith jobPage
+page-length map W code L S before content =
+    go (groundWith map W code L S before content) (pageWrite (jobWith map W code L S before content))
   where
     go : (g : Option Refusal) (w : Option Solution)
         → length (callPage g w
-        (λ a. raisedTo (startIn startOf (width (jobOf W code L S before content))) before (levelAt (a .levels))) before)
+        (λ a. raisedTo (startIn startOf (width (jobWith map W code L S before content))) before (levelAt (a .levels))) before)
         ≡ length before
     go (some r) w = refl
     go none none = refl
@@ -159,23 +157,19 @@ spent-no-page (spent e p f) = p .no-page
 
 -- WHETHER A PAGE IS SPENT DOES NOT DEPEND ON THE WEIGHTS: spent with some weights, it is spent with any that are permitted, and with the
 -- same strip. That the first are permitted need not be asked: they were not refused
-pub spent-any-weights : (U W : List ℕ) → weightsGround W ≡ none → (code L S : ℕ) (before content : List ℕ) → Octets content → (k : ℕ)
-    → answerOf U code L S before content ≡ A.Spent k → answerOf W code L S before content ≡ A.Spent k
-spent-any-weights U W w code L S before content b k e =
-    go (rw e at (wrote U code L S before content b)) _ refl (wrote W code L S before content b)
+pub spent-any-weights : (U W : List ℕ) → weightsGround W ≡ none → (map : Option (List ℕ)) (code L S : ℕ) (before content : List ℕ)
+    → Octets content → (k : ℕ)
+    → answerWith map U code L S before content ≡ A.Spent k → answerWith map W code L S before content ≡ A.Spent k
+spent-any-weights U W w map code L S before content b k e =
+    go (rw e at (wrote map U code L S before content b)) _ refl (wrote map W code L S before content b)
   where
-    -- both are refused as a read is
-    same : writeGround U code L S (length before) (length content) ≡ none
-        → writeGround U code L S (length before) (length content) ≡ writeGround W code L S (length before) (length content)
-    same f =
-        permitted-ground U code L S (length before) (length content) (no-free-step U code L S (length before) (length content) f)
-        ∙ sym (permitted-ground W code L S (length before) (length content) w)
-
-    go : Wrote U code L S before content (pageOf U code L S before content) (A.Spent k) → (r : Answer)
-        → answerOf W code L S before content ≡ r → Wrote W code L S before content (pageOf W code L S before content) r
-        → answerOf W code L S before content ≡ A.Spent k
+    go : WroteWith map U code L S before content (pageWith map U code L S before content startOf) (A.Spent k) → (r : Answer)
+        → answerWith map W code L S before content ≡ r
+        → WroteWith map W code L S before content (pageWith map W code L S before content startOf) r
+        → answerWith map W code L S before content ≡ A.Spent k
     go (spent f p h) r g (done i q) =
-        absurd (p .no-page _ (could-any-weights W U (jobOf U code L S before content) (q .could)))
+        absurd (p .no-page _ (could-any-weights W U (jobWith map U code L S before content) (q .could)))
     go (spent f p h) r g (spent i q j) =
-        g ∙ ap A.Spent (spent-once q (spent-any-strip U W (jobOf U code L S before content) p))
-    go (spent f p h) r g (refused i j) = absurd (one-ground f (same f ∙ i))
+        g ∙ ap A.Spent (spent-once q (spent-any-strip U W (jobWith map U code L S before content) p))
+    go (spent f p h) r g (refused i j) =
+        absurd (one-ground f (same-weights (mapSize map) U W code L S (length before) (length content) w f ∙ i))

@@ -1,22 +1,28 @@
 -- The answers of the calls on every input, with the paper's number and values for each case.
 --   jobAnswer, jobPage   the answer of a job and the page after it, by the ground of a refusal
---   answerOf             a write's answer
+--   markedBy, mapSize    the cells that a call's map marks, and its length
+--   groundWith, jobWith  the ground on which a call is refused, and its job
+--   answerWith           the answer of a write with a map, or without one
+--   pageWith             the page after it, by any order of the raises
+--   answerOf             the answer of a write without a map
 --   pageBy, pageOf       the page after it, by any order of the raises, and by this release's
 --   numberOf, valueOf    an answer's number and value in the paper
 --   answerCost           an answer's cost
 --   largestCost          the most that one write costs with the house's weights
 --   largestWeightedCost  and with any
 --   kept                 what a refusal leaves as it was
+use mathlib.Core.Bool.{Bool}
 use mathlib.Core.List.{List}
 use mathlib.Core.Option.{Option, none, some}
 use Prim.Native.Nat.{ℕ}
 use lib.ListN.{length}
+use Rattle.cells.specs.Marks.{marksIn}
 use Rattle.cells.specs.Raising.{startOf, startIn, raisedTo}
 use Rattle.codes.specs.Generators.{Generators}
 use Rattle.codes.specs.Layouts.{oneBit}
 use Rattle.search.specs.Best.{Solution}
 use Rattle.search.specs.Levels.{levelAt}
-use Rattle.refusals.specs.Refusals.{writeGround, refusalNumber, numbered}
+use Rattle.refusals.specs.Refusals.{callGround, refusalNumber, numbered}
 use Rattle.search.specs.Layouts.{unmarked}
 use Rattle.demand.specs.Jobs.{Job, width}
 use Rattle.demand.specs.Computed.{pageWrite, spentStrip}
@@ -41,13 +47,13 @@ callPage (some r) w raised before = before
 callPage none (some a) raised before = raised a
 callPage none none raised before = before
 
--- the job of a page, one bit a cell and no cell marked
-abbrev pub plainJob : Generators → List ℕ → ℕ → ℕ → List ℕ → List ℕ → Job
-plainJob G W L S page content = record {
+-- the job of a page, one bit a cell
+abbrev pub oneBitJob : (ℕ → Bool) → Generators → List ℕ → ℕ → ℕ → List ℕ → List ℕ → Job
+oneBitJob marks G W L S page content = record {
   layout = oneBit;
   code = G;
   weights = W;
-  marks = unmarked;
+  marks = marks;
   bytes = L;
   strips = S;
   page = page;
@@ -65,22 +71,50 @@ module _ (g : Option Refusal) (J : Job) where
   unfoldable pub jobPage : (start : ℕ → ℕ) → List ℕ
   jobPage start = callPage g (pageWrite J) (λ a. raisedTo (startIn start (width J)) (J .page) (levelAt (a .levels))) (J .page)
 
--- a call of write or price with these three weights, one bit a cell and no cell marked
+-- 'calls without one mean a map with no cell marked'
+abbrev pub markedBy : Option (List ℕ) → ℕ → Bool
+markedBy none = unmarked
+markedBy (some map) = marksIn map
+
+-- the length of a call's map
+abbrev pub mapSize : Option (List ℕ) → Option ℕ
+mapSize none = none
+mapSize (some map) = some (length map)
+
+-- a call of write or price with a map or without one, and these three weights, one bit a cell
+module _ (map : Option (List ℕ)) (W : List ℕ) (code L S : ℕ) (before content : List ℕ) where
+  -- the ground on which it is refused
+  abbrev pub groundWith : Option Refusal
+  groundWith = callGround (mapSize map) W code L S (length before) (length content)
+
+  -- its job
+  abbrev pub jobWith : Job
+  jobWith = oneBitJob (markedBy map) (numbered code) W L S before content
+
+  -- THE ANSWER of a write, and of a price
+  unfoldable pub answerWith : Answer
+  answerWith = jobAnswer groundWith jobWith
+
+  -- THE PAGE after a write whose raises start where `start` says
+  unfoldable pub pageWith : (start : ℕ → ℕ) → List ℕ
+  pageWith start = jobPage groundWith jobWith start
+
+-- a call without a map
 module _ (W : List ℕ) (code L S : ℕ) (before content : List ℕ) where
   -- its job
   abbrev pub jobOf : Job
-  jobOf = plainJob (numbered code) W L S before content
+  jobOf = jobWith none W code L S before content
 
-  -- THE ANSWER of a write, and of a price
-  unfoldable pub answerOf : Answer
-  answerOf = jobAnswer (writeGround W code L S (length before) (length content)) jobOf
+  -- its answer
+  abbrev pub answerOf : Answer
+  answerOf = answerWith none W code L S before content
 
-  -- THE PAGE after a write whose raises start where `start` says
-  unfoldable pub pageBy : (start : ℕ → ℕ) → List ℕ
-  pageBy start = jobPage (writeGround W code L S (length before) (length content)) jobOf start
+  -- the page after a write whose raises start where `start` says
+  abbrev pub pageBy : (start : ℕ → ℕ) → List ℕ
+  pageBy start = pageWith none W code L S before content start
 
   -- and after a write of this release
-  unfoldable pub pageOf : List ℕ
+  abbrev pub pageOf : List ℕ
   pageOf = pageBy startOf
 
 -- the number of an answer: 0, 7 where the page is spent, or the refusal's

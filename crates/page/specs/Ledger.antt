@@ -4,19 +4,23 @@
 --   Event, Fair          what can happen to a page, and what is asked of it
 --   pageAfter, counted   the page after an event, and the raises since the page was last erased
 --   Call, eventOf        a call on the page, and what it does
+--   Marking              a call under these marks
+--   markedLevels         the sum of the levels of the marked cells
 --   played, tallied      the page and the count after a sequence of calls
 --   answered             what its writes answer
 use mathlib.Core.Path.{_≡_}
+use mathlib.Core.Bool.{Bool, cond}
 use mathlib.Core.List.{List, [], _∷_, _++_}
 use mathlib.Core.Option.{Option}
 use Prim.Native.Nat.{ℕ, suc, _+_, _*_, _-_, _/_, _<_, _≤_}
 use lib.IntN.{ℤ}
-use lib.ListN.{length, replicate}
+use lib.ListN.{length}
 use Rattle.cells.specs.Places.{sumOf}
 use Rattle.cells.specs.Bytes.{Octets}
 use Rattle.cells.specs.Levels.{level, raisesOf}
-use Rattle.refusals.specs.Refusals.{shapeGround, eraseGround, first-of}
-use Rattle.page.specs.Answers.{kept, answerOf, pageBy}
+use Rattle.cells.specs.Marks.{emptied}
+use Rattle.refusals.specs.Refusals.{erasingGround}
+use Rattle.page.specs.Answers.{kept, markedBy, mapSize, answerWith, pageWith}
 use Rattle.refusals.specs.declared.Refusal.{Refusal}
 use Rattle.page.specs.declared.Answer.{Answer}
 
@@ -54,26 +58,39 @@ counted (raised after) page n = n + raisesMade page after
 counted (erased after) page n = 0
 counted looked page n = n
 
--- 'any sequence of calls on that page alone', with any weights: the data of a write is bytes; read, price and census change nothing
+-- 'any sequence of calls on that page alone', with any weights, each with a map or without one: the data of a write is bytes; read, price
+-- and census change nothing
 pub data Call : Type 0 where
-  write : (W : List ℕ) (code L S : ℕ) (content : List ℕ) → Octets content → Call
-  erase : (L S : ℕ) (tenths : ℤ) → Call
+  write : (map : Option (List ℕ)) (W : List ℕ) (code L S : ℕ) (content : List ℕ) → Octets content → Call
+  erase : (map : Option (List ℕ)) (L S : ℕ) (tenths : ℤ) → Call
   look : Call
 
+-- the cells of a page of n of them that a call's map marks are these; 'read and census' take no map
+pub data Marking (n : ℕ) (marks : ℕ → Bool) : Call → Type 0 where
+  writes : {map : Option (List ℕ)} {W : List ℕ} {code L S : ℕ} {content : List ℕ} {b : Octets content}
+      → ((c : ℕ) → c < n → markedBy map c ≡ marks c) → Marking n marks (write map W code L S content b)
+  erases : {map : Option (List ℕ)} {L S : ℕ} {tenths : ℤ} → ((c : ℕ) → c < n → markedBy map c ≡ marks c)
+      → Marking n marks (erase map L S tenths)
+  looks : Marking n marks look
+
 -- why an erase is refused
-unfoldable pub erasing : ℕ → ℕ → ℤ → List ℕ → Option Refusal
-erasing L S tenths page = first-of (shapeGround L S (length page)) (eraseGround tenths)
+abbrev pub erasing : Option (List ℕ) → ℕ → ℕ → ℤ → List ℕ → Option Refusal
+erasing map L S tenths page = erasingGround (mapSize map) L S (length page) tenths
+
+-- the sum of the levels of the marked cells
+unfoldable pub markedLevels : (ℕ → Bool) → List ℕ → ℕ
+markedLevels marks page = sumOf (cellsOn page) (λ c. cond (marks c) (level page c) 0)
 
 -- what a call does to the page: a refused write leaves it, and so makes no raise. Its raises start where the release that makes it says
 unfoldable pub eventOf : (start : ℕ → ℕ) → Call → List ℕ → Event
-eventOf start (write W code L S content b) page = raised (pageBy W code L S page content start)
-eventOf start (erase L S tenths) page = kept (erasing L S tenths page) (erased (replicate (length page) 0)) looked
+eventOf start (write map W code L S content b) page = raised (pageWith map W code L S page content start)
+eventOf start (erase map L S tenths) page = kept (erasing map L S tenths page) (erased (emptied (markedBy map) page)) looked
 eventOf start look page = looked
 
 -- what it answers, if it is a write
 abbrev pub answerTo : Call → List ℕ → List Answer
-answerTo (write W code L S content b) page = answerOf W code L S page content ∷ []
-answerTo (erase L S tenths) page = []
+answerTo (write map W code L S content b) page = answerWith map W code L S page content ∷ []
+answerTo (erase map L S tenths) page = []
 answerTo look page = []
 
 -- a sequence of calls, the first one first; `starts n` is where the raises of call n start, so that releases of any order can take turns

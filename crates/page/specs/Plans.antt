@@ -6,24 +6,29 @@ use mathlib.Core.List.{List}
 use mathlib.Core.Option.{some}
 use Prim.Native.Nat.{ℕ, _<_}
 use lib.ListN.{length}
+use Rattle.cells.specs.Marks.{marksIn}
 use Rattle.cells.specs.Raising.{startOf, raisedTo}
 use Rattle.codes.specs.Generators.{Generators}
-use Rattle.codes.specs.Layouts.{oneBit, byteCount}
+use Rattle.codes.specs.Layouts.{oneBit, byteCount, mapCount}
 use Rattle.search.specs.Best.{Solution}
 use Rattle.trellis.specs.Carrying.{digitIn, carriedTo}
 use Rattle.trellis.specs.Plans.{Plans}
 use Rattle.demand.specs.Jobs.{part}
 use Rattle.demand.specs.Computed.{pageWrite}
-use Rattle.page.specs.Answers.{plainJob}
+use Rattle.page.specs.Answers.{oneBitJob}
+
+-- strip k's part of a map
+abbrev pub mapPart : ℕ → ℕ → List ℕ → List ℕ
+mapPart L k map = part (mapCount oneBit L) k map
 
 -- strip k of a page
 abbrev pub stripPart : ℕ → ℕ → List ℕ → List ℕ
 stripPart L k page = part (byteCount oneBit L) k page
 
 -- where every strip has a write, strip k's part of the digits is its plan
-pub record Planned (G : Generators) (W : List ℕ) (L S : ℕ) (page content digits : List ℕ) : Type 0 where
-  pub planned : (a : Solution) → pageWrite (plainJob G W L S page content) ≡ some a → (k : ℕ) → k < S
-      → Plans G W (stripPart L k page) (part L k content) (part L k digits)
+pub record Planned (G : Generators) (W : List ℕ) (L S : ℕ) (page map content digits : List ℕ) : Type 0 where
+  pub planned : (a : Solution) → pageWrite (oneBitJob (marksIn map) G W L S page content) ≡ some a → (k : ℕ) → k < S
+      → Plans G W (stripPart L k page) (marksIn (mapPart L k map)) (part L k content) (part L k digits)
 
 -- strip k of the page after is strip k before, raised to what its part of the digits wants
 pub record Carried (G : Generators) (L S : ℕ) (before content digits after : List ℕ) : Type 0 where

@@ -1,16 +1,15 @@
 -- WHAT A WRITE PROMISES, on every input: for each case of its answer, what holds of the page before and after.
---   Promised start g J after r                of a job, by the ground of a refusal; `start` says where the raises of a cell start
---   Wrote W code L S before content after r   of a write
+--   Promised start g J after r                        of a job, by the ground of a refusal; `start` says where the raises of a cell start
+--   WroteWith map W code L S before content after r   of a write with a map, or without one
+--   Wrote W code L S before content after r           of a write without
 use mathlib.Core.Path.{_≡_}
 use mathlib.Core.List.{List}
 use mathlib.Core.Option.{Option, none, some}
 use Prim.Native.Nat.{ℕ}
-use lib.ListN.{length}
 use Rattle.cells.specs.Raising.{startOf}
 use Rattle.demand.specs.Jobs.{Job}
 use Rattle.demand.specs.Demand.{Cheapest, SpentAt}
-use Rattle.refusals.specs.Refusals.{writeGround}
-use Rattle.page.specs.Answers.{jobOf}
+use Rattle.page.specs.Answers.{groundWith, jobWith}
 use Rattle.refusals.specs.declared.Refusal.{Refusal}
 use Rattle.page.specs.declared.Answer.{Answer}
 use Rattle.page.specs.declared.Answer.the-variants as A
@@ -23,7 +22,11 @@ pub data Promised (start : ℕ → ℕ) (g : Option Refusal) (J : Job) (after : 
   spent : {k : ℕ} → g ≡ none → SpentAt J k → after ≡ J .page → Promised start g J after (A.Spent k)
   refused : {r : Refusal} → g ≡ some r → after ≡ J .page → Promised start g J after (A.Refused r)
 
--- of a write with the weights W
+-- of a write with the weights W, and perhaps a map
+abbrev pub WroteWith : (map : Option (List ℕ)) (W : List ℕ) (code L S : ℕ) (before content after : List ℕ) → Answer → Type 0
+WroteWith map W code L S before content after r =
+    Promised startOf (groundWith map W code L S before content) (jobWith map W code L S before content) after r
+
+-- without a map
 abbrev pub Wrote : (W : List ℕ) (code L S : ℕ) (before content after : List ℕ) → Answer → Type 0
-Wrote W code L S before content after r =
-    Promised startOf (writeGround W code L S (length before) (length content)) (jobOf W code L S before content) after r
+Wrote W code L S before content after r = WroteWith none W code L S before content after r

@@ -1,10 +1,11 @@
 // Erasing a page.
 use refusals::Completion;
 ghost use mathlib.Core.Path.{_≡_};
+ghost use mathlib.Core.Option.{some};
 ghost use Prim.Native.Nat.{_<_};
 ghost use lib.ListN.{length, replicate};
 ghost use Rattle.cells.specs.Marks.{marksIn, emptied, keptByte};
-ghost use Rattle.refusals.specs.Refusals.{shapeGround, eraseGround, first-of, completionOf};
+ghost use Rattle.refusals.specs.Refusals.{shapeGround, eraseGround, erasingGround, first-of, completionOf};
 ghost use Rattle.page.specs.Answers.{kept};
 
 // Makes every byte 0.
@@ -60,6 +61,21 @@ pub fn erase(bytes: u32, strips: u32, page: &mut [u8], tenths: i16) -> Completio
     match judged {
         Completion::Done => {
             clear(page);
+            judged
+        }
+        Completion::Refused(_) => judged,
+    }
+}
+
+// Empties every cell that the map does not mark, at a temperature from 50 to 400 tenths of a degree; the bits of the others stay.
+pub fn erase_mapped(bytes: u32, strips: u32, page: &mut [u8], map: &[u8], tenths: i16) -> Completion
+    ensures { λ r. ⌜ r ≡ completionOf (erasingGround (some (length (now (map .entry)))) bytes strips (length (now (page .entry))) tenths) ⌝ }
+    ensures { λ _. ⌜ now (page .exit) ≡ kept (erasingGround (some (length (now (map .entry)))) bytes strips (length (now (page .entry))) tenths) (emptied (marksIn (now (map .entry))) (now (page .entry))) (now (page .entry)) ⌝ }
+{
+    let judged = refusals::judge_mapped_erase(bytes, strips, page.len(), map.len(), tenths);
+    match judged {
+        Completion::Done => {
+            empty_unmarked(page, map);
             judged
         }
         Completion::Refused(_) => judged,

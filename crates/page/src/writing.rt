@@ -10,18 +10,19 @@ use trellis::forward::plan_strip;
 use trellis::rows::rows_of;
 ghost use mathlib.Core.Path.{_≡_};
 ghost use mathlib.Core.List.{[], _∷_};
-ghost use mathlib.Core.Option.{none};
+ghost use mathlib.Core.Option.{none, some};
 ghost use Prim.Native.Nat.{_*_, _≤_};
 ghost use lib.ListN.{length};
 ghost use Rattle.cells.specs.Places.{Free};
+ghost use Rattle.cells.specs.Marks.{marksIn};
 ghost use Rattle.cells.specs.Raising.{startOf};
 ghost use Rattle.cells.specs.Climbs.{house};
 ghost use Rattle.codes.specs.Codes.{generatorsOf};
 ghost use Rattle.codes.specs.Layouts.{oneBit};
 ghost use Rattle.search.specs.Strip.{Dear, stepsOf};
 ghost use Rattle.page.specs.Shape.{Sized};
-ghost use Rattle.page.specs.Answers.{plainJob, jobAnswer, jobPage, answerOf, pageOf, valueOf, largestCost, largestWeightedCost};
-ghost use Rattle.page.specs.Promise.{Wrote};
+ghost use Rattle.page.specs.Answers.{oneBitJob, jobAnswer, jobPage, answerWith, pageWith, answerOf, pageOf, valueOf, largestCost, largestWeightedCost};
+ghost use Rattle.page.specs.Promise.{WroteWith, Wrote};
 ghost use Rattle.page.specs.Plans.{Planned, Carried};
 
 // What the data of the whole page costs.
@@ -31,11 +32,12 @@ fn price_strips(
     bytes: usize,
     strips: usize,
     page: &[u8],
+    map: &[u8],
     data: &[u8],
 ) -> Answer
     requires { ⌜ Sized oneBit bytes strips (now page) (now «data») ⌝ }
     requires { ⌜ Dear (stepsOf weights) ⌝ }
-    ensures { λ r. ⌜ r ≡ jobAnswer none (plainJob (generatorsOf code) weights bytes strips (now (page .entry)) (now («data» .entry))) ⌝ }
+    ensures { λ r. ⌜ r ≡ jobAnswer none (oneBitJob (marksIn (now (map .entry))) (generatorsOf code) weights bytes strips (now (page .entry)) (now («data» .entry))) ⌝ }
 {
     let rows = rows_of(weights);
     let mut total = Total::new();
@@ -46,6 +48,7 @@ fn price_strips(
             code,
             &rows,
             shape::strip(page, bytes, k),
+            shape::map_part(map, bytes, k),
             &data[a..a + bytes],
         );
         total = total.add(price);
@@ -64,14 +67,16 @@ fn plan_strips(
     bytes: usize,
     strips: usize,
     page: &[u8],
+    map: &[u8],
     data: &[u8],
     digits: &mut [u8],
 ) -> Answer
     requires { ⌜ Sized oneBit bytes strips (now page) (now «data») ⌝ }
     requires { ⌜ Dear (stepsOf weights) ⌝ }
     requires { ⌜ length (now digits) ≡ bytes * strips ⌝ }
-    ensures { λ r. ⌜ r ≡ jobAnswer none (plainJob (generatorsOf code) weights bytes strips (now (page .entry)) (now («data» .entry))) ⌝ }
-    ensures { λ r. ⌜ Planned (generatorsOf code) weights bytes strips (now (page .entry)) (now («data» .entry)) (now (digits .exit)) ⌝ }
+    ensures { λ r. ⌜ r ≡ jobAnswer none (oneBitJob (marksIn (now (map .entry))) (generatorsOf code) weights bytes strips (now (page .entry)) (now («data» .entry))) ⌝ }
+    ensures { λ r. ⌜ Planned (generatorsOf code) weights bytes strips
+        (now (page .entry)) (now (map .entry)) (now («data» .entry)) (now (digits .exit)) ⌝ }
     ensures { λ _. ⌜ Free (now (digits .entry)) (now (digits .exit)) ⌝ }
 {
     let rows = rows_of(weights);
@@ -83,6 +88,7 @@ fn plan_strips(
             code,
             &rows,
             shape::strip(page, bytes, k),
+            shape::map_part(map, bytes, k),
             &data[a..a + bytes],
             &mut digits[a..a + bytes],
         );
@@ -131,13 +137,14 @@ fn write_strips(
     bytes: usize,
     strips: usize,
     page: &mut [u8],
+    map: &[u8],
     data: &[u8],
 ) -> Answer
     requires { ⌜ Sized oneBit bytes strips (now page) (now «data») ⌝ }
     requires { ⌜ Dear (stepsOf weights) ⌝ }
-    ensures { λ r. ⌜ r ≡ jobAnswer none (plainJob (generatorsOf code) weights bytes strips (now (page .entry)) (now («data» .entry))) ⌝ }
+    ensures { λ r. ⌜ r ≡ jobAnswer none (oneBitJob (marksIn (now (map .entry))) (generatorsOf code) weights bytes strips (now (page .entry)) (now («data» .entry))) ⌝ }
     ensures { λ _. ⌜ now (page .exit)
-        ≡ jobPage none (plainJob (generatorsOf code) weights bytes strips (now (page .entry)) (now («data» .entry))) startOf ⌝ }
+        ≡ jobPage none (oneBitJob (marksIn (now (map .entry))) (generatorsOf code) weights bytes strips (now (page .entry)) (now («data» .entry))) startOf ⌝ }
 {
     let mut digits = [0u8; 4096];
     let whole = bytes * strips;
@@ -147,6 +154,7 @@ fn write_strips(
         bytes,
         strips,
         page,
+        map,
         data,
         &mut digits[0..whole],
     );
@@ -157,6 +165,87 @@ fn write_strips(
             answer
         }
         Answer::Spent(_) => answer,
+    }
+}
+
+// What a write of the same data with this map and these weights would answer; nothing is changed.
+pub fn price_mapped(
+    code: u32,
+    bytes: u32,
+    strips: u32,
+    w1: u8,
+    w2: u8,
+    w3: u8,
+    page: &[u8],
+    map: &[u8],
+    data: &[u8],
+) -> Answer
+    ensures { λ r. ⌜ r ≡ answerWith (some (now (map .entry))) (w1 ∷ w2 ∷ w3 ∷ []) code bytes strips (now (page .entry)) (now («data» .entry)) ⌝ }
+    ensures { λ r. ⌜ WroteWith (some (now (map .entry))) (w1 ∷ w2 ∷ w3 ∷ []) code bytes strips (now (page .entry)) (now («data» .entry)) (pageWith (some (now (map .entry))) (w1 ∷ w2 ∷ w3 ∷ []) code bytes strips (now (page .entry)) (now («data» .entry)) startOf) r ⌝ }
+    ensures { λ r. ⌜ valueOf r ≤ largestWeightedCost ⌝ }
+{
+    let weights = [w1, w2, w3];
+    let judged = refusals::judge_mapped(
+        code,
+        bytes,
+        strips,
+        weights,
+        page.len(),
+        map.len(),
+        data.len(),
+    );
+    match judged {
+        Completion::Done => price_strips(
+            refusals::code_of(code),
+            weights,
+            bytes as usize,
+            strips as usize,
+            page,
+            map,
+            data,
+        ),
+        Completion::Refused(r) => Answer::Refused(r),
+    }
+}
+
+// Writes the data at the least cost in these weights, and raises no cell that the map marks.
+pub fn write_mapped(
+    code: u32,
+    bytes: u32,
+    strips: u32,
+    w1: u8,
+    w2: u8,
+    w3: u8,
+    page: &mut [u8],
+    map: &[u8],
+    data: &[u8],
+) -> Answer
+    ensures { λ r. ⌜ r ≡ answerWith (some (now (map .entry))) (w1 ∷ w2 ∷ w3 ∷ []) code bytes strips (now (page .entry)) (now («data» .entry)) ⌝ }
+    ensures { λ r. ⌜ now (page .exit) ≡ pageWith (some (now (map .entry))) (w1 ∷ w2 ∷ w3 ∷ []) code bytes strips (now (page .entry)) (now («data» .entry)) startOf ⌝ }
+    ensures { λ r. ⌜ WroteWith (some (now (map .entry))) (w1 ∷ w2 ∷ w3 ∷ []) code bytes strips (now (page .entry)) (now («data» .entry)) (now (page .exit)) r ⌝ }
+    ensures { λ r. ⌜ valueOf r ≤ largestWeightedCost ⌝ }
+{
+    let weights = [w1, w2, w3];
+    let judged = refusals::judge_mapped(
+        code,
+        bytes,
+        strips,
+        weights,
+        page.len(),
+        map.len(),
+        data.len(),
+    );
+    match judged {
+        Completion::Done => write_strips(
+            refusals::code_of(code),
+            weights,
+            bytes as usize,
+            strips as usize,
+            page,
+            map,
+            data,
+        ),
+        Completion::Refused(r) => Answer::Refused(r),
     }
 }
 
@@ -184,6 +273,7 @@ pub fn price_weighted(
             bytes as usize,
             strips as usize,
             page,
+            &data[0..0],
             data,
         ),
         Completion::Refused(r) => Answer::Refused(r),
@@ -215,6 +305,7 @@ pub fn write_weighted(
             bytes as usize,
             strips as usize,
             page,
+            &data[0..0],
             data,
         ),
         Completion::Refused(r) => Answer::Refused(r),

@@ -1,4 +1,5 @@
 -- The write of a strip in a layout: the search solves it, and its words read as the data just where the paper's sums give the data.
+--   rewrite-marks                  the write of a strip depends on the marks of its own cells alone
 --   words-code                     the bits of a stage's word are the code bits that its levels show
 --   could-rewrite, rewrite-could   what could be, in the paper's words, is what the search looks for
 --   strip-solves, strip-width      the write of a strip is the best of what could be, and as wide as the strip has cells
@@ -26,7 +27,7 @@ use Rattle.codes.specs.Coset.{column, Reads}
 use Rattle.codes.proofs.Sequences.{odd-mod-two}
 use Rattle.codes.proofs.Encoders.{encoder-in-memory, reads-sums}
 use Rattle.search.specs.Best.{Solves, Width}
-use Rattle.search.specs.Strip.{Steps, Dear, Cell, stepsOf, words, Rewrite}
+use Rattle.search.specs.Strip.{Steps, Dear, Cell, cellsOf, stepsOf, words, Rewrite}
 use Rattle.search.specs.Search.{Choice, withMemory, write}
 use Rattle.search.specs.Levels.{levelAt, CouldBe, pays}
 use Rattle.search.specs.Choices.{choiceOf}
@@ -37,6 +38,15 @@ use Rattle.search.proofs.Levels.{length-cells, raised-rises, rises-rais
 use Rattle.search.proofs.Choices.{choice-chooses}
 use Rattle.search.proofs.Search.{write-solves, room-same}
 use Rattle.search.proofs.Parity.{parity-chosen}
+
+-- MARKS. The write of a strip depends on the marks of its own cells alone
+pub rewrite-marks : (lay : Layout) (G : Generators) (W : List ℕ) (L : ℕ) (strip : List ℕ) (a b : ℕ → Bool) (content : List ℕ)
+    → ((c : ℕ) → c < cellCount lay L → a c ≡ b c) → rewriteOf lay G W L strip a content ≡ rewriteOf lay G W L strip b content
+unfolding rewriteOf stripCells cellsOf
+rewrite-marks lay G W L strip a b content e =
+    ap
+    (write (encoderOf G) (dataBits lay content) (choiceOf (stepsOf W) (meaningOf lay)) (lay .cells) (stageCount lay L))
+    (listOf-same (cellCount lay L) _ _ (λ c h. ap (λ (m : Bool). record { level = level strip c; mark = m }) (e c h)))
 
 -- CODE BITS. The cells of stage t of n
 stage-levels : (k n : ℕ) (y : List ℕ) → length y ≡ k * n → (t : ℕ) → t < n → take k (drop (t * k) y) ≡ listOf k (λ i. levelAt y (k * t + i))
