@@ -1,5 +1,5 @@
--- The laws of demand 3: parts of a page, its reading, its strips one after the other, its levels, what a write picks, and what does not
--- depend on the weights, nor on the bits that are the ones.
+-- The laws of demand 3: parts of a page, its reading, its strips one after the other, its levels, what a write picks, what does not depend
+-- on the weights, nor on the bits that are the ones, and what marks do.
 pub mod Jobs
 pub mod Reading
 pub mod Strips
@@ -7,3 +7,4 @@ pub mod Levels
 pub mod Demand
 pub mod Weights
 pub mod Orders
+pub mod Marks
