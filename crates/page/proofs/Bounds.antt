@@ -1,4 +1,4 @@
--- What a write cannot do, with any weights of three bytes: raise a cell by more than one, or cost more than the dearest step for each cell.
+-- What a write cannot do, with any map and any weights of three bytes: raise a cell by more than one, or cost more than the dearest step for each cell.
 --   write-near         no cell rises by more than one
 --   write-most         the cost is at most the dearest step for each cell
 --   write-largest      so at most 65,536 times that
@@ -25,9 +25,9 @@ use Rattle.search.specs.Levels.{levelAt}
 use Rattle.demand.specs.Demand.{jobCost}
 use Rattle.demand.specs.Computed.{pageWrite}
 use Rattle.demand.proofs.Demand.{solution-raised}
-use Rattle.refusals.specs.Refusals.{writeGround, numbered}
-use Rattle.page.specs.Answers.{callPage, jobPage, jobOf, pageBy, pageOf, answerOf, valueOf, largestCost, largestWeightedCost}
-use Rattle.page.specs.Promise.{Wrote, done, spent}
+use Rattle.refusals.specs.Refusals.{numbered}
+use Rattle.page.specs.Answers.{callPage, jobPage, markedBy, mapSize, groundWith, jobWith, pageWith, answerWith, valueOf, largestCost, largestWeightedCost}
+use Rattle.page.specs.Promise.{WroteWith, done, spent}
 use Rattle.refusals.specs.declared.Refusal.{Refusal}
 use Rattle.page.specs.declared.Answer.{Answer}
 use Rattle.page.specs.declared.Answer.the-variants as A
@@ -58,49 +58,49 @@ climb-most weight w b from to h k = go (to - from) refl
     go zero e = let z : to ≡ from = omega arith in rw (z, climb-stay weight from) (omega arith)
     go (suc n) e = let z : to ≡ suc from = omega arith in rw (z, climb-step weight from) (b from)
 
-module _ (W : List ℕ) (K : Weights W) (code L S : ℕ) (before content : List ℕ) (b : Octets content) where
+module _ (map : Option (List ℕ)) (W : List ℕ) (K : Weights W) (code L S : ℕ) (before content : List ℕ) (b : Octets content) where
   -- NO CELL RISES BY MORE THAN ONE in a write
-  pub write-near : (c : ℕ) → c < cellCount oneBit L * S → level (pageOf W code L S before content) c ≤ suc (level before c)
-  unfolding pageOf pageBy jobPage
-  write-near c h = go (writeGround W code L S (length before) (length content)) refl (pageWrite (jobOf W code L S before content)) refl
+  pub write-near : (c : ℕ) → c < cellCount oneBit L * S → level (pageWith map W code L S before content startOf) c ≤ suc (level before c)
+  unfolding pageWith jobPage
+  write-near c h = go (groundWith map W code L S before content) refl (pageWrite (jobWith map W code L S before content)) refl
     where
-      go : (g : Option Refusal) → writeGround W code L S (length before) (length content) ≡ g → (w : Option Solution)
-          → pageWrite (jobOf W code L S before content) ≡ w
+      go : (g : Option Refusal) → groundWith map W code L S before content ≡ g → (w : Option Solution)
+          → pageWrite (jobWith map W code L S before content) ≡ w
           → level (callPage g w (λ a. raisedTo (startIn startOf (cellCount oneBit L)) before (levelAt (a .levels))) before) c
           ≤ suc (level before c)
       go (some r) e w f = omega arith
       go none e none f = omega arith
       go none e (some a) f =
-          rw (solution-raised startOf (jobOf W code L S before content) (job-in-order W code L S before content b e) a f c h)
+          rw (solution-raised startOf (jobWith map W code L S before content) (job-in-order map W code L S before content b e) a f c h)
           (page-near (numbered code) W (numbered-suits code W (K .three) (K .bytes))
-          (dear-by W code L S (length before) (length content) e) L S
-          (one-to-64 L (weighted-in-order W code L S (length before) (length content) e .0) .1) before content a f c h)
+          (dear-by (mapSize map) W code L S (length before) (length content) e) L S
+          (one-to-64 L (weighted-in-order (mapSize map) W code L S (length before) (length content) e .0) .1) before (markedBy map) content a f c h)
 
   -- THE COST of a write is at most w for each cell, where no step costs more
-  module _ (w : ℕ) (most : (l : ℕ) → weightOf W l ≤ w) (cost : ℕ) (answer : answerOf W code L S before content ≡ A.Done cost) where
+  module _ (w : ℕ) (most : (l : ℕ) → weightOf W l ≤ w) (cost : ℕ) (answer : answerWith map W code L S before content ≡ A.Done cost) where
     -- what is promised of it
-    promised : Wrote W code L S before content (pageOf W code L S before content) (A.Done cost)
-    promised = rw answer at (wrote W code L S before content b)
+    promised : WroteWith map W code L S before content (pageWith map W code L S before content startOf) (A.Done cost)
+    promised = rw answer at (wrote map W code L S before content b)
 
     pub write-most : cost ≤ cellCount oneBit L * S * w
     unfolding jobCost costOf
     write-most = go promised
       where
-        go : Wrote W code L S before content (pageOf W code L S before content) (A.Done cost) → cost ≤ cellCount oneBit L * S * w
+        go : WroteWith map W code L S before content (pageWith map W code L S before content startOf) (A.Done cost) → cost ≤ cellCount oneBit L * S * w
         go (done g p) =
             rw (← (p .paid))
             (sumOf-le
             (cellCount oneBit L * S) w _ (λ c h. climb-most (weightOf W) w most (level before c)
-            (level (pageOf W code L S before content) c)
+            (level (pageWith map W code L S before content startOf) c)
             (p .could .no-lower c h) (write-near c h)))
 
     -- the largest page has 65,536 cells
     pub write-largest : cost ≤ 65536 * w
     write-largest = go promised
       where
-        go : Wrote W code L S before content (pageOf W code L S before content) (A.Done cost) → cost ≤ 65536 * w
+        go : WroteWith map W code L S before content (pageWith map W code L S before content startOf) (A.Done cost) → cost ≤ 65536 * w
         go (done g p) =
-            let i = weighted-in-order W code L S (length before) (length content) g in
+            let i = weighted-in-order (mapSize map) W code L S (length before) (length content) g in
             let m : L * S ≤ 64 * 64 = mul-le-mul (one-to-64 L (i .0) .1) (one-to-64 S (i .1) .1) in
             let n : 16 * L * S ≤ 65536 = omega arith in
             let q : 16 * L * S * w ≤ 65536 * w = mul-le-mul {n₁ = 16 * L * S} {m₁ = w} {n₂ = 65536} {m₂ = w} n (omega arith) in
@@ -108,15 +108,15 @@ module _ (W : List ℕ) (K : Weights W) (code L S : ℕ) (before content : List 
             omega arith
 
 -- NO ANSWER HAS A GREATER VALUE, where no step costs more than w: the cost is at most that, and the number of a spent strip is below 64
-pub value-most : (W : List ℕ) → Weights W → (w : ℕ) → 0 < w → ((l : ℕ) → weightOf W l ≤ w) → (code L S : ℕ) (before content : List ℕ)
-    → Octets content → {r : Answer} → r ≡ answerOf W code L S before content → valueOf r ≤ 65536 * w
-value-most W K w p most code L S before content b {r} e = go r (sym e) (rw (sym e) at (wrote W code L S before content b))
+pub value-most : (map : Option (List ℕ)) (W : List ℕ) → Weights W → (w : ℕ) → 0 < w → ((l : ℕ) → weightOf W l ≤ w) → (code L S : ℕ) (before content : List ℕ)
+    → Octets content → {r : Answer} → r ≡ answerWith map W code L S before content → valueOf r ≤ 65536 * w
+value-most map W K w p most code L S before content b {r} e = go r (sym e) (rw (sym e) at (wrote map W code L S before content b))
   where
-    go : (a : Answer) → answerOf W code L S before content ≡ a
-        → Wrote W code L S before content (pageOf W code L S before content) a → valueOf a ≤ 65536 * w
-    go (A.Done cost) f q = write-largest W K code L S before content b w most cost f
+    go : (a : Answer) → answerWith map W code L S before content ≡ a
+        → WroteWith map W code L S before content (pageWith map W code L S before content startOf) a → valueOf a ≤ 65536 * w
+    go (A.Done cost) f q = write-largest map W K code L S before content b w most cost f
     go (A.Spent k) f (spent g q h) =
-        omega (arith, q .inside, one-to-64 S (weighted-in-order W code L S (length before) (length content) g .1) .1)
+        omega (arith, q .inside, one-to-64 S (weighted-in-order (mapSize map) W code L S (length before) (length content) g .1) .1)
     go (A.Refused r) f q = omega arith
 
 -- THE HOUSE'S WEIGHTS: a step costs at most 28
@@ -128,12 +128,12 @@ house-most (suc (suc zero)) = omega arith
 house-most (suc (suc (suc l))) = omega arith
 
 -- 'One write of the largest page costs at most 1,835,008.'
-pub house-largest : (code L S : ℕ) (before content : List ℕ) → Octets content → {r : Answer}
-    → r ≡ answerOf house code L S before content → valueOf r ≤ largestCost
-house-largest = value-most house (three-weights 16 20 28 (omega arith) (omega arith) (omega arith)) 28 (omega arith) house-most
+pub house-largest : (map : Option (List ℕ)) (code L S : ℕ) (before content : List ℕ) → Octets content → {r : Answer}
+    → r ≡ answerWith map house code L S before content → valueOf r ≤ largestCost
+house-largest map = value-most map house (three-weights 16 20 28 (omega arith) (omega arith) (omega arith)) 28 (omega arith) house-most
 
 -- ANY WEIGHTS: a step costs at most 255, and 'one write of the largest page then costs at most 16,711,680'
-pub weighted-largest : (W : List ℕ) → Weights W → (code L S : ℕ) (before content : List ℕ) → Octets content → {r : Answer}
-    → r ≡ answerOf W code L S before content → valueOf r ≤ largestWeightedCost
+pub weighted-largest : (map : Option (List ℕ)) (W : List ℕ) → Weights W → (code L S : ℕ) (before content : List ℕ) → Octets content → {r : Answer}
+    → r ≡ answerWith map W code L S before content → valueOf r ≤ largestWeightedCost
 unfolding weightOf
-weighted-largest W K = value-most W K 255 (omega arith) (K .bytes)
+weighted-largest map W K = value-most map W K 255 (omega arith) (K .bytes)

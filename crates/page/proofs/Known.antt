@@ -40,9 +40,9 @@ use Rattle.demand.specs.Reading.{stripLevels, readBy}
 use Rattle.demand.specs.Demand.{jobCost}
 use Rattle.demand.specs.Computed.{stripBytes, stripWrite, pageWrite, spentStrip}
 use Rattle.refusals.specs.Refusals.{oneTo64, isCode, codeGround, bytesGround, stripsGround, limitsGround, sizesGround, pageGround}
-use Rattle.refusals.specs.Refusals.{dataGround, freeStep, weightsGround, lengthsGround, writeGround, numbered}
+use Rattle.refusals.specs.Refusals.{dataGround, freeStep, weightsGround, callGround, writeGround, numbered}
 use Rattle.page.specs.Reading.{readPage}
-use Rattle.page.specs.Answers.{callAnswer, callPage, jobAnswer, jobPage, jobOf, answerOf, pageBy, pageOf}
+use Rattle.page.specs.Answers.{callAnswer, callPage, jobAnswer, jobPage, jobOf, answerWith, pageWith, answerOf, pageOf}
 use Rattle.page.specs.Known.{Case, Expected, reads, done, also, spent, Expects, Says, cases}
 use Rattle.page.specs.declared.Answer.{Answer}
 use Rattle.page.specs.declared.Answer.the-variants as A
@@ -77,14 +77,14 @@ module _ (code L S : ℕ) (page content : List ℕ) where
 
   -- THE EVALUATED DEFINITION IS THE ONE OF DEMAND 3: the answer
   pub answer-tabled : answerOf house code L S page content ≡ answerTabled
-  unfolding answerOf jobAnswer answerTabled pageWrite spentStrip
+  unfolding answerWith jobAnswer answerTabled pageWrite spentStrip
   answer-tabled =
       ap (λ (w : ℕ → Option Solution). callAnswer (writeGround house code L S (length page) (length content)) (all w (listOf S (λ k. k)))
       (first-none w (listOf S (λ k. k)))) strip-tabled
 
   -- and the page
   pub page-tabled : pageOf house code L S page content ≡ pageTabled
-  unfolding pageOf pageBy jobPage pageTabled pageWrite
+  unfolding pageWith jobPage pageTabled pageWrite
   page-tabled =
       ap (λ (w : ℕ → Option Solution). callPage (writeGround house code L S (length page) (length content)) (all w (listOf S (λ k. k)))
       (λ a. raisedTo (startIn startOf (cellCount oneBit L)) page (levelAt (a .levels))) page) strip-tabled
@@ -167,8 +167,8 @@ all-say (c ∷ cs) e = let p = and-both _ _ e in and-each (says c (c .expected) 
 table-passes : allPass cases ≡ true
 unfolding allPass passes isDone isSpent sameList answerTabled pageTabled stripTabled write-table table step look grow stages labels
     quotient register push dot branch next wanted sums joined better beats before lexltb parity-choice keep-or-raise odd weightOf
-    cellsOf encoderOf digit listOf bitOf level dataBits stripCells stageCount cellCount byteCount part all first-none numbered writeGround
-    weightsGround freeStep lengthsGround isCode codeGround limitsGround sizesGround bytesGround stripsGround pageGround dataGround oneTo64
+    cellsOf encoderOf digit listOf bitOf level dataBits stripCells stageCount cellCount byteCount part all first-none numbered callGround
+    weightsGround freeStep isCode codeGround limitsGround sizesGround bytesGround stripsGround pageGround dataGround oneTo64
     startIn startOf raisedTo bytesOf
     number raisedTimes raise zeroFrom triple levelAt readPage readBy stripLevels dataBit sumBit codeBit sumOf ago costOf climb
 table-passes = refl

@@ -143,7 +143,7 @@ reached-none {G} {W} {L} {S} {page} map {content} K D Z e =
           (total-same noTotal _ (λ i. solutionOutcome (stripWrite J i)) S
           (λ i h. ap (λ (j : ℕ). solutionOutcome (stripWrite J j)) (omega arith)))
           ∙ page-answers J (one-to-64 S (Z .strips-in) .1)
-          (λ k h a. strip-below G W K D L S (one-to-64 L (Z .bytes-in) .1) page map content k a));
+          (λ k h a. strip-below G W K D L S (one-to-64 L (Z .bytes-in) .1) page (marksIn map) content k a));
     }
 
 module _ {J : Job} where

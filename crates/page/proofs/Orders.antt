@@ -15,24 +15,26 @@ use mathlib.Core.Option.{Option, none, some}
 use Prim.Native.Nat.{ℕ, zero, suc, _<_, _+_, _*_}
 use native.Mathlib.Omega.{arith}
 use lib.Dec.{ltb}
-use lib.ListN.{length, getD, replicate}
+use lib.ListN.{length, getD}
 use Rattle.cells.specs.Places.{listOf, number}
 use Rattle.cells.specs.Bytes.{bitOf, bytesOf, Octets}
 use Rattle.cells.specs.Levels.{level, SameLevels}
+use Rattle.cells.specs.Marks.{emptied}
 use Rattle.cells.specs.Raising.{startOf, olderStart, startIn, zeroFrom, raise, raisedTimes, triple, raisedTo}
 use Rattle.cells.specs.Climbs.{house}
 use Rattle.cells.proofs.Places.{each-first, each-rest}
 use Rattle.cells.proofs.Raising.{raisedTo-same}
 use Rattle.cells.proofs.Levels.{levels-at, levels-sym, levels-self}
+use Rattle.cells.proofs.Marks.{emptied-levels}
 use Rattle.codes.specs.Generators.{Generators}
 use Rattle.codes.specs.Layouts.{oneBit, stageCount, cellCount}
 use Rattle.demand.specs.Jobs.{Job, width, InOrder}
 use Rattle.demand.specs.Reading.{stripLevels}
 use Rattle.demand.proofs.Weights.{spent-once}
 use Rattle.demand.proofs.Orders.{read-levels, onPage, could-levels, cheapest-levels, spent-levels}
-use Rattle.refusals.specs.Refusals.{writeGround, shapeGround, completionOf}
+use Rattle.refusals.specs.Refusals.{shapeGround, completionOf}
 use Rattle.page.specs.Reading.{readPage}
-use Rattle.page.specs.Answers.{kept, jobOf, answerOf, pageBy, pageOf}
+use Rattle.page.specs.Answers.{kept, markedBy, groundWith, jobWith, answerWith, pageWith, answerOf, pageBy, pageOf}
 use Rattle.page.specs.Promise.{Promised, done, spent, refused}
 use Rattle.page.specs.Counting.{rowOf, zeroRow, rowAt, rowsOf, censusOf}
 use Rattle.page.specs.Ledger.{erased, looked, pageAfter, Call, write, erase, look, erasing, eventOf, answerTo, played, answered}
@@ -58,21 +60,20 @@ module _ (g : Option Refusal) (J : Job) {p q : List ℕ} (s : SameLevels p q) (I
   promised-alike (refused e x) (spent f d y) = absurd (one-ground f e)
   promised-alike (refused e x) (refused f y) = (cc, rw (x, y) s)
 
--- TWO WRITES of the same data with any weights, in any two orders, on pages of one length with equal levels
-pub write-alike : (start start′ : ℕ → ℕ) (W : List ℕ) (code L S : ℕ) {p q : List ℕ} (content : List ℕ) → Octets content → SameLevels p q
-    → (answerOf W code L S p content ≡ answerOf W code L S q content)
-    × SameLevels (pageBy W code L S p content start) (pageBy W code L S q content start′)
-write-alike start start′ W code L S {p} {q} content b s =
-    promised-alike (writeGround W code L S (length p) (length content)) (jobOf W code L S p content) s (job-in-order W code L S p content b)
-    (wrote-by start W code L S p content b)
-    (rw (sym (s .size)) at (wrote-by start′ W code L S q content b))
+-- TWO WRITES of the same data with any map and weights, in any two orders, on pages of one length with equal levels
+pub write-alike : (start start′ : ℕ → ℕ) (map : Option (List ℕ)) (W : List ℕ) (code L S : ℕ) {p q : List ℕ} (content : List ℕ) → Octets content → SameLevels p q
+    → (answerWith map W code L S p content ≡ answerWith map W code L S q content)
+    × SameLevels (pageWith map W code L S p content start) (pageWith map W code L S q content start′)
+write-alike start start′ map W code L S {p} {q} content b s =
+    promised-alike (groundWith map W code L S p content) (jobWith map W code L S p content) s (job-in-order map W code L S p content b)
+    (wrote-by start map W code L S p content b)
+    (rw (sym (s .size)) at (wrote-by start′ map W code L S q content b))
 
 -- A WRITE OF THE RELEASES BEFORE K7, which raise from bit 0 on, and one of this release
 pub older-write : (W : List ℕ) (code L S : ℕ) {p q : List ℕ} (content : List ℕ) → Octets content → SameLevels p q
     → (answerOf W code L S p content ≡ answerOf W code L S q content)
     × SameLevels (pageBy W code L S p content olderStart) (pageOf W code L S q content)
-unfolding pageOf
-older-write W code L S content b s = write-alike olderStart startOf W code L S content b s
+older-write W code L S content b s = write-alike olderStart startOf none W code L S content b s
 
 -- THE CENSUS
 pub census-alike : (L S : ℕ) {x y : List ℕ} → SameLevels x y → censusOf L S x ≡ censusOf L S y
@@ -92,15 +93,15 @@ census-alike L S {x} {y} s =
 -- ANY SEQUENCE OF CALLS. After a call the levels are the same
 call-alike : (start start′ : ℕ → ℕ) (c : Call) {p q : List ℕ} → SameLevels p q
     → (answerTo c p ≡ answerTo c q) × SameLevels (pageAfter (eventOf start c p) p) (pageAfter (eventOf start′ c q) q)
-unfolding eventOf erasing
-call-alike start start′ (write W code L S content b) s =
-    let z = write-alike start start′ W code L S content b s in
+unfolding eventOf
+call-alike start start′ (write map W code L S content b) s =
+    let z = write-alike start start′ map W code L S content b s in
     (ap (λ (r : Answer). r ∷ []) (z .0), z .1)
-call-alike start start′ (erase L S tenths) {p} {q} s = (refl, rw (s .size) (go (erasing L S tenths q)))
+call-alike start start′ (erase map L S tenths) {p} {q} s = (refl, rw (s .size) (go (erasing map L S tenths q)))
   where
-    go : (g : Option Refusal) → SameLevels (pageAfter (kept g (erased (replicate (length q) 0)) looked) p)
-        (pageAfter (kept g (erased (replicate (length q) 0)) looked) q)
-    go none = levels-self
+    go : (g : Option Refusal) → SameLevels (pageAfter (kept g (erased (emptied (markedBy map) p)) looked) p)
+        (pageAfter (kept g (erased (emptied (markedBy map) q)) looked) q)
+    go none = emptied-levels (markedBy map) s
     go (some r) = s
 call-alike start start′ look s = (refl, s)
 
@@ -139,7 +140,7 @@ pub older-case : (answerOf house 3 1 1 (six 0 0 0 0 0 0) (0x01 ∷ []) ≡ A.Don
 unfolding startIn olderStart raisedTo bytesOf listOf number raisedTimes raise zeroFrom triple level bitOf cellCount stageCount
 older-case = (
   row .0,
-  raised-by (row .0) (wrote-by olderStart house 3 1 1 (six 0 0 0 0 0 0) (0x01 ∷ []) byte)
+  raised-by (row .0) (wrote-by olderStart none house 3 1 1 (six 0 0 0 0 0 0) (0x01 ∷ []) byte)
       ∙ raisedTo-same (startIn olderStart 16) (six 0 0 0 0 0 0) _ (level (six 0x01 0x03 0 0 0 0)) (λ c h. levels-at same c),
 )
   where

@@ -46,11 +46,57 @@ part-marked L k map c h =
     part-marks (mapCount oneBit L) k map c (omega arith) ∙ ap (λ (n : ℕ). marksIn map (n * k + c)) e
 
 module _ (G : Generators) (W : List ℕ) (K : Suits G W) (D : Dear (stepsOf W)) (L S : ℕ) (most : L ≤ 64)
-    (before map content : List ℕ) where
+    (before : List ℕ) (marks : ℕ → Bool) (content : List ℕ) where
   -- the marks of strip k
   abbrev stripMarks : ℕ → ℕ → Bool
-  stripMarks k c = marksIn map (cellCount oneBit L * k + c)
+  stripMarks k c = marks (cellCount oneBit L * k + c)
 
+  -- no strip's write costs as much as closed
+  pub strip-below : (k : ℕ) (a : Solution) → stripWrite (oneBitJob marks G W L S before content) k ≡ some a → a .cost < closed
+  unfolding stripWrite stripBytes
+  strip-below k a e = write-below G W K D L (stripPart L k before) (stripMarks k) (part L k content) a e most
+
+  -- a strip's write has a level for each cell
+  strip-levels : (k : ℕ) (b : Solution) → stripWrite (oneBitJob marks G W L S before content) k ≡ some b → length (b .levels) ≡ cellCount oneBit L
+  unfolding stripWrite stripBytes
+  strip-levels k b e =
+      strip-width oneBit L (stripPart L k before) (stripMarks k) G (suits-sound K) W (part L k content) .width _ _
+      (the-best (rw e at (strip-solves oneBit L (stripPart L k before) (stripMarks k) G (suits-sound K) W (part L k content))) .valid)
+
+  module _ (a : Solution) (e : pageWrite (oneBitJob marks G W L S before content) ≡ some a) (k : ℕ) (h : k < S) where
+    -- strip k's own write, whose levels stand at their place among all
+    own : PartOf (stripWrite (oneBitJob marks G W L S before content)) (cellCount oneBit L) (λ j. j) a k
+    unfolding pageWrite
+    own = all-each (stripWrite (oneBitJob marks G W L S before content)) (cellCount oneBit L) strip-levels S (λ j. j) a e k h
+
+    own-level : (i : ℕ) → i < cellCount oneBit L → levelAt (own .own .levels) i ≡ levelAt (a .levels) (cellCount oneBit L * k + i)
+    unfolding levelAt
+    own-level i l =
+        ap (λ (y : List ℕ). levelAt y i) (sym (own .levels-are))
+        ∙ getD-take (cellCount oneBit L) (drop (cellCount oneBit L * k) (a .levels)) i 0 l
+        ∙ getD-drop (cellCount oneBit L * k) (a .levels) i 0
+
+  -- NO CELL RISES BY MORE THAN ONE
+  pub page-near : (a : Solution) → pageWrite (oneBitJob marks G W L S before content) ≡ some a → (c : ℕ) → c < cellCount oneBit L * S
+      → levelAt (a .levels) c ≤ suc (level before c)
+  unfolding stripWrite stripBytes
+  page-near a e c h = rw (div-add-mod c n) at (near (c / n) (c % n) (part-number n S c h) (part-place n S c h))
+    where
+      n : ℕ
+      n = cellCount oneBit L
+
+      near : (k i : ℕ) → k < S → i < n → levelAt (a .levels) (n * k + i) ≤ suc (level before (n * k + i))
+      near k i h l =
+          omega (
+            arith,
+            own-level a e k h i l,
+            part-level n (byteCount oneBit L) (oneBit-whole L .cells-fill) k before i l,
+            strip-near G W K D L (stripPart L k before) (stripMarks k) (part L k content) (own a e k h .own) (own a e k h .is) i l,
+          )
+
+-- THE PROGRAM speaks of each strip by its own part of the map
+module _ (G : Generators) (W : List ℕ) (K : Suits G W) (D : Dear (stepsOf W)) (L S : ℕ) (most : L ≤ 64)
+    (before map content : List ℕ) where
   -- the write of strip k, as the functions of a strip speak of it
   pub write-same : (k : ℕ) → length (part L k content) ≡ L
       → writeOf G W (stripPart L k before) (marksIn (mapPart L k map)) (part L k content)
@@ -59,31 +105,6 @@ module _ (G : Generators) (W : List ℕ) (K : Suits G W) (D : Dear (stepsOf W)) 
   write-same k e =
       ap (λ (n : ℕ). rewriteOf oneBit G W n (stripPart L k before) (marksIn (mapPart L k map)) (part L k content)) e
       ∙ rewrite-marks oneBit G W L (stripPart L k before) _ _ (part L k content) (λ c h. part-marked L k map c h)
-
-  -- no strip's write costs as much as closed
-  pub strip-below : (k : ℕ) (a : Solution) → stripWrite (oneBitJob (marksIn map) G W L S before content) k ≡ some a → a .cost < closed
-  unfolding stripWrite stripBytes
-  strip-below k a e = write-below G W K D L (stripPart L k before) (stripMarks k) (part L k content) a e most
-
-  -- a strip's write has a level for each cell
-  strip-levels : (k : ℕ) (b : Solution) → stripWrite (oneBitJob (marksIn map) G W L S before content) k ≡ some b → length (b .levels) ≡ cellCount oneBit L
-  unfolding stripWrite stripBytes
-  strip-levels k b e =
-      strip-width oneBit L (stripPart L k before) (stripMarks k) G (suits-sound K) W (part L k content) .width _ _
-      (the-best (rw e at (strip-solves oneBit L (stripPart L k before) (stripMarks k) G (suits-sound K) W (part L k content))) .valid)
-
-  module _ (a : Solution) (e : pageWrite (oneBitJob (marksIn map) G W L S before content) ≡ some a) (k : ℕ) (h : k < S) where
-    -- strip k's own write, whose levels stand at their place among all
-    own : PartOf (stripWrite (oneBitJob (marksIn map) G W L S before content)) (cellCount oneBit L) (λ j. j) a k
-    unfolding pageWrite
-    own = all-each (stripWrite (oneBitJob (marksIn map) G W L S before content)) (cellCount oneBit L) strip-levels S (λ j. j) a e k h
-
-    own-level : (i : ℕ) → i < cellCount oneBit L → levelAt (own .own .levels) i ≡ levelAt (a .levels) (cellCount oneBit L * k + i)
-    unfolding levelAt
-    own-level i l =
-        ap (λ (y : List ℕ). levelAt y i) (sym (own .levels-are))
-        ∙ getD-take (cellCount oneBit L) (drop (cellCount oneBit L * k) (a .levels)) i 0 l
-        ∙ getD-drop (cellCount oneBit L * k) (a .levels) i 0
 
   -- THE PAGE AFTER IT, where there is a write
   pub carried-page : length before ≡ byteCount oneBit L * S → length content ≡ L * S → (digits after : List ℕ) (a : Solution)
@@ -118,22 +139,4 @@ module _ (G : Generators) (W : List ℕ) (K : Suits G W) (D : Dear (stepsOf W)) 
           level-is : (i : ℕ) → i < n → carriedTo G (stripPart L k before) (part L k content) (digitIn (part L k digits)) i
               ≡ levelAt (a .levels) (n * k + i)
           level-is i l =
-              p .planned a e k h .leads (own a e k h .own) (write-same k long ∙ own a e k h .is) i (rw long l) ∙ own-level a e k h i l
-
-  -- NO CELL RISES BY MORE THAN ONE
-  pub page-near : (a : Solution) → pageWrite (oneBitJob (marksIn map) G W L S before content) ≡ some a → (c : ℕ) → c < cellCount oneBit L * S
-      → levelAt (a .levels) c ≤ suc (level before c)
-  unfolding stripWrite stripBytes
-  page-near a e c h = rw (div-add-mod c n) at (near (c / n) (c % n) (part-number n S c h) (part-place n S c h))
-    where
-      n : ℕ
-      n = cellCount oneBit L
-
-      near : (k i : ℕ) → k < S → i < n → levelAt (a .levels) (n * k + i) ≤ suc (level before (n * k + i))
-      near k i h l =
-          omega (
-            arith,
-            own-level a e k h i l,
-            part-level n (byteCount oneBit L) (oneBit-whole L .cells-fill) k before i l,
-            strip-near G W K D L (stripPart L k before) (stripMarks k) (part L k content) (own a e k h .own) (own a e k h .is) i l,
-          )
+              p .planned a e k h .leads (own G W K D L S most before (marksIn map) content a e k h .own) (write-same k long ∙ own G W K D L S most before (marksIn map) content a e k h .is) i (rw long l) ∙ own-level G W K D L S most before (marksIn map) content a e k h i l

@@ -3,7 +3,8 @@
 --   limits-in-order, limits-most, sizes-limits   L and S where the limits have no ground
 --   shape-limits, shape-in-order, in-order       a call without a ground
 --   weights-dear                                 no step is free where the weights have no ground
---   no-free-step, permitted-ground               a price or write is refused as a read is, or by its weights
+--   no-free-step, same-weights                   a price or write with weights that are permitted
+--   permitted-ground                             is refused as a read is
 --   house-ground                                 with the house's weights it is refused as a read is
 --   weighted-in-order, map-in-order              a price or write without a ground, with a map or without
 --   erasing-in-order                             an erase without a ground, with a map
@@ -145,6 +146,12 @@ none-of-five map W code L S page content e =
 pub no-free-step : (map : Option ℕ) (W : List ℕ) (code L S page content : ℕ) → callGround map W code L S page content ≡ none
     → weightsGround W ≡ none
 no-free-step map W code L S page content e = none-of-five map W code L S page content e .1
+
+-- with other weights that are permitted it has no ground either
+pub same-weights : (map : Option ℕ) (U W : List ℕ) (code L S page content : ℕ) → weightsGround W ≡ none
+    → callGround map U code L S page content ≡ none → callGround map U code L S page content ≡ callGround map W code L S page content
+unfolding callGround
+same-weights map U W code L S page content w e = rw (no-free-step map U code L S page content e, w)
 
 -- L, S and both lengths are in order
 pub weighted-in-order : (map : Option ℕ) (W : List ℕ) (code L S page content : ℕ) → callGround map W code L S page content ≡ none

@@ -6,20 +6,21 @@ use native.Mathlib.Omega.{arith}
 use lib.ListN.{length}
 use mir.Syntax.{w8}
 use borrow.Author.Needs.{needs, elem-fits}
+use Rattle.cells.specs.Marks.{marksIn}
 use Rattle.codes.specs.Codes.{generatorsOf}
 use Rattle.trellis.specs.Rows.{Priced}
 use Rattle.trellis.proofs.Ways.{suits}
-use Rattle.page.specs.Answers.{plainJob}
+use Rattle.page.specs.Answers.{oneBitJob}
 use Rattle.page.proofs.Loops.{part-fits, turn-shaped, turn-outcome, table-priced, Reached, reached-none, reached-more, reached-spent, reached-all}
 use Rattle.page.proofs.writing.price_strips.Statement.{statement}
 use Rattle.page.proofs.writing.price_strips.Tie as tie
 
 abbrev Inv-loop : tie.InvT-loop
-Inv-loop code bytes strips page «data» rows total₀ k₀ total k =
-    (W : List ℕ) → Priced W rows → Reached (plainJob (generatorsOf code) W bytes strips page «data») total k
+Inv-loop code bytes strips page map «data» rows total₀ k₀ total k =
+    (W : List ℕ) → Priced W rows → Reached (oneBitJob (marksIn map) (generatorsOf code) W bytes strips page «data») total k
 
 abbrev μ-loop : tie.MeasureT-loop
-μ-loop code bytes strips page «data» rows total₀ k₀ total k = strips - k
+μ-loop code bytes strips page map «data» rows total₀ k₀ total k = strips - k
 
 -- the table is that of the weights
 priced : (c : tie.After-rows-of Inv-loop μ-loop) → let s = c .before .before .before in Priced (s .args .weights) (c .rows-of .result)
@@ -40,7 +41,8 @@ fit c = part-fits (c .before .before .before .before .before .before .pre .0) (c
 one-more : (c : tie.After-add Inv-loop μ-loop)
     → let l = c .before .before .before .before .before .before in let r = l .before .before in let a = r .before .before .before .args in
     (W : List ℕ) → Priced W (r .rows-of .result)
-    → Reached (plainJob (generatorsOf (a .code)) W (a .bytes) (a .strips) (a .page .now) (a .«data» .now)) (c .add .result) (l .loop .k + 1)
+    → Reached (oneBitJob (marksIn (a .map .now)) (generatorsOf (a .code)) W (a .bytes) (a .strips) (a .page .now) (a .«data» .now)) (c .add .result)
+    (l .loop .k + 1)
 one-more c W P =
     let t = c .before .before .before .before .before in
     let s = t .before .before .before .before .before .before in
