@@ -67,6 +67,10 @@ strip-fits {lay} {L} {S} Z {k} h = omega (arith, Z .page-is, within (byteCount l
 pub part-fits : {lay : Layout} {L S : ℕ} {page content : List ℕ} → Sized lay L S page content → {k : ℕ} → k < S → L * k + L ≤ length content
 part-fits {lay} {L} {S} Z {k} h = omega (arith, Z .data-is, within L k S h)
 
+-- L and the strip's number are within their limits
+pub lent-limits : {lay : Layout} {L S : ℕ} {page content : List ℕ} → Sized lay L S page content → {k : ℕ} → k < S → (L ≤ 64) × (k < 64)
+lent-limits {L = L} {S = S} Z h = (one-to-64 L (Z .bytes-in) .1, omega (arith, one-to-64 S (Z .strips-in) .1))
+
 -- THE TABLE of weights that suit a code, none of them free
 pub table-priced : {G : Generators} {W rows : List ℕ} → Suits G W → Dear (stepsOf W) → Table W rows → Priced W rows
 table-priced K D T = record { three = K .three; bytes = K .bytes; dear = D; table = T }

@@ -1,18 +1,20 @@
 -- A strip within the page: which strips lie in a page, and parts that are stored one by one.
 --   part-ends                               where a part of a list ends
+--   part-cut                                a part whose ends are cut off
 --   outside, beyond, strip-none, strip-inside, strip-there   which strips lie in a page
 --   lent-length, stored-length, part-more   parts that a loop lends and stores
-use mathlib.Core.Path.{_≡_, sym, _∙_, ap, subst⁻¹}
-use mathlib.Core.Bool.{true, false}
+use mathlib.Core.Path.{_≡_, refl, sym, _∙_, ap, subst⁻¹}
+use mathlib.Core.Bool.{Bool, true, false}
 use mathlib.Core.List.{List, [], _++_}
-use Prim.Native.Nat.{ℕ, suc, _+_, _*_, _-_, _/_, _<_, _≤_}
+use Prim.Native.Nat.{ℕ, suc, _+_, _*_, _-_, _/_, _<_, _≤_, min}
 use native.Mathlib.Omega.{arith}
-use native.Mathlib.Nat.{mul-le-mul-left, mul-div-le, lt-mul-div-succ, add-sub-cancel-left}
+use native.Mathlib.Nat.{mul-le-mul-left, mul-div-le, lt-mul-div-succ, add-sub-cancel-left, min-eq-left, min-eq-right}
+use lib.Dec.{ltb}
 use lib.ListN.{length, take, drop, length-drop, take-append-drop}
-use lib.Seq.{length-take-le, take-at, drop-at, take-append-le, drop-append-le}
+use lib.Seq.{take-all, take-nil, length-take-le, take-at, drop-at, take-append-le, drop-append-le}
 use borrow.Rule.Slice.PartMut.{same-len-mid}
 use borrow.Author.Count.{below-more}
-use borrow.Author.Tests.{le-leb, lt-leb}
+use borrow.Author.Tests.{ltb-true, ltb-false, le-leb, lt-leb}
 use Rattle.codes.specs.Layouts.{oneBit, byteCount}
 use Rattle.codes.proofs.Layouts.{oneBit-bytes}
 use Rattle.demand.specs.Jobs.{part}
@@ -31,6 +33,39 @@ part-beyond n k size p h =
     let m : n * (size / n + 1) ≤ n * (k + 1) = mul-le-mul-left n (omega arith) in
     let e : n * (k + 1) ≡ n * k + n = omega arith in
     omega (arith, lt-mul-div-succ size p)
+
+-- a part whose ends are cut off at the end of the list is the part
+pub part-cut : (n k : ℕ) (bytes : List ℕ)
+    → take (min (n * k + n) (length bytes) - min (n * k) (length bytes)) (drop (min (n * k) (length bytes)) bytes) ≡ part n k bytes
+unfolding part
+part-cut n k bytes = go (ltb (length bytes) (n * k)) refl (ltb (length bytes) (n * k + n)) refl
+  where
+    rest : List ℕ
+    rest = drop (n * k) bytes
+
+    long : length rest ≡ length bytes - n * k
+    long = length-drop (n * k) bytes
+
+    go : (a : Bool) → ltb (length bytes) (n * k) ≡ a → (b : Bool) → ltb (length bytes) (n * k + n) ≡ b
+        → take (min (n * k + n) (length bytes) - min (n * k) (length bytes)) (drop (min (n * k) (length bytes)) bytes) ≡ take n rest
+    go true e b f =
+        let i : length bytes < n * k = ltb-true (length bytes) (n * k) e in
+        let h : length bytes ≤ n * k = omega arith in
+        let l : length bytes ≤ n * k + n = omega arith in
+        let z : length bytes - length bytes ≡ 0 = omega arith in
+        let nil : rest ≡ [] = sym (take-all 0 rest (omega (arith, long))) in
+        rw (min-eq-right l, min-eq-right h, z)
+        (sym (ap (take n) nil ∙ take-nil n))
+    go false e true f =
+        let h : n * k ≤ length bytes = ltb-false (length bytes) (n * k) e in
+        let i : length bytes < n * k + n = ltb-true (length bytes) (n * k + n) f in
+        let l : length bytes ≤ n * k + n = omega arith in
+        rw (min-eq-right l, min-eq-left h)
+        (take-all (length bytes - n * k) rest (omega (arith, long)) ∙ sym (take-all n rest (omega (arith, long))))
+    go false e false f =
+        let h : n * k ≤ length bytes = ltb-false (length bytes) (n * k) e in
+        let l : n * k + n ≤ length bytes = ltb-false (length bytes) (n * k + n) f in
+        rw (min-eq-left l, min-eq-left h, add-sub-cancel-left (n * k) n)
 
 module _ (L k : ℕ) (page : List ℕ) where
   -- none does where L is outside its limits

@@ -1,4 +1,5 @@
 -- The price with the house's weights.
+use mathlib.Core.Option.{none}
 use native.Mathlib.Omega.{arith}
 use borrow.Author.Needs.{needs}
 use Rattle.cells.specs.Bytes.{Octets}
@@ -29,7 +30,7 @@ returns : tie.Need-returns
 returns c =
     let h = c .before in
     let p = rw (h .house-weights .ensures) at (c .price-weighted .ensures) in
-    (p .0, (p .1 .0, house-largest _ _ _ _ _ (octets (h .before)) (p .0)))
+    (p .0, (p .1 .0, house-largest none _ _ _ _ _ (octets (h .before)) (p .0)))
 
 pub price-spec : {M : Type 1} → statement M
 price-spec =

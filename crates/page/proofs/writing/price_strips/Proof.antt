@@ -11,7 +11,7 @@ use Rattle.codes.specs.Codes.{generatorsOf}
 use Rattle.trellis.specs.Rows.{Priced}
 use Rattle.trellis.proofs.Ways.{suits}
 use Rattle.page.specs.Answers.{oneBitJob}
-use Rattle.page.proofs.Loops.{part-fits, turn-shaped, turn-outcome, table-priced, Reached, reached-none, reached-more, reached-spent, reached-all}
+use Rattle.page.proofs.Loops.{lent-limits, part-fits, turn-shaped, turn-outcome, table-priced, Reached, reached-none, reached-more, reached-spent, reached-all}
 use Rattle.page.proofs.writing.price_strips.Statement.{statement}
 use Rattle.page.proofs.writing.price_strips.Tie as tie
 
@@ -23,9 +23,9 @@ abbrev μ-loop : tie.MeasureT-loop
 μ-loop code bytes strips page map «data» rows total₀ k₀ total k = strips - k
 
 -- the table is that of the weights
-priced : (c : tie.After-rows-of Inv-loop μ-loop) → let s = c .before .before .before in Priced (s .args .weights) (c .rows-of .result)
+priced : (c : tie.After-rows-of Inv-loop μ-loop) → let s = c .before .before .before .before in Priced (s .args .weights) (c .rows-of .result)
 priced c =
-    let s = c .before .before .before in
+    let s = c .before .before .before .before in
     let W = s .args .weights in
     table-priced
     (suits (s .args .code) W (s .good .1 .0 .1 .0 .1)
@@ -34,21 +34,22 @@ priced c =
 
 -- in a turn the part ends within the data
 fit : (c : tie.In-loop Inv-loop μ-loop)
-    → let a = c .before .before .before .before .before .before .args in a .bytes * c .before .loop .k + a .bytes ≤ length (a .«data» .now)
-fit c = part-fits (c .before .before .before .before .before .before .pre .0) (c .loop-test .taken)
+    → let a = c .before .before .before .before .before .before .before .args in
+    a .bytes * c .before .loop .k + a .bytes ≤ length (a .«data» .now)
+fit c = part-fits (c .before .before .before .before .before .before .before .pre .0) (c .loop-test .taken)
 
 -- after a turn the total has one more strip
 one-more : (c : tie.After-add Inv-loop μ-loop)
-    → let l = c .before .before .before .before .before .before in let r = l .before .before in let a = r .before .before .before .args in
+    → let l = c .before .before .before .before .before .before .before in let r = l .before .before in let a = r .before .before .before .before .args in
     (W : List ℕ) → Priced W (r .rows-of .result)
     → Reached (oneBitJob (marksIn (a .map .now)) (generatorsOf (a .code)) W (a .bytes) (a .strips) (a .page .now) (a .«data» .now)) (c .add .result)
     (l .loop .k + 1)
 one-more c W P =
-    let t = c .before .before .before .before .before in
-    let s = t .before .before .before .before .before .before in
+    let t = c .before .before .before .before .before .before in
+    let s = t .before .before .before .before .before .before .before in
     reached-more (t .before .loop .inv W P) (t .loop-test .taken)
-    (turn-outcome (s .pre .0) (t .loop-test .taken) (c .before .before .before .strip .ensures .0)
-    (suits (s .args .code) W (P .three) (P .bytes)) (P .dear) (c .before .price-strip .ensures W P)) (c .add .ensures)
+    (turn-outcome (s .args .map .now) (s .pre .0) (t .loop-test .taken) (c .before .before .before .before .strip .ensures .0)
+    (c .before .before .before .map-part .ensures) (suits (s .args .code) W (P .three) (P .bytes)) (P .dear) (c .before .price-strip .ensures W P)) (c .add .ensures)
 
 rows-of-requires : tie.Need-rows-of-requires Inv-loop μ-loop
 rows-of-requires c κs = search needs
@@ -58,8 +59,8 @@ new-requires c κs = search needs
 
 loop-holds : tie.Need-loop-holds Inv-loop μ-loop
 loop-holds c =
-    let s = c .before .before .before .before in
-    λ W P. reached-none (suits (s .args .code) W (P .three) (P .bytes)) (P .dear) (s .pre .0) (c .new .ensures)
+    let s = c .before .before .before .before .before in
+    λ W P. reached-none (s .args .map .now) (suits (s .args .code) W (P .three) (P .bytes)) (P .dear) (s .pre .0) (c .new .ensures)
 
 mul-a : tie.Need-mul-a Inv-loop μ-loop
 mul-a c = omega (arith, fit c)
@@ -67,8 +68,13 @@ mul-a c = omega (arith, fit c)
 strip-requires : tie.Need-strip-requires Inv-loop μ-loop
 strip-requires c κs = search needs
 
+map-part-requires : tie.Need-map-part-requires Inv-loop μ-loop
+map-part-requires c κs =
+    let t = c .before .before in
+    lent-limits (t .before .before .before .before .before .before .before .pre .0) (t .loop-test .taken)
+
 add-price-strip : tie.Need-add-price-strip Inv-loop μ-loop
-add-price-strip c = omega (arith, fit (c .before .before))
+add-price-strip c = omega (arith, fit (c .before .before .before))
 
 sub-price-strip : tie.Need-sub-price-strip Inv-loop μ-loop
 sub-price-strip c = search needs
@@ -77,14 +83,15 @@ part-price-strip-start : tie.Need-part-price-strip-start Inv-loop μ-loop
 part-price-strip-start c = search needs
 
 part-price-strip-end : tie.Need-part-price-strip-end Inv-loop μ-loop
-part-price-strip-end c = fit (c .before .before)
+part-price-strip-end c = fit (c .before .before .before)
 
 price-strip-requires : tie.Need-price-strip-requires Inv-loop μ-loop
 price-strip-requires c κs =
-    let t = c .before .before .before in
+    let t = c .before .before .before .before in
     let n = t .before .before .before in
-    let s = n .before .before .before in
-    turn-shaped (s .pre .0) (t .loop-test .taken) (c .before .strip .ensures .0) (n .rows-of .ensures)
+    let s = n .before .before .before .before in
+    turn-shaped (s .args .map .now) (s .pre .0) (t .loop-test .taken) (c .before .before .strip .ensures .0) (c .before .map-part .ensures)
+    (n .rows-of .ensures)
 
 add-requires : tie.Need-add-requires Inv-loop μ-loop
 add-requires c κs = search needs
@@ -94,7 +101,7 @@ answer-requires c κs = search needs
 
 returns : tie.Need-returns Inv-loop μ-loop
 returns c =
-    let r = c .before .before .before .before .before .before .before .before .before .before in
+    let r = c .before .before .before .before .before .before .before .before .before .before .before in
     reached-spent (one-more (c .before .before) _ (priced r)) (c .before .if1 .taken) (c .answer .ensures)
 
 add-k : tie.Need-add-k Inv-loop μ-loop
@@ -124,6 +131,7 @@ price-strips-spec =
     loop-holds
     mul-a
     strip-requires
+    map-part-requires
     add-price-strip
     sub-price-strip
     part-price-strip-start

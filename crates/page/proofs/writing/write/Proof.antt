@@ -1,4 +1,5 @@
 -- The write with the house's weights.
+use mathlib.Core.Option.{none}
 use native.Mathlib.Omega.{arith}
 use borrow.Author.Needs.{needs}
 use Rattle.cells.specs.Bytes.{Octets}
@@ -33,7 +34,7 @@ returns c =
     let w = c .before .before in
     let h = w .before .before in
     let p = rw (h .house-weights .ensures) at (w .write-weighted .ensures) in
-    (p .0, (p .1 .0, (p .1 .1 .0, house-largest _ _ _ _ _ (octets (h .before)) (p .0))))
+    (p .0, (p .1 .0, (p .1 .1 .0, house-largest none _ _ _ _ _ (octets (h .before)) (p .0))))
 
 pub write-spec : {M : Type 1} → statement M
 write-spec =

@@ -7,10 +7,11 @@ use native.Mathlib.Omega.{arith}
 use lib.ListN.{length, drop, replicate}
 use mir.Syntax.{w8}
 use borrow.Author.Needs.{needs, elem-fits}
+use Rattle.cells.specs.Marks.{marksIn}
 use Rattle.cells.specs.Raising.{startOf}
 use Rattle.codes.specs.Codes.{generatorsOf}
 use Rattle.trellis.proofs.Ways.{Suits, suits}
-use Rattle.page.specs.Answers.{plainJob, jobAnswer, jobPage}
+use Rattle.page.specs.Answers.{oneBitJob, jobAnswer, jobPage}
 use Rattle.page.proofs.Loops.{whole-most, front-length, front-fits, front-back, done-page, spent-page, not-refused}
 use Rattle.page.proofs.writing.write_strips.Statement.{statement}
 use Rattle.page.proofs.writing.write_strips.Tie as tie
@@ -22,28 +23,28 @@ suited c = suits (c .args .code) (c .args .weights) (c .good .1 .0 .1 .0 .1)
 
 -- the digits that the plans leave at the front of the array
 abbrev planned : tie.After-plan-strips → List ℕ
-planned c = c .plan-strips .last .1 .1 .1 .1 .1 .1 .0
+planned c = c .plan-strips .last .1 .1 .1 .1 .1 .1 .1 .0
 
 -- what lies behind them
 abbrev behind : tie.After-plan-strips → List ℕ
-behind c = let a = c .before .before .before .before .before .args in drop (a .bytes * a .strips - 0) (replicate 4096 0)
+behind c = let a = c .before .before .before .before .before .before .args in drop (a .bytes * a .strips - 0) (replicate 4096 0)
 
 -- they come back with their length
-digits-length : (c : tie.After-plan-strips) → let a = c .before .before .before .before .before .args in length (planned c)
+digits-length : (c : tie.After-plan-strips) → let a = c .before .before .before .before .before .before .args in length (planned c)
     ≡ a .bytes * a .strips
 digits-length c =
-    c .plan-strips .kept .1 .1 .1 .1 .1 .1 .0 ∙ front-length _ _ (whole-most (c .before .before .before .before .before .pre .0))
+    c .plan-strips .kept .1 .1 .1 .1 .1 .1 .1 .0 ∙ front-length _ _ (whole-most (c .before .before .before .before .before .before .pre .0))
 
 -- a spent page is as it was, and that is the page of the write
 spent-kept : (c : tie.After-enum-told3) →
     let p = c .before .before .before in
-    let a = p .before .before .before .before .before .args in
-    let J = plainJob (generatorsOf (a .code)) (a .weights) (a .bytes) (a .strips) (a .page .now) (a .«data» .now) in
+    let a = p .before .before .before .before .before .before .args in
+    let J = oneBitJob (marksIn (a .map .now)) (generatorsOf (a .code)) (a .weights) (a .bytes) (a .strips) (a .page .now) (a .«data» .now) in
     (p .plan-strips .result ≡ jobAnswer none J) × (a .page .now ≡ jobPage none J startOf)
 spent-kept c =
     let p = c .before .before .before in
-    let s = p .before .before .before .before .before in
-    (p .plan-strips .ensures .0, spent-page (suited s) (s .pre .1) (s .pre .0) (p .plan-strips .ensures .0) (c .enum-told3 .given .1))
+    let s = p .before .before .before .before .before .before in
+    (p .plan-strips .ensures .0, spent-page (suited s) (s .pre .1) (s .args .map .now) (s .pre .0) (p .plan-strips .ensures .0) (c .enum-told3 .given .1))
 
 mul-whole : tie.Need-mul-whole
 mul-whole c = search needs
@@ -55,11 +56,11 @@ part-digits-start : tie.Need-part-digits-start
 part-digits-start c = search needs
 
 part-digits-end : tie.Need-part-digits-end
-part-digits-end c = whole-most (c .before .before .before .pre .0)
+part-digits-end c = whole-most (c .before .before .before .before .pre .0)
 
 plan-strips-requires : tie.Need-plan-strips-requires
 plan-strips-requires c κs =
-    let s = c .before .before .before .before in
+    let s = c .before .before .before .before .before in
     (s .pre .0, (s .pre .1, front-length _ _ (whole-most (s .pre .0))))
 
 enum-told : tie.Need-enum-told
@@ -82,7 +83,7 @@ part-carry-strips-end c =
 carry-strips-requires : tie.Need-carry-strips-requires
 carry-strips-requires c κs =
     let p = c .before .before .before .before .before .before in (
-      p .before .before .before .before .before .pre .0,
+      p .before .before .before .before .before .before .pre .0,
       front-length _ (planned p ++ behind p)
           (front-fits _ (planned p) (behind p) (digits-length p)),
     )
@@ -96,8 +97,8 @@ same-length c = search needs
 returns : tie.Need-returns
 returns c =
     let p = c .before .before .before in
-    let s = p .before .before .before .before .before in
-    absurd (not-refused (suited s) (s .pre .1) (s .pre .0) (p .plan-strips .ensures .0) (c .enum-told .given .1))
+    let s = p .before .before .before .before .before .before in
+    absurd (not-refused (suited s) (s .pre .1) (s .args .map .now) (s .pre .0) (p .plan-strips .ensures .0) (c .enum-told .given .1))
 
 same-length-2 : tie.Need-same-length-2
 same-length-2 c = search needs
@@ -105,11 +106,11 @@ same-length-2 c = search needs
 returns-2 : tie.Need-returns-2
 returns-2 c =
     let p = c .before .before .before .before .before .before .before .before .before in
-    let s = p .before .before .before .before .before in
+    let s = p .before .before .before .before .before .before in
     let e = p .plan-strips .ensures .0 in
     let carried = rw (front-back _ (planned p) (behind p) (digits-length p)) at (c .before .before .carry-strips .ensures) in (
       e,
-      done-page (suited s) (s .pre .1) (s .pre .0) e (c .before .before .before .before .before .before .enum-told2 .given .1)
+      done-page (suited s) (s .pre .1) (s .args .map .now) (s .pre .0) e (c .before .before .before .before .before .before .enum-told2 .given .1)
           (p .plan-strips .ensures .1 .0) carried,
     )
 

@@ -1,8 +1,10 @@
 -- A call that is judged in order answers and leaves the page as its strips do, any other changes nothing; and both keep the promise.
 use mathlib.Core.List.{[], _∷_}
+use mathlib.Core.Option.{none}
 use native.Mathlib.Omega.{arith}
 use borrow.Author.Needs.{needs}
 use Rattle.cells.specs.Bytes.{Octets}
+use Rattle.cells.proofs.Marks.{no-map}
 use Rattle.page.proofs.Bounds.{Weights, three-weights, weighted-largest}
 use Rattle.page.proofs.Loops.{Judged, sized-by, judged-dear, in-order-answer, in-order-page, refused-answer, refused-page, kept-by}
 use Rattle.page.proofs.writing.write_weighted.Statement.{statement}
@@ -11,7 +13,7 @@ use Rattle.page.proofs.writing.write_weighted.Tie as tie
 -- what was judged
 judged : (c : tie.After-judge-write)
     → let a = c .before .before .before .args in
-    Judged (a .w1 ∷ a .w2 ∷ a .w3 ∷ []) (a .code) (a .bytes) (a .strips) (a .page .now) (a .«data» .now) (c .judge-write .result)
+    Judged none (a .w1 ∷ a .w2 ∷ a .w3 ∷ []) (a .code) (a .bytes) (a .strips) (a .page .now) (a .«data» .now) (c .judge-write .result)
 judged c = record { by = c .judge-write .ensures }
 
 -- the data is bytes
@@ -31,11 +33,20 @@ enum-told c = search needs
 code-of-requires : tie.Need-code-of-requires
 code-of-requires c κs = search needs
 
+sub-write-strips : tie.Need-sub-write-strips
+sub-write-strips c = search needs
+
+part-write-strips-start : tie.Need-part-write-strips-start
+part-write-strips-start c = search needs
+
+part-write-strips-end : tie.Need-part-write-strips-end
+part-write-strips-end c = search needs
+
 write-strips-requires : tie.Need-write-strips-requires
 write-strips-requires c κs =
-    let n = c .before .before in
+    let n = c .before .before .before in
     let j = judged (n .before .before) in
-    (sized-by j (n .enum-told .given .1), judged-dear j (n .enum-told .given .1))
+    (sized-by none j (n .enum-told .given .1), judged-dear none j (n .enum-told .given .1))
 
 enum-known-judged : tie.Need-enum-known-judged
 enum-known-judged c = search needs
@@ -46,21 +57,21 @@ same-length c = search needs
 returns : tie.Need-returns
 returns c =
     let w = c .before .before in
-    let n = w .before .before .before in
+    let n = w .before .before .before .before in
     let j = n .before .before in
-    let g = w .before .before .code-of .ensures in
-    let e = in-order-answer (judged j) (n .enum-told .given .1) g (w .write-strips .ensures .0) in
-    let p = in-order-page (judged j) (n .enum-told .given .1) g (w .write-strips .ensures .1) in
+    let g = w .before .before .before .code-of .ensures in
+    let e = in-order-answer none (judged j) (n .enum-told .given .1) g no-map (w .write-strips .ensures .0) in
+    let p = in-order-page none (judged j) (n .enum-told .given .1) g no-map (w .write-strips .ensures .1) in
     let b = octets (j .before) in
-    (e, (p, (kept-by _ _ _ _ _ _ b p e, weighted-largest _ (weights (j .before .before .before)) _ _ _ _ _ b e)))
+    (e, (p, (kept-by none _ _ _ _ _ _ b p e, weighted-largest none _ (weights (j .before .before .before)) _ _ _ _ _ b e)))
 
 returns-2 : tie.Need-returns-2
 returns-2 c =
     let j = c .before .before .before in
-    let e = refused-answer (judged j) (c .before .judged .given .1) in
-    let p = refused-page (judged j) (c .before .judged .given .1) in
+    let e = refused-answer none (judged j) (c .before .judged .given .1) in
+    let p = refused-page none (judged j) (c .before .judged .given .1) in
     let b = octets (j .before) in
-    (e, (p, (kept-by _ _ _ _ _ _ b p e, weighted-largest _ (weights (j .before .before .before)) _ _ _ _ _ b e)))
+    (e, (p, (kept-by none _ _ _ _ _ _ b p e, weighted-largest none _ (weights (j .before .before .before)) _ _ _ _ _ b e)))
 
 pub write-weighted-spec : {M : Type 1} → statement M
 write-weighted-spec =
@@ -69,6 +80,9 @@ write-weighted-spec =
     judge-write-requires
     enum-told
     code-of-requires
+    sub-write-strips
+    part-write-strips-start
+    part-write-strips-end
     write-strips-requires
     enum-known-judged
     same-length
