@@ -5,13 +5,16 @@ use page::Completion;
 use page::answers;
 ghost use mathlib.Core.Path.{_≡_};
 ghost use mathlib.Core.List.{[], _∷_};
+ghost use mathlib.Core.Option.{some};
 ghost use Prim.Native.Nat.{_+_, _*_, _%_, _≤_};
 ghost use lib.ListN.{length, replicate};
+ghost use Rattle.cells.specs.Marks.{marksIn, emptied};
+ghost use Rattle.cells.specs.Raising.{startOf};
 ghost use Rattle.cells.specs.Climbs.{house};
 ghost use Rattle.page.specs.Reading.{readPage};
-ghost use Rattle.refusals.specs.Refusals.{shapeGround, eraseGround, first-of, ground, numbered, completionOf};
-ghost use Rattle.page.specs.Answers.{kept, answerOf, pageOf, largestCost, largestWeightedCost};
-ghost use Rattle.page.specs.Promise.{Wrote};
+ghost use Rattle.refusals.specs.Refusals.{shapeGround, eraseGround, erasingGround, first-of, ground, numbered, completionOf};
+ghost use Rattle.page.specs.Answers.{kept, answerWith, pageWith, answerOf, pageOf, largestCost, largestWeightedCost};
+ghost use Rattle.page.specs.Promise.{WroteWith, Wrote};
 ghost use Rattle.firmware.specs.Words.{answerWord, completionWord};
 
 // A number and a value in one word.
@@ -124,6 +127,49 @@ pub extern "C" fn segrunov_write_weighted(
     answer_word(answer)
 }
 
+// What a write of the same data with this map and these weights would answer; nothing is changed.
+#[no_mangle]
+pub extern "C" fn segrunov_price_mapped(
+    code: u32,
+    bytes: u32,
+    strips: u32,
+    w1: u8,
+    w2: u8,
+    w3: u8,
+    page: &[u8],
+    map: &[u8],
+    data: &[u8],
+) -> u64
+    ensures { λ r. ⌜ r ≡ answerWord (answerWith (some (now (map .entry))) (w1 ∷ w2 ∷ w3 ∷ []) code bytes strips (now (page .entry)) (now («data» .entry))) ⌝ }
+    ensures { λ _. ⌜ WroteWith (some (now (map .entry))) (w1 ∷ w2 ∷ w3 ∷ []) code bytes strips (now (page .entry)) (now («data» .entry)) (pageWith (some (now (map .entry))) (w1 ∷ w2 ∷ w3 ∷ []) code bytes strips (now (page .entry)) (now («data» .entry)) startOf) (answerWith (some (now (map .entry))) (w1 ∷ w2 ∷ w3 ∷ []) code bytes strips (now (page .entry)) (now («data» .entry))) ⌝ }
+    ensures { λ r. ⌜ r % 4294967296 ≤ largestWeightedCost ⌝ }
+{
+    let answer = page::writing::price_mapped(code, bytes, strips, w1, w2, w3, page, map, data);
+    answer_word(answer)
+}
+
+// Writes the data at the least cost in these weights, and raises no cell that the map marks.
+#[no_mangle]
+pub extern "C" fn segrunov_write_mapped(
+    code: u32,
+    bytes: u32,
+    strips: u32,
+    w1: u8,
+    w2: u8,
+    w3: u8,
+    page: &mut [u8],
+    map: &[u8],
+    data: &[u8],
+) -> u64
+    ensures { λ r. ⌜ r ≡ answerWord (answerWith (some (now (map .entry))) (w1 ∷ w2 ∷ w3 ∷ []) code bytes strips (now (page .entry)) (now («data» .entry))) ⌝ }
+    ensures { λ _. ⌜ now (page .exit) ≡ pageWith (some (now (map .entry))) (w1 ∷ w2 ∷ w3 ∷ []) code bytes strips (now (page .entry)) (now («data» .entry)) startOf ⌝ }
+    ensures { λ _. ⌜ WroteWith (some (now (map .entry))) (w1 ∷ w2 ∷ w3 ∷ []) code bytes strips (now (page .entry)) (now («data» .entry)) (now (page .exit)) (answerWith (some (now (map .entry))) (w1 ∷ w2 ∷ w3 ∷ []) code bytes strips (now (page .entry)) (now («data» .entry))) ⌝ }
+    ensures { λ r. ⌜ r % 4294967296 ≤ largestWeightedCost ⌝ }
+{
+    let answer = page::writing::write_mapped(code, bytes, strips, w1, w2, w3, page, map, data);
+    answer_word(answer)
+}
+
 // Makes every byte of the page 0 at a temperature from 50 to 400 tenths of a degree.
 #[no_mangle]
 pub extern "C" fn segrunov_erase(bytes: u32, strips: u32, page: &mut [u8], tenths: i16) -> u64
@@ -131,4 +177,19 @@ pub extern "C" fn segrunov_erase(bytes: u32, strips: u32, page: &mut [u8], tenth
     ensures { λ _. ⌜ now (page .exit) ≡ kept (first-of (shapeGround bytes strips (length (now (page .entry)))) (eraseGround tenths)) (replicate (length (now (page .entry))) 0) (now (page .entry)) ⌝ }
 {
     completion_word(page::erasing::erase(bytes, strips, page, tenths))
+}
+
+// Empties every cell that the map does not mark, at a temperature from 50 to 400 tenths of a degree; the bits of the others stay.
+#[no_mangle]
+pub extern "C" fn segrunov_erase_mapped(
+    bytes: u32,
+    strips: u32,
+    page: &mut [u8],
+    map: &[u8],
+    tenths: i16,
+) -> u64
+    ensures { λ r. ⌜ r ≡ completionWord (completionOf (erasingGround (some (length (now (map .entry)))) bytes strips (length (now (page .entry))) tenths)) ⌝ }
+    ensures { λ _. ⌜ now (page .exit) ≡ kept (erasingGround (some (length (now (map .entry)))) bytes strips (length (now (page .entry))) tenths) (emptied (marksIn (now (map .entry))) (now (page .entry))) (now (page .entry)) ⌝ }
+{
+    completion_word(page::erasing::erase_mapped(bytes, strips, page, map, tenths))
 }

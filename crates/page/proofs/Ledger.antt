@@ -1,41 +1,49 @@
--- THE LEDGER: from an erased page, over any sequence of calls with any weights and by releases of any order, the sum of the levels is the
--- raises of the accepted writes since the last accepted erase.
---   erased-level, erased-raises   an erased page has no level
+-- THE LEDGER UNDER ONE MAP: from a page whose unmarked cells are at level 0, over any sequence of calls that take that map, with any
+-- weights and by releases of any order, the sum of the levels is that of the marked cells and the raises of the accepted writes since the
+-- last accepted erase, or since the start. Without a map, from an erased page, it is those raises.
+--   erased-bit, erased-level      every bit and every level of an erased page is 0
 --   counts                        a fair event keeps the ledger
---   call-fair                     every call is a fair event
---   ledger-from, ledger           any sequence of calls
-use mathlib.Core.Path.{_≡_, sym, _∙_, ap}
+--   Stays, stays-levels           a page whose marked cells stay at their level: the sum of these is the same
+--   call-fair, call-stays         every call under the marks is a fair event, after which the marked cells are at their level
+--   ledger-from                   any sequence of calls under the marks
+--   ledger-marked                 from a page whose unmarked cells are at level 0
+--   ledger                        from an erased page, with no cell marked
+use mathlib.Core.Path.{_≡_, refl, sym, _∙_, ap}
+use mathlib.Core.Bool.{Bool, true, false, cond}
 use mathlib.Core.List.{List, [], _∷_}
 use mathlib.Core.Option.{Option, none, some}
 use Prim.Native.Nat.{ℕ, suc, _<_, _≤_, _+_, _*_, _-_, _/_, _%_, _^_}
 use native.Mathlib.Omega.{arith}
 use native.Mathlib.Nat.{zero-div}
-use lib.ListN.{length, getD, replicate}
+use lib.ListN.{length, replicate}
+use Rattle.cells.specs.Places.{sumOf, Each, and-each}
 use Rattle.cells.specs.Bytes.{bitOf}
 use Rattle.cells.specs.Levels.{level, raisesOf}
+use Rattle.cells.specs.Marks.{emptied}
 use Rattle.cells.proofs.Places.{zeros-at, sumOf-same, sumOf-add, sumOf-zero}
+use Rattle.cells.proofs.Marks.{emptied-length, emptied-kept, emptied-raises}
 use Rattle.codes.proofs.Layouts.{oneBit-cells, oneBit-bytes}
-use Rattle.refusals.specs.Refusals.{writeGround}
-use Rattle.page.specs.Answers.{kept, jobOf}
+use Rattle.search.specs.Layouts.{unmarked}
+use Rattle.demand.specs.Jobs.{pageCells}
+use Rattle.page.specs.Answers.{kept, markedBy, mapSize, groundWith, jobWith}
 use Rattle.page.specs.Promise.{Promised, done, spent, refused}
-use Rattle.page.specs.Ledger.{cellsOn, raisesMade, Event, raised, erased, looked, Fair, fair-raise, fair-erase, fair-look, pageAfter, counted, Call, write, erase, look, erasing, eventOf, played, tallied}
+use Rattle.page.specs.Ledger.{cellsOn, raisesMade, Event, raised, erased, looked, Fair, fair-raise, fair-erase, fair-look}
+use Rattle.page.specs.Ledger.{pageAfter, counted, Call, Marking, writes, erases, looks, erasing, markedLevels}
+use Rattle.page.specs.Ledger.{eventOf, played, tallied}
 use Rattle.refusals.specs.declared.Refusal.{Refusal}
 use Rattle.page.specs.declared.Answer.{Answer}
 use Rattle.refusals.proofs.Refusals.{weighted-in-order}
 use Rattle.page.proofs.Promise.{wrote-by}
 
--- ERASED PAGES. Every level is 0
-erased-level : (n c : ℕ) → level (replicate n 0) c ≡ 0
-unfolding level bitOf
-erased-level n c = omega (arith, bit (3 * c), bit (3 * c + 1), bit (3 * c + 2))
-  where
-    bit : (k : ℕ) → (getD {A = ℕ} (replicate n 0) (k / 8) 0 / 2 ^ (k % 8)) % 2 ≡ 0
-    bit k = ap (λ (x : ℕ). (x / 2 ^ (k % 8)) % 2) (zeros-at n (k / 8)) ∙ ap (λ (x : ℕ). x % 2) (zero-div (2 ^ (k % 8)))
+-- ERASED PAGES. Every bit is 0
+pub erased-bit : (n k : ℕ) → bitOf (replicate n 0) k ≡ 0
+unfolding bitOf
+erased-bit n k = rw (zeros-at n (k / 8)) (ap (λ (x : ℕ). x % 2) (zero-div (2 ^ (k % 8))))
 
--- and their sum
-erased-raises : (n m : ℕ) → raisesOf m (replicate n 0) ≡ 0
-unfolding raisesOf
-erased-raises n m = sumOf-zero m _ (λ c h. erased-level n c)
+-- and so is every level
+pub erased-level : (n c : ℕ) → level (replicate n 0) c ≡ 0
+unfolding level
+erased-level n c = omega (arith, erased-bit n (3 * c), erased-bit n (3 * c + 1), erased-bit n (3 * c + 2))
 
 -- EVENTS. Where no cell is lowered, the sum of the levels grows by the raises
 grows : (before after : List ℕ) → ((c : ℕ) → c < cellsOn before → level before c ≤ level after c)
@@ -57,47 +65,124 @@ counts base n page (fair-raise {after = after} s h) p =
 counts base n page (fair-erase e) p = e ∙ omega arith
 counts base n page fair-look p = p
 
+-- MARKED CELLS stay at their level, on a page of the same length
+pub record Stays (marks : ℕ → Bool) (before after : List ℕ) : Type 0 where
+  pub size : length after ≡ length before
+  pub same : (c : ℕ) → c < cellsOn before → marks c ≡ true → level after c ≡ level before c
+
+-- so the sum of their levels is the same
+pub stays-levels : (marks : ℕ → Bool) {before after : List ℕ} → Stays marks before after
+    → markedLevels marks after ≡ markedLevels marks before
+unfolding markedLevels
+stays-levels marks {before} {after} s =
+    ap (λ (n : ℕ). sumOf n (λ c. cond (marks c) (level after c) 0)) (same-cells after before (s .size))
+    ∙ sumOf-same (cellsOn before) _ _ (λ c h. go c (marks c) (s .same c h))
+  where
+    go : (c : ℕ) (b : Bool) → (b ≡ true → level after c ≡ level before c) → cond b (level after c) 0 ≡ cond b (level before c) 0
+    go c true e = e refl
+    go c false e = refl
+
+-- an erase under the marks leaves a page whose levels are those of the marked cells
+erase-leaves : (marks : ℕ → Bool) (map : Option (List ℕ)) (page : List ℕ) → ((c : ℕ) → c < cellsOn page → markedBy map c ≡ marks c)
+    → raisesOf (cellsOn (emptied (markedBy map) page)) (emptied (markedBy map) page) ≡ markedLevels marks page
+unfolding markedLevels
+erase-leaves marks map page m =
+    ap (λ (n : ℕ). raisesOf n (emptied (markedBy map) page)) (same-cells _ page (emptied-length (markedBy map) page))
+    ∙ emptied-raises (markedBy map) page (cellsOn page)
+    ∙ sumOf-same (cellsOn page) _ _ (λ c h. ap (λ (b : Bool). cond b (level page c) 0) (m c h))
+
 -- THE CALLS. A call in order on a page of 6·L·S bytes speaks of all its cells
 all-cells : (L S : ℕ) (page : List ℕ) → length page ≡ 6 * L * S → cellsOn page ≡ 16 * L * S
 unfolding cellsOn
 all-cells L S page e = omega arith
 
--- a write lowers no cell and keeps the page's length, whatever its answer
-write-fair : (start : ℕ → ℕ) (W : List ℕ) (code L S : ℕ) (before content after : List ℕ) (r : Answer)
-    → Promised start (writeGround W code L S (length before) (length content)) (jobOf W code L S before content) after r
-    → Fair 0 before (raised after)
-write-fair start W code L S before content after r (done e p) =
-    let i = weighted-in-order W code L S (length before) (length content) e in
-    let s : length before ≡ 6 * L * S = rw (oneBit-bytes L) at (i .2) in
-    fair-raise (p .could .size) (λ c h. p .could .no-lower c (rw (oneBit-cells L) (rw (all-cells L S before s) at h)))
-write-fair start W code L S before content after r (spent e p f) = fair-raise {after = after} (ap length f) (λ c h. rw f (omega arith))
-write-fair start W code L S before content after r (refused e f) = fair-raise {after = after} (ap length f) (λ c h. rw f (omega arith))
+module _ (map : Option (List ℕ)) (W : List ℕ) (code L S : ℕ) (before content : List ℕ) where
+  -- they are the cells of its job
+  inside : groundWith map W code L S before content ≡ none → (c : ℕ) → c < cellsOn before
+      → c < pageCells (jobWith map W code L S before content)
+  inside e c h =
+      let i = weighted-in-order (mapSize map) W code L S (length before) (length content) e in
+      let s : length before ≡ 6 * L * S = rw (oneBit-bytes L) at (i .2) in
+      rw (oneBit-cells L) (rw (all-cells L S before s) at h)
 
--- so every call is a fair event
-pub call-fair : (start : ℕ → ℕ) (c : Call) (page : List ℕ) → Fair 0 page (eventOf start c page)
+  -- a write lowers no cell and keeps the page's length, whatever its answer
+  write-fair : {start : ℕ → ℕ} {after : List ℕ} {r : Answer} (base : ℕ)
+      → Promised start (groundWith map W code L S before content) (jobWith map W code L S before content) after r
+      → Fair base before (raised after)
+  write-fair base (done e p) = fair-raise (p .could .size) (λ c h. p .could .no-lower c (inside e c h))
+  write-fair {after = after} base (spent e p f) = fair-raise {after = after} (ap length f) (λ c h. rw f (omega arith))
+  write-fair {after = after} base (refused e f) = fair-raise {after = after} (ap length f) (λ c h. rw f (omega arith))
+
+  -- and leaves the marked cells at their level
+  write-stays : {start : ℕ → ℕ} {after : List ℕ} {r : Answer}
+      → Promised start (groundWith map W code L S before content) (jobWith map W code L S before content) after r
+      → Stays (markedBy map) before after
+  write-stays (done e p) = record { size = p .could .size; same = λ c h. p .could .marked-stay c (inside e c h) }
+  write-stays (spent e p f) = record { size = ap length f; same = λ c h m. rw f }
+  write-stays (refused e f) = record { size = ap length f; same = λ c h m. rw f }
+
+-- so every call under the marks is a fair event
+pub call-fair : (start : ℕ → ℕ) (marks : ℕ → Bool) (page : List ℕ) {c : Call} → Marking (cellsOn page) marks c
+    → Fair (markedLevels marks page) page (eventOf start c page)
 unfolding eventOf
-call-fair start (write W code L S content b) page = write-fair start W code L S page content _ _ (wrote-by start W code L S page content b)
-call-fair start (erase L S tenths) page = go (erasing L S tenths page)
+call-fair start marks page (writes {map} {W} {code} {L} {S} {content} {b} m) =
+    write-fair map W code L S page content (markedLevels marks page) (wrote-by start map W code L S page content b)
+call-fair start marks page (erases {map} {L} {S} {tenths} m) = go (erasing map L S tenths page)
   where
-    go : (g : Option Refusal) → Fair 0 page (kept g (erased (replicate (length page) 0)) looked)
-    go none = fair-erase (erased-raises (length page) _)
+    go : (g : Option Refusal) → Fair (markedLevels marks page) page (kept g (erased (emptied (markedBy map) page)) looked)
+    go none = fair-erase (erase-leaves marks map page m)
     go (some r) = fair-look
-call-fair start look page = fair-look
+call-fair start marks page looks = fair-look
 
--- ANY SEQUENCE OF CALLS
-pub ledger-from : (starts : ℕ → ℕ → ℕ) (cs : List Call) (page : List ℕ) (n : ℕ) → raisesOf (cellsOn page) page ≡ n
-    → raisesOf (cellsOn (played starts cs page)) (played starts cs page) ≡ tallied starts cs page n
+-- after which the marked cells are at their level
+pub call-stays : (start : ℕ → ℕ) (marks : ℕ → Bool) (page : List ℕ) {c : Call} → Marking (cellsOn page) marks c
+    → Stays marks page (pageAfter (eventOf start c page) page)
+unfolding eventOf
+call-stays start marks page (writes {map} {W} {code} {L} {S} {content} {b} m) =
+    let s = write-stays map W code L S page content (wrote-by start map W code L S page content b) in
+    record { size = s .size; same = λ c h k. s .same c h (m c h ∙ k) }
+call-stays start marks page (erases {map} {L} {S} {tenths} m) = go (erasing map L S tenths page)
+  where
+    go : (g : Option Refusal) → Stays marks page (pageAfter (kept g (erased (emptied (markedBy map) page)) looked) page)
+    go none = record {
+      size = emptied-length (markedBy map) page;
+      same = λ c h k. emptied-kept (markedBy map) page c (m c h ∙ k);
+    }
+    go (some r) = record { size = refl; same = λ c h k. refl }
+call-stays start marks page looks = record { size = refl; same = λ c h k. refl }
+
+-- ANY SEQUENCE OF CALLS under one map: 'raises are counted from there under that one map'
+pub ledger-from : (starts : ℕ → ℕ → ℕ) (marks : ℕ → Bool) (cs : List Call) (page : List ℕ) (n : ℕ)
+    → Each (Marking (cellsOn page) marks) cs → raisesOf (cellsOn page) page ≡ markedLevels marks page + n
+    → raisesOf (cellsOn (played starts cs page)) (played starts cs page) ≡ markedLevels marks page + tallied starts cs page n
 unfolding played tallied
-ledger-from starts [] page n e = e
-ledger-from starts (c ∷ cs) page n e =
+ledger-from starts marks [] page n a e = e
+ledger-from starts marks (c ∷ cs) page n (and-each m a) e =
     let v = eventOf (starts 0) c page in
-    let z : 0 + n ≡ n = omega arith in
-    let y : 0 + counted v page n ≡ counted v page n = omega arith in
-    ledger-from (λ n. starts (suc n)) cs (pageAfter v page) (counted v page n)
-    (counts 0 n page (call-fair (starts 0) c page) (e ∙ sym z) ∙ y)
+    let s = call-stays (starts 0) marks page m in
+    let l = stays-levels marks s in
+    ledger-from (λ n. starts (suc n)) marks cs (pageAfter v page) (counted v page n)
+    (rw (same-cells (pageAfter v page) page (s .size)) a)
+    (counts (markedLevels marks page) n page (call-fair (starts 0) marks page m) e ∙ ap (λ (b : ℕ). b + counted v page n) (sym l))
+    ∙ ap (λ (b : ℕ). b + tallied (λ n. starts (suc n)) cs (pageAfter v page) (counted v page n)) l
 
--- from an erased page of any length
-pub ledger : (starts : ℕ → ℕ → ℕ) (size : ℕ) (cs : List Call)
+-- from a page whose unmarked cells are at level 0
+pub ledger-marked : (starts : ℕ → ℕ → ℕ) (marks : ℕ → Bool) (cs : List Call) (page : List ℕ) → Each (Marking (cellsOn page) marks) cs
+    → ((c : ℕ) → c < cellsOn page → marks c ≡ false → level page c ≡ 0)
+    → raisesOf (cellsOn (played starts cs page)) (played starts cs page) ≡ markedLevels marks page + tallied starts cs page 0
+unfolding raisesOf markedLevels
+ledger-marked starts marks cs page a z =
+    ledger-from starts marks cs page 0 a (sumOf-same (cellsOn page) _ _ (λ c h. go c (marks c) (z c h)) ∙ omega arith)
+  where
+    go : (c : ℕ) (b : Bool) → (b ≡ false → level page c ≡ 0) → level page c ≡ cond b (level page c) 0
+    go c true e = refl
+    go c false e = e refl
+
+-- from an erased page of any length, with no cell marked
+pub ledger : (starts : ℕ → ℕ → ℕ) (size : ℕ) (cs : List Call) → Each (Marking (cellsOn (replicate size 0)) unmarked) cs
     → raisesOf (cellsOn (played starts cs (replicate size 0))) (played starts cs (replicate size 0))
     ≡ tallied starts cs (replicate size 0) 0
-ledger starts size cs = ledger-from starts cs (replicate size 0) 0 (erased-raises size _)
+unfolding markedLevels
+ledger starts size cs a =
+    ledger-marked starts unmarked cs (replicate size 0) a (λ c h m. erased-level size c)
+    ∙ omega (arith, sumOf-zero (cellsOn (replicate size 0)) (λ c. 0) (λ c h. refl))

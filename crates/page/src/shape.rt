@@ -71,8 +71,9 @@ pub fn map_part(map: &[u8], bytes: usize, k: usize) -> &[u8]
     ensures { λ r. ⌜ now r ≡ mapPart bytes k (now (map .entry)) ⌝ }
 {
     let n = codes::MAP_BYTES * bytes;
+    let at = n * k;
     let size = map.len();
-    let start = lesser(n * k, size);
-    let end = lesser(n * k + n, size);
+    let start = lesser(at, size);
+    let end = lesser(at + n, size);
     &map[start..end]
 }

@@ -251,8 +251,7 @@ module _ (strip : List ℕ) (bytes : (i : ℕ) → getD strip i 0 < 256) (q : �
       let b5 = at 5 (3 * (c + 1) + 2) (omega arith) (omega arith) in
       let z0 : x % 2 ≡ x / 2 ^ 0 % 2 = omega arith in
       let z3 : x / 8 / 2 ≡ x / 16 = omega arith in
-      let z4 : x / 8 / 4 ≡ x / 32 = omega arith in
-      (
+      let z4 : x / 8 / 4 ≡ x / 32 = omega arith in (
         ap₂ _+_ (ap₂ _+_ (z0 ∙ b0) b1) b2,
         ap₂ _+_ (ap₂ _+_ b3 (ap (λ (k : ℕ). k % 2) z3 ∙ b4)) (ap (λ (k : ℕ). k % 2) z4 ∙ b5),
       )

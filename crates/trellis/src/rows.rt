@@ -351,10 +351,11 @@ fn picks_of(bits: u64, marks: u64, labels: u32) -> u64
     let mut picks: u64 = 0;
     let mut i: u32 = 0;
     while i < 8 {
+        let back = 7 - i;
         let six = (bits >> (6 * i)) % 64;
         let two = (marks >> (2 * i)) % 4;
         let pair = pairs[(six + 64 * two) as usize] as u64;
-        let label = ((labels >> (7 - i)) % 2) as u64;
+        let label = ((labels >> back) % 2) as u64;
         picks += (pair + label * 32) << (8 * i);
         i += 1;
     }

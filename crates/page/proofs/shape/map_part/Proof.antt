@@ -15,14 +15,11 @@ most c = mul-le-mul {n₁ = 2 * c .args .bytes} {m₁ = c .args .k} {n₂ = 128}
 mul-n : tie.Need-mul-n
 mul-n c = search needs
 
-mul-lesser : tie.Need-mul-lesser
-mul-lesser c = omega (arith, most (c .before))
+mul-at : tie.Need-mul-at
+mul-at c = omega (arith, most (c .before))
 
 lesser-requires : tie.Need-lesser-requires
 lesser-requires c κs = search needs
-
-mul-lesser-2 : tie.Need-mul-lesser-2
-mul-lesser-2 c = omega (arith, most (c .before .before))
 
 add-lesser : tie.Need-add-lesser
 add-lesser c = omega (arith, most (c .before .before))
@@ -49,9 +46,8 @@ map-part-spec =
     tie.close
     (tie.spec
     mul-n
-    mul-lesser
+    mul-at
     lesser-requires
-    mul-lesser-2
     add-lesser
     lesser-requires-2
     sub-result

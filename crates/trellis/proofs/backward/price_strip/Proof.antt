@@ -14,7 +14,7 @@ use Rattle.trellis.proofs.backward.price_strip.Statement.{statement}
 use Rattle.trellis.proofs.backward.price_strip.Tie as tie
 
 abbrev Inv-loop : tie.InvT-loop
-Inv-loop code rows strip map «data» states labels₀ costs₀ q₀ labels costs q = 
+Inv-loop code rows strip map «data» states labels₀ costs₀ q₀ labels costs q =
     BlocksTold (generatorsOf code) rows strip (marksIn map) «data» q labels costs
 
 abbrev μ-loop : tie.MeasureT-loop

@@ -20,6 +20,9 @@ loop-holds : tie.Need-loop-holds Inv-loop μ-loop
 unfolding packedOf
 loop-holds c = (search needs, refl)
 
+sub-back : tie.Need-sub-back Inv-loop μ-loop
+sub-back c = search needs
+
 mul-six : tie.Need-mul-six Inv-loop μ-loop
 mul-six c = search needs
 
@@ -49,9 +52,6 @@ array-read-pair c = search needs
 
 cast-pair : tie.Need-cast-pair Inv-loop μ-loop
 cast-pair c = record { fits = omega (arith, pairs-le (c .before .before .args .bits / 2 ^ (6 * c .before .loop .i)) (c .before .before .args .marks / 2 ^ (2 * c .before .loop .i))) }
-
-sub-label : tie.Need-sub-label Inv-loop μ-loop
-sub-label c = search needs
 
 shr-label : tie.Need-shr-label Inv-loop μ-loop
 shr-label c = search needs
@@ -109,6 +109,7 @@ picks-of-spec =
     Inv-loop
     μ-loop
     loop-holds
+    sub-back
     mul-six
     cast-six
     shr-six
@@ -119,7 +120,6 @@ picks-of-spec =
     add-pair
     array-read-pair
     cast-pair
-    sub-label
     shr-label
     cast-label
     mul-picks
