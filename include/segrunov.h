@@ -5,8 +5,8 @@
  * lowers it. A strip holds L bytes of data. A write raises cells so that the page reads as the data: it picks the cheapest of all pages that read as
  * the data with no cell lowered, and among equals the one with the lower level at the first cell that differs. What a page costs is the sum of the
  * steps that its cells climb. A step from level 0 to 1 costs 16, from 1 to 2 costs 20, from 2 to 3 costs 28: the house's weights. The calls that
- * end in _weighted take three others, from the flash part's data sheet: with them cheapest is meant in these. Whether a page is spent does not
- * depend on them, and calls with any weights may follow each other on one page.
+ * end in _weighted, and price and write with a map, take three others, from the flash part's data sheet: with them cheapest is meant in these.
+ * Whether a page is spent does not depend on them, and calls with any weights may follow each other on one page.
  *
  * ARGUMENTS, the same in every call
  *   code      SEGRUNOV_SHORT (3) or SEGRUNOV_LONG (7)
@@ -14,21 +14,31 @@
  *   strips    S, the strips of the page, 1 to 64
  *   w1 w2 w3  the weights of the steps from level 0 to 1, 1 to 2 and 2 to 3, each 1 to 255
  *   page      6*L*S bytes, page_len of them
+ *   map       2*L*S bytes, map_len of them: a bit for each cell of the page, and a one marks the cell
  *   data      L*S bytes, data_len of them, strip 0 first
  *   tenths    the temperature in tenths of a degree Celsius
  * Every value of the types is allowed and answered; no call asks anything of a number. A pointer must lead to as many bytes as its length says; with
- * length 0 it may be NULL. Buffers of one call must not overlap, and nobody else may write to them during the call.
+ * length 0 it may be NULL. Buffers of one call must not overlap, the map and the page neither, and nobody else may write to them during the call.
  *
  * THE ANSWER is one number. Its upper half, SEGRUNOV_NUMBER, is 0 where the call is done, else the number of the refusal. Its lower half,
  * SEGRUNOV_VALUE, is the cost of a write or price that is done, the strip's number where the page is spent, and 0 in every other case.
- * The grounds that a call has are tested in the order 1, 2, 3, 9, 4, 5, 7, 8, and the first that applies is the answer. With any refusal no byte is
- * changed: not the page, not the data, not the buffer, also not the strips before a spent one.
+ * The grounds that a call has are tested in the order 1, 2, 3, 9, 4, 11, 5, 7, 8, and the first that applies is the answer. With any refusal no byte
+ * is changed: not the page, not the data, not the buffer, also not the strips before a spent one. No call changes a map.
  *
  * WHICH BITS. Bit k of a strip is bit k mod 8 of its byte k div 8, bit 0 being worth 1, and its cell c is the bits 3*c, 3*c+1 and 3*c+2. A raise of the
  * cell turns one zero into a one: it starts at bit c mod 3 of these three, c being the cell's number in its strip, and goes round them until it meets a
  * zero, so that neighbouring bits wear evenly. A cell that isn't raised keeps its bits. Versions before 1.1.1 took the lowest zero of every cell. What a
  * page reads as, what a write costs, which levels it leaves and whether it is spent go by the levels alone: a page written by an older version needs
  * nothing, and an older version reads and writes the pages of this one.
+ *
+ * MARKED CELLS. Old parts have cells that hold their level through writes and erases. The calls that end in _mapped take a map of them: cell c of
+ * strip k is map bit 16*L*k + c, and bit n of the map is bit n mod 8 of its byte n div 8, bit 0 being worth 1; a one marks the cell. A marked cell
+ * keeps its three bits, in a write and in an erase, whatever they are. Cheapest, ties and spent are judged among the pages that also leave every
+ * marked cell at its level: one that shows the bit that is wanted serves as it is and costs nothing. So an erased page can be spent, and another
+ * erase does not help: with every cell marked at level 0 it takes only zeros. A call without a map means a map with no cell marked: with a map of
+ * zeros a call that takes one is the call that takes none, answer and page. Marking more cells never makes a write cheaper, and never makes a spent
+ * page take the data. The map may be another one in each call, as cells wear out. What a page reads as goes by all its cells, so segrunov_read takes
+ * no map.
  *
  * THE FLASH. An erased page is zeros here, and a write turns zeros into ones. Nearly every NOR part has it the other way: an erase makes ones, and
  * programming turns ones into zeros. Its driver complements every byte, on load and on program (examples/relay.c); the calls need not know. No bit has
@@ -49,31 +59,33 @@ extern "C" {
 #endif
 
 /* The version: its first number changes where a caller has to change, its second where there is more to call, else its third. */
-#define SEGRUNOV_VERSION "1.1.1"
+#define SEGRUNOV_VERSION "1.2.0"
 
 /* The two codes. */
 #define SEGRUNOV_SHORT UINT32_C(3)
 #define SEGRUNOV_LONG UINT32_C(7)
 
-/* The bytes of a page, and of its data, for L and S within their limits. */
+/* The bytes of a page, of its map and of its data, for L and S within their limits. */
 #define SEGRUNOV_PAGE_BYTES(bytes, strips) ((size_t)6 * (size_t)(bytes) * (size_t)(strips))
+#define SEGRUNOV_MAP_BYTES(bytes, strips) ((size_t)2 * (size_t)(bytes) * (size_t)(strips))
 #define SEGRUNOV_DATA_BYTES(bytes, strips) ((size_t)(bytes) * (size_t)(strips))
 
 /* The two halves of an answer. */
 #define SEGRUNOV_NUMBER(answer) ((uint32_t)((answer) >> 32))
 #define SEGRUNOV_VALUE(answer) ((uint32_t)((answer) & UINT64_C(0xffffffff)))
 
-/* The numbers of an answer: 1 to 5 and 9 from the input, tested in the order 1, 2, 3, 9, 4, 5; 7 and 8 from the state, after those. 6 belongs to the
- * run program. */
+/* The numbers of an answer: 1 to 5, 9 and 11 from the input, tested in the order 1, 2, 3, 9, 4, 11, 5; 7 and 8 from the state, after those. 6 belongs
+ * to the run program, and no call has 10. */
 #define SEGRUNOV_DONE UINT32_C(0)
 #define SEGRUNOV_CODE UINT32_C(1)        /* the code is neither 3 nor 7 */
 #define SEGRUNOV_BYTES UINT32_C(2)       /* L is not from 1 to 64 */
 #define SEGRUNOV_STRIPS UINT32_C(3)      /* S is not from 1 to 64 */
 #define SEGRUNOV_PAGE_LENGTH UINT32_C(4) /* the page is not 6*L*S bytes long */
 #define SEGRUNOV_DATA_LENGTH UINT32_C(5) /* the data, or the buffer for it, is not L*S bytes long */
-#define SEGRUNOV_SPENT UINT32_C(7)       /* no page reads as the data with no cell lowered: erase it first */
+#define SEGRUNOV_SPENT UINT32_C(7)       /* no page reads as the data with no cell lowered and the marked ones kept: erase it first */
 #define SEGRUNOV_TEMPERATURE UINT32_C(8) /* an erase outside 50 to 400 tenths of a degree */
 #define SEGRUNOV_WEIGHT UINT32_C(9)      /* a weight is 0 */
+#define SEGRUNOV_MAP_LENGTH UINT32_C(11) /* the map is not 2*L*S bytes long */
 
 /* The house's weights, which the calls without weights go by. */
 #define SEGRUNOV_HOUSE_W1 UINT8_C(16)
@@ -102,6 +114,20 @@ uint64_t segrunov_write_weighted(uint32_t code, uint32_t bytes, uint32_t strips,
 
 /* Makes every byte of the page 0. Refused by 2 to 4 and 8. */
 uint64_t segrunov_erase(uint32_t bytes, uint32_t strips, uint8_t *page, size_t page_len, int16_t tenths);
+
+/* The three calls with a map of the cells that no longer move: cell c of strip k is map bit 16*L*k + c. The map must not overlap the page, and is not
+ * changed. A map of another length is refused by 11, so also (NULL, 0): where no cell is marked, the map is zeros or the call one without a map. */
+
+/* The answer that segrunov_write_mapped gives on the same input. Nothing is changed. Refused by 1, 2, 3, 9, 4, 11, 5 and 7, tested in this order. */
+uint64_t segrunov_price_mapped(uint32_t code, uint32_t bytes, uint32_t strips, uint8_t w1, uint8_t w2, uint8_t w3, const uint8_t *page, size_t page_len, const uint8_t *map, size_t map_len, const uint8_t *data, size_t data_len);
+
+/* Writes the data into the page at the least cost in the weights given, and raises no marked cell. Refused by 1, 2, 3, 9, 4, 11, 5 and 7, tested in
+ * this order. An erased page can be spent too, and another erase does not help it. With a map of zeros it is segrunov_write_weighted. */
+uint64_t segrunov_write_mapped(uint32_t code, uint32_t bytes, uint32_t strips, uint8_t w1, uint8_t w2, uint8_t w3, uint8_t *page, size_t page_len, const uint8_t *map, size_t map_len, const uint8_t *data, size_t data_len);
+
+/* Makes the three bits of every cell 0 that is not marked, and leaves those of the marked ones. Refused by 2, 3, 4, 11 and 8, tested in this order.
+ * With a map of zeros it is segrunov_erase. */
+uint64_t segrunov_erase_mapped(uint32_t bytes, uint32_t strips, uint8_t *page, size_t page_len, const uint8_t *map, size_t map_len, int16_t tenths);
 
 #ifdef __cplusplus
 }
