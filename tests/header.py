@@ -1,6 +1,6 @@
 #!/usr/bin/env python3
-"""Fails where a number that include/segrunov.h defines is another one than in the definitions, or stands in none of them, and where
-tests/measure.c lacks a call that the header declares.
+"""Fails where a number that include/segrunov.h defines is another one than in the definitions, or stands in none of them, where the bytes that a
+page or its map has for each byte of data are others than in the code, and where tests/measure.c lacks a call that the header declares.
 
 The stack is no number of the definitions: tests/measure.c holds it against the calls.
 """
@@ -11,6 +11,7 @@ from repository import finish, read
 CLIMBS = "crates/cells/specs/Climbs.antt"
 REFUSALS = "crates/refusals/specs/Refusals.antt"
 ANSWERS = "crates/page/specs/Answers.antt"
+CODES = "crates/codes/src/lib.rt"
 
 # For each number, the definition that has it.
 DEFINED = {
@@ -25,12 +26,18 @@ DEFINED = {
     "SPENT": (ANSWERS, "numberOf (A.Spent strip) = {}"),
     "TEMPERATURE": (REFUSALS, "refusalNumber EraseTemperature = {}"),
     "WEIGHT": (REFUSALS, "refusalNumber WeightZero = {}"),
+    "MAP_LENGTH": (REFUSALS, "refusalNumber MapLength = {}"),
     "HOUSE_W1": (CLIMBS, "house = {} ∷ 20 ∷ 28 ∷ []"),
     "HOUSE_W2": (CLIMBS, "house = 16 ∷ {} ∷ 28 ∷ []"),
     "HOUSE_W3": (CLIMBS, "house = 16 ∷ 20 ∷ {} ∷ []"),
     "MAX_COST": (ANSWERS, "largestCost = {}"),
     "MAX_WEIGHTED_COST": (ANSWERS, "largestWeightedCost = {}"),
+    "PAGE_BYTES": (CODES, "pub const STRIP_BYTES: usize = {};"),
+    "MAP_BYTES": (CODES, "pub const MAP_BYTES: usize = {};"),
 }
+
+# What the bytes for each byte of data are multiplied by.
+TIMES = re.escape("(size_t)(bytes) * (size_t)(strips)")
 
 
 def wrong(name, number):
@@ -51,6 +58,7 @@ def unmeasured(function):
 def main():
     calls = re.findall(r"^uint64_t (segrunov\w+)\(", read("include/segrunov.h"), re.M)
     numbers = dict(re.findall(r"^#define SEGRUNOV_(\w+) UINT(?:8|32)_C\((\d+)\)", read("include/segrunov.h"), re.M))
+    numbers |= re.findall(rf"^#define SEGRUNOV_(\w+)\(bytes, strips\) \(\(size_t\)(\d+) \* {TIMES}\)$", read("include/segrunov.h"), re.M)
     bad = [line for name, number in numbers.items() for line in wrong(name, number)]
     bad += [f"include/segrunov.h does not define SEGRUNOV_{name}" for name in DEFINED if name not in numbers]
     bad += [line for call in calls for line in unmeasured(call)]

@@ -18,9 +18,10 @@ static const uint8_t PAINT = 0xc3;
 static const uint32_t CODES[] = {SEGRUNOV_SHORT, SEGRUNOV_LONG};
 static const uint32_t STRIPS[] = {1, MOST};
 
-/* What the calls are made with; L and S say how much of the page and of the data is used. */
+/* What the calls are made with; L and S say how much of the page, of the map and of the data is used. */
 static uint32_t code, bytes, strips;
 static uint8_t page[SEGRUNOV_PAGE_BYTES(MOST, MOST)];
+static uint8_t map[SEGRUNOV_MAP_BYTES(MOST, MOST)];
 static uint8_t data[SEGRUNOV_DATA_BYTES(MOST, MOST)];
 static uint64_t answer;
 
@@ -31,6 +32,11 @@ static int failed;
 static size_t page_bytes(void)
 {
     return SEGRUNOV_PAGE_BYTES(bytes, strips);
+}
+
+static size_t map_bytes(void)
+{
+    return SEGRUNOV_MAP_BYTES(bytes, strips);
 }
 
 static size_t data_bytes(void)
@@ -74,6 +80,21 @@ static void call_erase(void)
     answer = segrunov_erase(bytes, strips, page, page_bytes(), 200);
 }
 
+static void call_price_mapped(void)
+{
+    answer = segrunov_price_mapped(code, bytes, strips, 1, 254, 255, page, page_bytes(), map, map_bytes(), data, data_bytes());
+}
+
+static void call_write_mapped(void)
+{
+    answer = segrunov_write_mapped(code, bytes, strips, 1, 254, 255, page, page_bytes(), map, map_bytes(), data, data_bytes());
+}
+
+static void call_erase_mapped(void)
+{
+    answer = segrunov_erase_mapped(bytes, strips, page, page_bytes(), map, map_bytes(), 200);
+}
+
 struct call {
     const char *name;
     void (*make)(void);
@@ -87,6 +108,9 @@ static const struct call CALLS[] = {
     {"price_weighted", call_price_weighted},
     {"write_weighted", call_write_weighted},
     {"erase", call_erase},
+    {"price_mapped", call_price_mapped},
+    {"write_mapped", call_write_mapped},
+    {"erase_mapped", call_erase_mapped},
 };
 
 static int is_price(const struct call *call)
@@ -94,12 +118,14 @@ static int is_price(const struct call *call)
     return strstr(call->name, "price") != NULL;
 }
 
-/* An erased page, and data that differs from round to round. */
+/* An erased page, a map that marks at most one cell of a stage, and data that differs from round to round. A stage with a free cell below level 3 can
+ * show either bit, so that the page takes every data. */
 static void renew(void)
 {
     static uint64_t seed = 20261115;
     size_t i;
     memset(page, 0, sizeof page);
+    memset(map, 0x92, sizeof map);
     for (i = 0; i < sizeof data; i++) {
         seed = seed * UINT64_C(6364136223846793005) + UINT64_C(1442695040888963407);
         data[i] = (uint8_t)(seed >> 56);
