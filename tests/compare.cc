@@ -2,12 +2,12 @@
 //
 //   compare [SEED [FACTOR]]
 //
-// The graph and the reading are made from document 01 alone, and from what document 02 says of the weights and of the bit that a raise sets. A vertex
-// is a stage of a strip with the bits of the cells of the last m stages, all that the sum for a data bit needs of the past. An edge is a choice of
-// levels for the two cells of a stage: neither below its old level, the data bit right. Its weight is the cost of the two climbs. Boost gives the
-// distance of every vertex to the end of the strip; a walk from the start along edges that lose no cost, the lowest levels first, is then the write
-// that document 01 asks for, ties included. At the first disagreement the whole case is printed and the exit status is 1. FACTOR multiplies the
-// number of random cases.
+// The graph and the reading are made from document 01 alone, and from what document 02 says of the weights, of the bit that a raise sets and of
+// marked cells. A vertex is a stage of a strip with the bits of the cells of the last m stages, all that the sum for a data bit needs of the past. An
+// edge is a choice of levels for the two cells of a stage: neither below its old level, a marked one not above it, the data bit right. Its weight is
+// the cost of the two climbs. Boost gives the distance of every vertex to the end of the strip; a walk from the start along edges that lose no cost,
+// the lowest levels first, is then the write that document 01 asks for, ties included. At the first disagreement the whole case is printed and the
+// exit status is 1. FACTOR multiplies the number of random cases.
 
 #include "segrunov.h"
 
@@ -56,6 +56,8 @@ struct Shape {
 std::size_t strip_length(Shape shape) { return std::size_t{6} * shape.bytes; }
 std::size_t page_length(Shape shape) { return strip_length(shape) * shape.strips; }
 std::size_t data_length(Shape shape) { return std::size_t{1} * shape.bytes * shape.strips; }
+std::size_t map_length(Shape shape) { return 2 * data_length(shape); }
+std::size_t strip_cells(Shape shape) { return std::size_t{16} * shape.bytes; }
 
 unsigned bit_at(const Bytes& bytes, std::size_t k) { return (bytes[k / 8] >> (k % 8)) & 1U; }
 void flip_bit(Bytes& bytes, std::size_t k) { bytes[k / 8] = static_cast<std::uint8_t>(bytes[k / 8] ^ (1U << (k % 8))); }
@@ -141,6 +143,40 @@ Bytes read_page(const Code& code, Shape shape, const Bytes& page) {
   return data;
 }
 
+// ---------------------------------------------------------------- document 02, K3: marked cells
+
+// A map of the page with no cell marked.
+Bytes no_marks(Shape shape) { return Bytes(map_length(shape), 0); }
+
+// The highest level that each cell of a strip may take: its old one where it is marked. The bits of the map go strip by strip.
+Levels highest_levels(Shape shape, const Bytes& map, std::size_t number, const Levels& old) {
+  Levels highest(old.size(), kFull);
+  for (std::size_t cell = 0; cell < old.size(); ++cell) {
+    if (bit_at(map, number * strip_cells(shape) + cell) == 1) highest[cell] = old[cell];
+  }
+  return highest;
+}
+
+// What an erase leaves: the bits of the marked cells. A strip's cells fill its bytes, so that map bit n stands for bits 3n to 3n + 2 of the page.
+Bytes emptied_page(const Bytes& page, const Bytes& map) {
+  Bytes emptied(page.size(), 0);
+  for (std::size_t k = 0; k < 8 * page.size(); ++k) {
+    if (bit_at(map, k / 3) == 1 && bit_at(page, k) == 1) flip_bit(emptied, k);
+  }
+  return emptied;
+}
+
+// Whether every marked cell has the same three bits in both pages.
+bool marked_stay(const Bytes& page, const Bytes& after, const Bytes& map) { return emptied_page(page, map) == emptied_page(after, map); }
+
+std::uint64_t sum_of_levels(const Bytes& page) {
+  std::uint64_t sum = 0;
+  for (std::size_t k = 0; k < 8 * page.size(); ++k) sum += bit_at(page, k);
+  return sum;
+}
+
+// ---------------------------------------------------------------- document 02, K7: pages of an older release
+
 // The page as a release before K7 would have left it: the same levels, the ones of each cell its lowest bits.
 Bytes older_page(const Bytes& page) {
   Bytes older(page.size(), 0);
@@ -202,10 +238,11 @@ struct StripPath {
 
 class StripSearch {
  public:
-  StripSearch(const Trellis& trellis, const Weights& weights, Levels old, const Bytes& data)
+  StripSearch(const Trellis& trellis, const Weights& weights, Levels old, Levels highest, const Bytes& data)
       : trellis_(trellis),
         step_weights_(weights),
         old_(std::move(old)),
+        highest_(std::move(highest)),
         data_(data),
         stages_(8 * data.size()),
         numbers_((stages_ + 1) * trellis.states(), kEnd) {}
@@ -229,8 +266,8 @@ class StripSearch {
   // Calls visit(x, y, next state, weight) for the edges that leave a state, the lower levels first.
   template <class Visit>
   void for_each_edge(std::size_t t, unsigned state, Visit visit) const {
-    for (unsigned x = old_[2 * t]; x <= kFull; ++x) {
-      for (unsigned y = old_[2 * t + 1]; y <= kFull; ++y) {
+    for (unsigned x = old_[2 * t]; x <= highest_[2 * t]; ++x) {
+      for (unsigned y = old_[2 * t + 1]; y <= highest_[2 * t + 1]; ++y) {
         const Trellis::Step& step = trellis_.step(state, x, y);
         if (step.data_bit != bit_at(data_, t)) continue;
         visit(x, y, step.next, climb_cost(step_weights_, old_[2 * t], x) + climb_cost(step_weights_, old_[2 * t + 1], y));
@@ -303,6 +340,7 @@ class StripSearch {
   const Trellis& trellis_;
   const Weights step_weights_;
   const Levels old_;
+  const Levels highest_;
   const Bytes& data_;
   const std::size_t stages_;
   std::vector<Vertex> numbers_;
@@ -321,9 +359,10 @@ struct PageSearch {
   bool out_of_order = false;   // a cell is raised whose ones are not those that the library alone would have set
   bool strip_decides = false;  // a raise that started by the cell's number in the page would set another bit
   bool late_spent = false;     // spent, though a strip before would have been changed
+  bool marked_one = false;     // a marked cell below level 3 shows a one, though it may not be raised
 };
 
-PageSearch search_page(const Code& code, Shape shape, const Weights& weights, const Bytes& page, const Bytes& data) {
+PageSearch search_page(const Code& code, Shape shape, const Weights& weights, const Bytes& page, const Bytes& map, const Bytes& data) {
   static const std::array<Trellis, 2> trellises = {Trellis(kCodes[0]), Trellis(kCodes[1])};
   const Trellis& trellis = trellises[code.name == kCodes[0].name ? 0 : 1];
   PageSearch result;
@@ -332,7 +371,9 @@ PageSearch search_page(const Code& code, Shape shape, const Weights& weights, co
   for (std::uint32_t k = 0; k < shape.strips; ++k) {
     Bytes strip = part(page, k, strip_length(shape));
     const Bytes strip_data = part(data, k, shape.bytes);
-    const StripPath path = StripSearch(trellis, weights, levels_of(strip), strip_data).least();
+    const Levels old = levels_of(strip);
+    const Levels highest = highest_levels(shape, map, k, old);
+    const StripPath path = StripSearch(trellis, weights, old, highest, strip_data).least();
     if (!path.found) {
       PageSearch spent;
       spent.answer = answer_of(SEGRUNOV_SPENT, k);
@@ -341,6 +382,7 @@ PageSearch search_page(const Code& code, Shape shape, const Weights& weights, co
       return spent;
     }
     for (std::size_t cell = 0; cell < path.levels.size(); ++cell) {
+      result.marked_one = result.marked_one || (highest[cell] == 1 && old[cell] == 1);
       for (unsigned level = level_of(strip, cell); level < path.levels[cell]; ++level) {
         const std::size_t in_page = k * path.levels.size() + cell;
         result.out_of_order = result.out_of_order || !in_order(strip, cell);
@@ -358,10 +400,15 @@ PageSearch search_page(const Code& code, Shape shape, const Weights& weights, co
 
 // ---------------------------------------------------------------- calls of the library
 
-enum Function : unsigned { kRead, kPrice, kWrite, kPriceWeighted, kWriteWeighted, kErase, kFunctions };
-constexpr std::array<const char*, kFunctions> kFunctionName = {"read", "price", "write", "price_weighted", "write_weighted", "erase"};
+// Those that take a map are the last.
+enum Function : unsigned { kRead, kPrice, kWrite, kPriceWeighted, kWriteWeighted, kErase, kPriceMapped, kWriteMapped, kEraseMapped, kFunctions };
+constexpr unsigned kUnmapped = kPriceMapped;
+constexpr std::array<const char*, kFunctions> kFunctionName = {"read",  "price",        "write",        "price_weighted", "write_weighted",
+                                                               "erase", "price_mapped", "write_mapped", "erase_mapped"};
 
-bool takes_weights(Function function) { return function == kPriceWeighted || function == kWriteWeighted; }
+bool takes_map(Function function) { return function >= kUnmapped; }
+bool is_erase(Function function) { return function == kErase || function == kEraseMapped; }
+bool takes_weights(Function function) { return function >= kPriceWeighted && !is_erase(function); }
 
 struct Call {
   Function function;
@@ -372,6 +419,7 @@ struct Call {
   Bytes page;
   Bytes data;  // of a read: what the buffer holds before
   std::int16_t tenths;
+  Bytes map = {};  // of a call that takes one
 };
 
 struct Outcome {
@@ -396,10 +444,11 @@ void print_outcome(const char* whose, const Outcome& outcome) {
 }
 
 [[noreturn]] void disagree(const char* what, const Call& call, const Outcome& expected, const Outcome& got) {
-  std::printf("compare: DISAGREEMENT: %s\n%s code %lu L %lu S %lu weights %u %u %u tenths %d page length %zu data length %zu\n", what,
+  std::printf("compare: DISAGREEMENT: %s\n%s code %lu L %lu S %lu weights %u %u %u tenths %d page length %zu map length %zu data length %zu\n", what,
               kFunctionName[call.function], static_cast<unsigned long>(call.code), static_cast<unsigned long>(call.bytes),
               static_cast<unsigned long>(call.strips), call.weights[0], call.weights[1], call.weights[2], call.tenths, call.page.size(),
-              call.data.size());
+              call.map.size(), call.data.size());
+  std::printf("map %s\n", hex(call.map).c_str());
   print_outcome("before", Outcome{0, call.page, call.data});
   print_outcome("expected", expected);
   print_outcome("got", got);
@@ -447,11 +496,15 @@ class Guarded {
 
 // ---------------------------------------------------------------- the judge
 
+// The kinds of maps: how many cells are marked. With the last kind they are half of one strip's.
+enum MapKind : unsigned { kNone, kFew, kHalf, kNearlyAll, kAll, kOneStrip, kMapKinds };
+constexpr std::array<const char*, kMapKinds> kMapName = {"none", "few", "half", "nearly all", "all", "one strip"};
+
 // What was met, so that a run that judged nothing of a kind cannot pass.
 struct Counts {
   std::array<std::uint64_t, kFunctions> calls{};
-  std::array<std::array<std::uint64_t, 10>, kFunctions> refused{};  // by function and number
-  std::array<std::uint64_t, 2> done{};                             // writes by code, and so on
+  std::array<std::array<std::uint64_t, 12>, kFunctions> refused{};  // by function and number
+  std::array<std::uint64_t, 2> done{};                              // writes by code, and so on
   std::array<std::uint64_t, 2> spent{};
   std::array<std::uint64_t, 2> ties{};
   std::array<std::uint64_t, 2> out_of_order{};
@@ -464,6 +517,27 @@ struct Counts {
   std::array<std::uint64_t, 2> older_strips{};  // of these, pages where some cells have another number mod 3 than in their strips
   std::array<std::uint64_t, 2> older_runs{};    // runs until spent beside an older release's page
   std::uint64_t several_grounds = 0;
+
+  // Of the calls with a map.
+  std::array<std::uint64_t, kMapKinds> maps{};      // writes by the kind of the map
+  std::array<std::uint64_t, 2> mapped_done{};       // writes by code, and so on
+  std::array<std::uint64_t, 2> mapped_spent{};
+  std::array<std::uint64_t, 2> mapped_ties{};
+  std::array<std::uint64_t, 2> mapped_late{};       // spent, though a strip before would have been changed
+  std::array<std::uint64_t, 2> mapped_last{};       // spent in strip 63
+  std::array<std::uint64_t, 2> mapped_kept{};       // writes of what is held
+  std::array<std::uint64_t, 2> marked_one{};        // done with a marked cell that shows a one and could rise
+  std::array<std::uint64_t, 2> marks_decide{};      // done on another page than without marks
+  std::array<std::uint64_t, 2> marks_spend{};       // spent, and done without marks
+  std::array<std::uint64_t, 2> erased_spent{};      // spent, though every cell is at level 0
+  std::array<std::uint64_t, 2> all_marked_done{};   // with every cell marked
+  std::array<std::uint64_t, 2> all_marked_spent{};
+  std::array<std::uint64_t, 2> dearer{};            // more marks, and a higher cost
+  std::array<std::uint64_t, 2> spent_by_more{};     // more marks, and spent
+  std::array<std::uint64_t, 2> mapped_runs{};       // runs until spent under a map
+  std::array<std::uint64_t, 2> ledgers{};           // of these, with raises counted
+  std::uint64_t erases_that_keep = 0;               // erases that empty some cells and leave bits of others
+  std::array<std::array<std::array<std::uint64_t, 12>, 12>, kFunctions> pairs{};  // refused with two grounds: by function, first and second
 };
 
 // How a price and a write are asked for: without weights, which means the house's, or with these.
@@ -492,14 +566,19 @@ class Judge {
   void judge(const Call& call, const Outcome& expected) {
     Guarded page(call.page, calls());
     Guarded data(call.data, calls() / 8);
+    Guarded map(call.map, calls() / 64);
     ++counts_.calls[call.function];
-    const std::uint64_t answer = perform(call, page, data);
+    const std::uint64_t answer = perform(call, page, map, data);
     const Outcome got = {answer, page.inner(), data.inner()};
-    if (!page.intact() || !data.intact()) disagree("bytes beside a buffer changed", call, expected, got);
+    const std::uint32_t number = SEGRUNOV_NUMBER(answer);
+    if (!page.intact() || !data.intact() || !map.intact()) disagree("bytes beside a buffer changed", call, expected, got);
+    if (map.inner() != call.map) disagree("the map changed", call, expected, got);
     if (got.answer != expected.answer) disagree("answer", call, expected, got);
+    if (takes_map(call.function) && number == SEGRUNOV_DONE && !marked_stay(call.page, got.page, call.map)) {
+      disagree("bits of a marked cell changed", call, expected, got);
+    }
     if (got.page != expected.page) disagree("page", call, expected, got);
     if (got.data != expected.data) disagree("data", call, expected, got);
-    const std::uint32_t number = SEGRUNOV_NUMBER(answer);
     if (number != SEGRUNOV_DONE) ++counts_.refused[call.function][number];
   }
 
@@ -514,7 +593,7 @@ class Judge {
   // Judges a price and a write of the data, and the read after it. Gives back the page after them. Without weights the calls that take them are
   // judged too, with the house's. Beside each stands the same page of an older release.
   Bytes judge_write(const Code& code, Shape shape, const Weighing& weighing, const Bytes& page, const Bytes& data) {
-    const PageSearch least = search_page(code, shape, weighing.weights, page, data);
+    const PageSearch least = search_page(code, shape, weighing.weights, page, no_marks(shape), data);
     price_and_write(code, shape, weighing, page, data, least);
     if (!weighing.given) price_and_write(code, shape, Weighing{true, kHouse}, page, data, least);
     if (weighing.given) judge_weights(code, shape, weighing.weights, page, data, least);
@@ -651,12 +730,101 @@ class Judge {
     counts_.older_runs[code_index(code)] += SEGRUNOV_NUMBER(answer) == SEGRUNOV_SPENT && older != page ? 1 : 0;
   }
 
+  // Judges a price and a write of the data with a map, the read after it, and the answers with fewer and with more marks.
+  PageSearch judge_mapped(const Code& code, Shape shape, const Weights& weights, const Bytes& page, const Bytes& map, const Bytes& data) {
+    const PageSearch least = search_page(code, shape, weights, page, map, data);
+    price_and_write_mapped(code, shape, weights, page, map, data, least);
+    if (SEGRUNOV_NUMBER(least.answer) == SEGRUNOV_DONE) {
+      const bool right = read_page(code, shape, least.page) == data && marked_stay(page, least.page, map);
+      if (!right) give_up("the search itself is wrong: its page does not read as the data, or a marked cell is changed");
+      judge_read(code, shape, least.page, data);
+    }
+    judge_other_marks(code, shape, weights, page, map, data);
+    count_mapped(code, page, least);
+    return least;
+  }
+
+  // What the page reads as costs nothing and changes nothing, whatever is marked. No search: a marked cell is not asked to move.
+  void judge_mapped_kept(const Code& code, Shape shape, const Bytes& page, const Bytes& map) {
+    PageSearch least;
+    least.page = page;
+    price_and_write_mapped(code, shape, random_weights(), page, map, read_page(code, shape, page), least);
+    ++counts_.mapped_kept[code_index(code)];
+  }
+
+  // With every cell marked a page takes what it holds and nothing else: spent in the first strip that differs. No search either.
+  void judge_all_marked(const Code& code, Shape shape, const Bytes& page, const Bytes& data) {
+    const Bytes held = read_page(code, shape, page);
+    PageSearch least;
+    least.page = page;
+    for (std::uint32_t k = shape.strips; k-- > 0;) {
+      if (part(held, k, shape.bytes) != part(data, k, shape.bytes)) least.answer = answer_of(SEGRUNOV_SPENT, k);
+    }
+    price_and_write_mapped(code, shape, random_weights(), page, Bytes(map_length(shape), 0xff), data, least);
+    ++(held == data ? counts_.all_marked_done : counts_.all_marked_spent)[code_index(code)];
+  }
+
+  // An erase with a map at an allowed temperature. Gives back the page after it.
+  Bytes judge_mapped_erase(Shape shape, const Bytes& page, const Bytes& map, std::int16_t tenths) {
+    const Bytes emptied = emptied_page(page, map);
+    judge(Call{kEraseMapped, 0, shape.bytes, shape.strips, kHouse, page, Bytes(), tenths, map}, Outcome{0, emptied, Bytes()});
+    counts_.erases_that_keep += emptied != page && sum_of_levels(emptied) > 0 ? 1 : 0;
+    return emptied;
+  }
+
+  // Marks with the given chance on every cell that is not marked yet.
+  Bytes more_marks(const Bytes& map, std::uint64_t of, std::uint64_t in) {
+    const Bytes added = random_bits(map.size(), of, in);
+    Bytes more = map;
+    for (std::size_t i = 0; i < more.size(); ++i) more[i] = static_cast<std::uint8_t>(more[i] | added[i]);
+    return more;
+  }
+
+  Bytes map_of_kind(MapKind kind, Shape shape) {
+    const Bytes none = no_marks(shape);
+    switch (kind) {
+      case kNone: return none;
+      case kFew: return more_marks(none, 1, 16);
+      case kHalf: return more_marks(none, 1, 2);
+      case kNearlyAll: return more_marks(none, 7, 8);
+      case kAll: return Bytes(none.size(), 0xff);
+      default: {
+        Bytes map = none;
+        put_part(map, below(shape.strips), random_bytes(2 * std::size_t{shape.bytes}));
+        return map;
+      }
+    }
+  }
+
+  void count_map(MapKind kind) { ++counts_.maps[kind]; }
+
+  // Data that some page above this one reads as with the marked cells kept, at times with a bit or two changed; or any.
+  Bytes mapped_data(const Code& code, Shape shape, const Bytes& page, const Bytes& map) {
+    if (chance(1, 8)) return random_bytes(data_length(shape));
+    Bytes above = page;
+    for (std::size_t n = 0; n < 8 * map.size(); ++n) {
+      if (chance(1, 3) && bit_at(map, n) == 0 && level_of(above, n) < kFull) raise_once(above, n);
+    }
+    Bytes data = read_page(code, shape, above);
+    const std::uint64_t flips = chance(1, 3) ? 1 + below(2) : 0;
+    // in the last strip as a rule, so that a spent strip comes late
+    const std::uint64_t among = 8 * (chance(1, 4) ? data.size() : std::uint64_t{shape.bytes});
+    for (std::uint64_t i = 0; i < flips; ++i) flip_bit(data, 8 * data.size() - 1 - below(among));
+    return data;
+  }
+
+  void count_mapped_run(const Code& code, bool counted) {
+    ++counts_.mapped_runs[code_index(code)];
+    counts_.ledgers[code_index(code)] += counted ? 1 : 0;
+  }
+
   void count_several_grounds() { ++counts_.several_grounds; }
+  void count_pair(Function function, std::uint32_t first, std::uint32_t second) { ++counts_.pairs[function][first][second]; }
 
  private:
   static std::size_t code_index(const Code& code) { return code.name == kCodes[0].name ? 0 : 1; }
 
-  static std::uint64_t perform(const Call& call, Guarded& page, Guarded& data) {
+  static std::uint64_t perform(const Call& call, Guarded& page, Guarded& map, Guarded& data) {
     switch (call.function) {
       case kRead: return segrunov_read(call.code, call.bytes, call.strips, page.pointer(), page.length(), data.pointer(), data.length());
       case kPrice: return segrunov_price(call.code, call.bytes, call.strips, page.pointer(), page.length(), data.pointer(), data.length());
@@ -667,7 +835,14 @@ class Judge {
       case kWriteWeighted:
         return segrunov_write_weighted(call.code, call.bytes, call.strips, call.weights[0], call.weights[1], call.weights[2], page.pointer(),
                                        page.length(), data.pointer(), data.length());
-      default: return segrunov_erase(call.bytes, call.strips, page.pointer(), page.length(), call.tenths);
+      case kErase: return segrunov_erase(call.bytes, call.strips, page.pointer(), page.length(), call.tenths);
+      case kPriceMapped:
+        return segrunov_price_mapped(call.code, call.bytes, call.strips, call.weights[0], call.weights[1], call.weights[2], page.pointer(),
+                                     page.length(), map.pointer(), map.length(), data.pointer(), data.length());
+      case kWriteMapped:
+        return segrunov_write_mapped(call.code, call.bytes, call.strips, call.weights[0], call.weights[1], call.weights[2], page.pointer(),
+                                     page.length(), map.pointer(), map.length(), data.pointer(), data.length());
+      default: return segrunov_erase_mapped(call.bytes, call.strips, page.pointer(), page.length(), map.pointer(), map.length(), call.tenths);
     }
   }
 
@@ -675,7 +850,8 @@ class Judge {
   static Outcome made(const Call& call) {
     Guarded page(call.page, 0);
     Guarded data(call.data, 0);
-    const std::uint64_t answer = perform(call, page, data);
+    Guarded map(call.map, 0);
+    const std::uint64_t answer = perform(call, page, map, data);
     return Outcome{answer, page.inner(), data.inner()};
   }
 
@@ -705,6 +881,54 @@ class Judge {
     const Function write = weighing.given ? kWriteWeighted : kWrite;
     judge(Call{price, code.name, shape.bytes, shape.strips, weighing.weights, page, data, 0}, Outcome{least.answer, page, data});
     judge(Call{write, code.name, shape.bytes, shape.strips, weighing.weights, page, data, 0}, Outcome{least.answer, least.page, data});
+    // With a map of zeros it is the same call.
+    if (weighing.given) price_and_write_mapped(code, shape, weighing.weights, page, no_marks(shape), data, least);
+  }
+
+  void price_and_write_mapped(const Code& code, Shape shape, const Weights& weights, const Bytes& page, const Bytes& map, const Bytes& data,
+                              const PageSearch& least) {
+    judge(Call{kPriceMapped, code.name, shape.bytes, shape.strips, weights, page, data, 0, map}, Outcome{least.answer, page, data});
+    judge(Call{kWriteMapped, code.name, shape.bytes, shape.strips, weights, page, data, 0, map}, Outcome{least.answer, least.page, data});
+  }
+
+  // From no marks over fewer and more to all: no write becomes cheaper, and no spent page takes the data. The strip of a spent page is no later one.
+  void judge_other_marks(const Code& code, Shape shape, const Weights& weights, const Bytes& page, const Bytes& map, const Bytes& data) {
+    const std::size_t i = code_index(code);
+    const Bytes fewer = complement(more_marks(complement(map), 1, 2));
+    const Call none = {kWriteMapped, code.name, shape.bytes, shape.strips, weights, page, data, 0, no_marks(shape)};
+    const Outcome unmarked = made(none);
+    Outcome before = unmarked;
+    for (const Bytes& marks : {fewer, map, more_marks(map, 1, 4), Bytes(map.size(), 0xff)}) {
+      Call call = none;
+      call.map = marks;
+      const Outcome got = made(call);
+      const bool was_spent = SEGRUNOV_NUMBER(before.answer) == SEGRUNOV_SPENT;
+      const bool is_spent = SEGRUNOV_NUMBER(got.answer) == SEGRUNOV_SPENT;
+      const bool cheaper = was_spent == is_spent && (is_spent ? got.answer > before.answer : got.answer < before.answer);
+      if (cheaper || (was_spent && !is_spent)) disagree("more marks make a write cheaper, or a spent page take the data", call, before, got);
+      counts_.dearer[i] += !is_spent && got.answer > before.answer ? 1 : 0;
+      counts_.spent_by_more[i] += is_spent && !was_spent ? 1 : 0;
+      if (marks == map) count_marks(i, unmarked, got);
+      before = got;
+    }
+  }
+
+  void count_marks(std::size_t i, const Outcome& unmarked, const Outcome& got) {
+    const bool unmarked_done = SEGRUNOV_NUMBER(unmarked.answer) == SEGRUNOV_DONE;
+    const bool done = SEGRUNOV_NUMBER(got.answer) == SEGRUNOV_DONE;
+    counts_.marks_decide[i] += done && got.page != unmarked.page ? 1 : 0;
+    counts_.marks_spend[i] += unmarked_done && !done ? 1 : 0;
+  }
+
+  void count_mapped(const Code& code, const Bytes& page, const PageSearch& least) {
+    const std::size_t i = code_index(code);
+    const bool done = SEGRUNOV_NUMBER(least.answer) == SEGRUNOV_DONE;
+    ++(done ? counts_.mapped_done : counts_.mapped_spent)[i];
+    counts_.mapped_ties[i] += least.tie ? 1 : 0;
+    counts_.mapped_late[i] += least.late_spent ? 1 : 0;
+    counts_.mapped_last[i] += least.answer == answer_of(SEGRUNOV_SPENT, kMost - 1) ? 1 : 0;
+    counts_.marked_one[i] += least.marked_one ? 1 : 0;
+    counts_.erased_spent[i] += !done && sum_of_levels(page) == 0 ? 1 : 0;
   }
 
   // Beside a write with weights, the library's own without: spent with the same strip, or neither is; and whether the weights decided the page.
@@ -761,7 +985,7 @@ void check_known_cells() {
   };
   for (const Known& known : table) {
     const Shape shape = {1, static_cast<std::uint32_t>(known.data.size())};
-    const PageSearch least = search_page(kCodes[known.code], shape, kHouse, known.page, known.data);
+    const PageSearch least = search_page(kCodes[known.code], shape, kHouse, known.page, no_marks(shape), known.data);
     if (least.answer != known.answer || least.page != known.after) give_up("the search itself is wrong: a known cell of document 01");
   }
 }
@@ -770,10 +994,26 @@ void check_known_run() {
   Bytes page(6, 0);
   std::uint8_t byte = 0x80;
   for (const std::uint64_t cost : {16, 16, 20, 20, 28, 28, 32}) {
-    const PageSearch least = search_page(kCodes[0], Shape{1, 1}, kHouse, page, Bytes{byte});
+    const PageSearch least = search_page(kCodes[0], Shape{1, 1}, kHouse, page, Bytes(2, 0), Bytes{byte});
     if (least.answer != cost) give_up("the search itself is wrong: the known run of document 01");
     page = least.page;
     byte ^= 0x80;
+  }
+}
+
+// Document 02: 'with every cell marked at level 0 it takes only zeros'. And document 01's tie of the cells 14 and 15 with either of them marked.
+void check_known_marks() {
+  const Bytes erased(6, 0);
+  for (const Code& code : kCodes) {
+    for (unsigned byte = 0; byte < 256; ++byte) {
+      const Bytes data = {static_cast<std::uint8_t>(byte)};
+      const PageSearch least = search_page(code, Shape{1, 1}, kHouse, erased, Bytes(2, 0xff), data);
+      if (least.answer != (byte == 0 ? 0 : answer_of(SEGRUNOV_SPENT, 0))) give_up("the search itself is wrong: every cell marked at level 0");
+    }
+    const PageSearch cell_14 = search_page(code, Shape{1, 1}, kHouse, erased, Bytes{0, 0x80}, Bytes{0x80});
+    const PageSearch cell_15 = search_page(code, Shape{1, 1}, kHouse, erased, Bytes{0, 0x40}, Bytes{0x80});
+    if (cell_14.answer != 16 || cell_14.page != Bytes{0, 0, 0, 0, 0, 0x10}) give_up("the search itself is wrong: cell 15 marked");
+    if (cell_15.answer != 16 || cell_15.page != Bytes{0, 0, 0, 0, 0, 0x20}) give_up("the search itself is wrong: cell 14 marked");
   }
 }
 
@@ -921,7 +1161,7 @@ bool allowed_temperature(std::int16_t tenths) { return tenths >= 50 && tenths <=
 // The grounds of documents 01 and 02 that apply to a call, in their order; a 7 is left to the caller.
 std::vector<std::uint32_t> grounds(const Call& call) {
   std::vector<std::uint32_t> numbers;
-  const bool erase = call.function == kErase;
+  const bool erase = is_erase(call.function);
   const std::uint64_t data_bytes = std::uint64_t{call.bytes} * call.strips;
   if (!erase && call.code != 3 && call.code != 7) numbers.push_back(SEGRUNOV_CODE);
   if (!within(call.bytes)) numbers.push_back(SEGRUNOV_BYTES);
@@ -930,6 +1170,8 @@ std::vector<std::uint32_t> grounds(const Call& call) {
   if (takes_weights(call.function) && zero) numbers.push_back(SEGRUNOV_WEIGHT);
   // Six times the product may pass 64 bits; the quotient tells without forming it.
   if (call.page.size() % 6 != 0 || call.page.size() / 6 != data_bytes) numbers.push_back(SEGRUNOV_PAGE_LENGTH);
+  const bool map_fits = call.map.size() % 2 == 0 && call.map.size() / 2 == data_bytes;
+  if (takes_map(call.function) && !map_fits) numbers.push_back(SEGRUNOV_MAP_LENGTH);
   if (!erase && call.data.size() != data_bytes) numbers.push_back(SEGRUNOV_DATA_LENGTH);
   if (erase && !allowed_temperature(call.tenths)) numbers.push_back(SEGRUNOV_TEMPERATURE);
   return numbers;
@@ -970,13 +1212,9 @@ std::size_t length_for(std::uint32_t bytes, std::uint32_t strips, std::size_t fa
   return product <= 65536 ? factor * product : factor;
 }
 
-// Half of the pages are full and hardly ever take the random data, so that 7 competes with the grounds from the input.
-Call spoiled_call(Judge& judge) {
-  const auto function = static_cast<Function>(judge.below(kFunctions));
-  Shape shape = {static_cast<std::uint32_t>(1 + judge.below(4)), static_cast<std::uint32_t>(1 + judge.below(4))};
-  if (judge.chance(1, 8)) shape = Shape{kMost, kMost};
-  // Few of the six items at fault as a rule, now and then any of them.
-  const std::uint64_t set = judge.chance(1, 3) ? std::uint64_t{1} << judge.below(6) : judge.below(64) & judge.below(64);
+// A call with these items at fault: bit 0 the code, 1 L, 2 S, 3 the page, 4 the data or the temperature, 5 a weight, 6 the map. Half of the pages are
+// full and hardly ever take the random data, so that 7 competes with the grounds from the input.
+Call call_with_faults(Judge& judge, Function function, Shape shape, std::uint64_t set) {
   Call call = {function, judge.chance(1, 2) ? 3U : 7U, shape.bytes, shape.strips, judge.random_weights(), Bytes(), Bytes(), 250};
   if ((set & 1) != 0) call.code = bad_code(judge);
   if ((set & 2) != 0) call.bytes = bad_number(judge);
@@ -986,27 +1224,105 @@ Call spoiled_call(Judge& judge) {
   std::size_t data_bytes = length_for(call.bytes, call.strips, 1);
   if ((set & 8) != 0) page_bytes = bad_length(judge, page_bytes);
   if ((set & 16) != 0) data_bytes = bad_length(judge, data_bytes);
-  if (function == kErase && (set & 16) != 0) call.tenths = bad_temperature(judge);
+  if (is_erase(function) && (set & 16) != 0) call.tenths = bad_temperature(judge);
   call.page = judge.chance(1, 2) ? Bytes(page_bytes, 0xff) : judge.random_bytes(page_bytes);
   call.data = judge.random_bytes(data_bytes);
+  if (takes_map(function)) {
+    const std::size_t map_bytes = length_for(call.bytes, call.strips, 2);
+    call.map = judge.random_bytes((set & 64) != 0 ? bad_length(judge, map_bytes) : map_bytes);
+  }
   return call;
 }
 
-void refusals(Judge& judge, unsigned rounds) {
+// Few of the items at fault as a rule, now and then any of them.
+Call spoiled_call(Judge& judge, bool mapped) {
+  const auto function = static_cast<Function>(mapped ? kUnmapped + judge.below(kFunctions - kUnmapped) : judge.below(kUnmapped));
+  Shape shape = {static_cast<std::uint32_t>(1 + judge.below(4)), static_cast<std::uint32_t>(1 + judge.below(4))};
+  if (judge.chance(1, 8)) shape = Shape{kMost, kMost};
+  const std::uint64_t items = mapped ? 7 : 6;
+  const std::uint64_t sets = std::uint64_t{1} << items;
+  const std::uint64_t set = judge.chance(1, 3) ? std::uint64_t{1} << judge.below(items) : judge.below(sets) & judge.below(sets);
+  return call_with_faults(judge, function, shape, set);
+}
+
+void refusals(Judge& judge, unsigned rounds, bool mapped) {
   for (unsigned round = 0; round < rounds; ++round) {
-    const Call call = spoiled_call(judge);
+    const Call call = spoiled_call(judge, mapped);
     const std::vector<std::uint32_t> numbers = grounds(call);
     if (numbers.empty()) continue;
     judge.judge_refusal(call, numbers.front());
     if (numbers.size() > 1) judge.count_several_grounds();
   }
-  progress(judge, "refusals");
+  progress(judge, mapped ? "refusals with a map" : "refusals");
+}
+
+// The numbers with which a function can refuse, in the order in which they are tested.
+std::vector<std::uint32_t> refusals_of(Function function) {
+  switch (function) {
+    case kRead: return {1, 2, 3, 4, 5};
+    case kErase: return {2, 3, 4, 8};
+    case kPriceWeighted:
+    case kWriteWeighted: return {1, 2, 3, 9, 4, 5, 7};
+    case kPriceMapped:
+    case kWriteMapped: return {1, 2, 3, 9, 4, 11, 5, 7};
+    case kEraseMapped: return {2, 3, 4, 11, 8};
+    default: return {1, 2, 3, 4, 5, 7};
+  }
+}
+
+// The item of call_with_faults that a refusal speaks of; of a 7 none.
+std::uint64_t item_of(std::uint32_t number) {
+  switch (number) {
+    case SEGRUNOV_CODE: return 1;
+    case SEGRUNOV_BYTES: return 2;
+    case SEGRUNOV_STRIPS: return 4;
+    case SEGRUNOV_PAGE_LENGTH: return 8;
+    case SEGRUNOV_WEIGHT: return 32;
+    case SEGRUNOV_MAP_LENGTH: return 64;
+    case SEGRUNOV_SPENT: return 0;
+    default: return 16;
+  }
+}
+
+// Two grounds at once: the first in the order is the answer. A page is spent where it is full and the data zeros, since no full page reads as zeros;
+// or where it is erased with every cell marked and the data is not zeros.
+void two_grounds(Judge& judge, Function function, std::uint32_t first, std::uint32_t second) {
+  const Shape shape = {static_cast<std::uint32_t>(1 + judge.below(4)), static_cast<std::uint32_t>(1 + judge.below(4))};
+  Call call = call_with_faults(judge, function, shape, item_of(first) | item_of(second));
+  std::vector<std::uint32_t> wanted = {first};
+  if (second == SEGRUNOV_SPENT) {
+    const bool by_marks = judge.chance(1, 2);
+    call.page.assign(call.page.size(), by_marks ? 0x00 : 0xff);
+    call.data.assign(call.data.size(), by_marks ? 0xff : 0x00);
+    if (by_marks) call.map.assign(call.map.size(), 0xff);
+  } else {
+    wanted.push_back(second);
+  }
+  const std::vector<std::uint32_t> numbers = grounds(call);
+  // A length that fits an L or S far beyond the limits is not to be had: then there is a third ground.
+  if (numbers == wanted) judge.count_pair(function, first, second);
+  judge.judge_refusal(call, numbers.front());
+}
+
+// Every two grounds of the calls with a map.
+void pairs_of_grounds(Judge& judge, unsigned rounds) {
+  for (unsigned f = kUnmapped; f < kFunctions; ++f) {
+    const auto function = static_cast<Function>(f);
+    const std::vector<std::uint32_t> order = refusals_of(function);
+    for (std::size_t i = 0; i < order.size(); ++i) {
+      for (std::size_t j = i + 1; j < order.size(); ++j) {
+        for (unsigned round = 0; round < rounds; ++round) two_grounds(judge, function, order[i], order[j]);
+      }
+    }
+  }
+  progress(judge, "pairs of grounds");
 }
 
 void erase_at(Judge& judge, Shape shape, std::int16_t tenths) {
   const Call call = {kErase, 0, shape.bytes, shape.strips, kHouse, judge.random_page(shape), Bytes(), tenths};
   if (allowed_temperature(tenths)) {
     judge.judge(call, Outcome{0, Bytes(call.page.size(), 0), Bytes()});
+    judge.judge_mapped_erase(shape, call.page, no_marks(shape), tenths);
   } else {
     judge.judge_refusal(call, SEGRUNOV_TEMPERATURE);
   }
@@ -1037,6 +1353,146 @@ void older_runs(Judge& judge, unsigned rounds) {
   progress(judge, "older pages until spent");
 }
 
+// ---------------------------------------------------------------- the cases with a map
+
+constexpr std::array<MapKind, kMapKinds> kAllMapKinds = {kNone, kFew, kHalf, kNearlyAll, kAll, kOneStrip};
+
+MapKind random_kind(Judge& judge) { return kAllMapKinds[judge.below(kMapKinds)]; }
+
+Weights some_weights(Judge& judge) { return judge.chance(1, 3) ? kHouse : judge.random_weights(); }
+
+void mapped_page(Judge& judge, const Code& code, Shape shape, const Bytes& page, MapKind kind) {
+  const Bytes map = judge.map_of_kind(kind, shape);
+  judge.count_map(kind);
+  const PageSearch least = judge.judge_mapped(code, shape, some_weights(judge), page, map, judge.mapped_data(code, shape, page, map));
+  judge.judge_mapped_kept(code, shape, least.page, map);
+  judge.judge_all_marked(code, shape, page, judge.near_data(code, shape, page));
+  judge.judge_all_marked(code, shape, page, read_page(code, shape, page));
+}
+
+void every_mapped_byte(Judge& judge, const Code& code, const Bytes& page, const Bytes& map) {
+  const Weights weights = some_weights(judge);
+  for (unsigned byte = 0; byte < 256; ++byte) judge.judge_mapped(code, Shape{1, 1}, weights, page, map, Bytes{static_cast<std::uint8_t>(byte)});
+}
+
+// One-byte strips: each of the 256 data, with each cell marked by itself and with maps of every kind.
+void mapped_small_pages(Judge& judge, unsigned rounds) {
+  for (const Code& code : kCodes) {
+    for (std::size_t cell = 0; cell < 16; ++cell) {
+      Bytes map(2, 0);
+      flip_bit(map, cell);
+      every_mapped_byte(judge, code, Bytes(6, 0), map);
+      every_mapped_byte(judge, code, judge.random_bytes(6), map);
+    }
+    for (unsigned round = 0; round < rounds; ++round) {
+      for (const MapKind kind : kAllMapKinds) {
+        every_mapped_byte(judge, code, judge.strip_of_kind(judge.below(Judge::kStripKinds), 6), judge.map_of_kind(kind, Shape{1, 1}));
+      }
+    }
+    progress(judge, "one-byte strips with a map");
+  }
+}
+
+void mapped_shapes(Judge& judge, unsigned rounds) {
+  const auto one = [&](const Code& code, Shape shape) {
+    const Bytes page = judge.chance(1, 4) ? Bytes(page_length(shape), 0) : judge.random_page(shape);
+    mapped_page(judge, code, shape, page, random_kind(judge));
+  };
+  for (unsigned round = 0; round < rounds; ++round) {
+    for (unsigned i = 0; i < 8; ++i) one(kCodes[0], random_shape(judge, 64));
+    for (unsigned i = 0; i < 6; ++i) one(kCodes[1], random_shape(judge, 4));
+    one(kCodes[1], random_shape(judge, 16));
+  }
+  progress(judge, "random shapes with a map");
+}
+
+// The limits of L and S. With the long code the search of a wide page ends in time only where most of its cells are marked or full.
+void mapped_large_pages(Judge& judge) {
+  for (const Shape shape : {Shape{64, 64}, Shape{64, 1}, Shape{1, 64}, Shape{63, 64}, Shape{64, 63}}) {
+    for (const MapKind kind : kAllMapKinds) mapped_page(judge, kCodes[0], shape, judge.strip_of_kind(6, page_length(shape)), kind);
+    mapped_page(judge, kCodes[1], shape, judge.random_page(shape), kNearlyAll);
+    mapped_page(judge, kCodes[1], shape, judge.random_full_cells(page_length(shape), 3, 4), kHalf);
+    for (const Code& code : kCodes) {
+      for (const MapKind kind : kAllMapKinds) {
+        const Bytes page = judge.random_page(shape);
+        judge.judge_mapped_kept(code, shape, page, judge.map_of_kind(kind, shape));
+        judge.judge_mapped_erase(shape, page, judge.map_of_kind(kind, shape), 200);
+      }
+    }
+  }
+  for (const MapKind kind : kAllMapKinds) mapped_page(judge, kCodes[1], Shape{1, 64}, judge.random_page(Shape{1, 64}), kind);
+  progress(judge, "large pages with a map");
+}
+
+// A write of which the last strip is spent by its marks alone: the others have none, and that one is erased.
+void late_mapped_write(Judge& judge, const Code& code, Shape shape) {
+  Bytes page = judge.random_page(shape);
+  put_part(page, shape.strips - 1, Bytes(strip_length(shape), 0));
+  Bytes map = no_marks(shape);
+  put_part(map, shape.strips - 1, Bytes(2 * std::size_t{shape.bytes}, 0xff));
+  Bytes data = judge.mapped_data(code, shape, page, map);
+  data.back() = static_cast<std::uint8_t>(data.back() | 0x10U);
+  judge.judge_mapped(code, shape, some_weights(judge), page, map, data);
+}
+
+// From an erase that leaves the marked cells until spent and some writes beyond, then an erase. With steps of 1 a write's cost is its raises, and the
+// sum of the levels is that of the marked cells and the raises since the erase. Without them the map grows on the way, as cells wear out.
+void mapped_run(Judge& judge, const Code& code, Shape shape, bool small_changes, bool counted) {
+  Bytes map = judge.map_of_kind(judge.chance(1, 2) ? kFew : kOneStrip, shape);
+  Bytes page = judge.judge_mapped_erase(shape, judge.random_page(shape), map, 50);
+  std::uint64_t levels = sum_of_levels(page);
+  for (unsigned beyond = 0; beyond < 4;) {
+    const Bytes data = small_changes ? judge.near_data(code, shape, page) : judge.mapped_data(code, shape, page, map);
+    const PageSearch least = judge.judge_mapped(code, shape, counted ? Weights{1, 1, 1} : judge.random_weights(), page, map, data);
+    if (beyond > 0 || SEGRUNOV_NUMBER(least.answer) == SEGRUNOV_SPENT) ++beyond;
+    page = least.page;
+    if (SEGRUNOV_NUMBER(least.answer) == SEGRUNOV_DONE) levels += SEGRUNOV_VALUE(least.answer);
+    if (counted && levels != sum_of_levels(page)) give_up("the raises counted are not those of the levels");
+    if (!counted && judge.chance(1, 4)) map = judge.more_marks(map, 1, 32);
+  }
+  judge.judge_mapped_kept(code, shape, page, map);
+  judge.judge_mapped_erase(shape, page, map, 400);
+  judge.count_mapped_run(code, counted);
+}
+
+void mapped_runs(Judge& judge, unsigned rounds) {
+  for (unsigned round = 0; round < rounds; ++round) {
+    for (const bool small_changes : {false, true}) {
+      for (const bool counted : {false, true}) {
+        mapped_run(judge, kCodes[0], random_shape(judge, 16), small_changes, counted);
+        mapped_run(judge, kCodes[1], random_shape(judge, 2), small_changes, counted);
+      }
+    }
+    for (const Code& code : kCodes) late_mapped_write(judge, code, Shape{1, 64});
+  }
+  progress(judge, "runs with a map until spent");
+}
+
+void mapped_erases(Judge& judge, unsigned rounds) {
+  for (unsigned round = 0; round < rounds; ++round) {
+    const Shape shape = random_shape(judge, 128);
+    const Bytes page = judge.random_page(shape);
+    const Bytes map = judge.map_of_kind(random_kind(judge), shape);
+    const auto tenths = static_cast<std::int16_t>(static_cast<int>(judge.below(450)) - 20);
+    if (allowed_temperature(tenths)) {
+      judge.judge_mapped_erase(shape, page, map, tenths);
+    } else {
+      judge.judge_refusal(Call{kEraseMapped, 0, shape.bytes, shape.strips, kHouse, page, Bytes(), tenths, map}, SEGRUNOV_TEMPERATURE);
+    }
+  }
+  progress(judge, "erases with a map");
+}
+
+void mapped_cases(Judge& judge, unsigned factor) {
+  mapped_small_pages(judge, 30 * factor);
+  mapped_shapes(judge, 300 * factor);
+  mapped_large_pages(judge);
+  mapped_runs(judge, 60 * factor);
+  refusals(judge, 10000 * factor, true);
+  pairs_of_grounds(judge, 40 * factor);
+  mapped_erases(judge, 2000 * factor);
+}
+
 // ---------------------------------------------------------------- the verdict
 
 // Prints a count; false if the kind was never met.
@@ -1051,15 +1507,14 @@ bool met_for_both_codes(const char* kind, const std::array<std::uint64_t, 2>& co
   return with_short && with_long;
 }
 
-// The numbers with which a function can refuse.
-std::vector<std::uint32_t> refusals_of(Function function) {
-  switch (function) {
-    case kRead: return {1, 2, 3, 4, 5};
-    case kErase: return {2, 3, 4, 8};
-    case kPriceWeighted:
-    case kWriteWeighted: return {1, 2, 3, 9, 4, 5, 7};
-    default: return {1, 2, 3, 4, 5, 7};
+// Prints how often the pair of grounds that was met least was met.
+bool every_pair_met(const Counts& counts, Function function) {
+  const std::vector<std::uint32_t> order = refusals_of(function);
+  std::uint64_t least = std::numeric_limits<std::uint64_t>::max();
+  for (std::size_t i = 0; i < order.size(); ++i) {
+    for (std::size_t j = i + 1; j < order.size(); ++j) least = std::min(least, counts.pairs[function][order[i]][order[j]]);
   }
+  return met("two grounds, each pair", kFunctionName[function], least);
 }
 
 bool every_kind_met(const Counts& counts) {
@@ -1077,6 +1532,25 @@ bool every_kind_met(const Counts& counts) {
   all = met_for_both_codes("older pages", counts.older) && all;
   all = met_for_both_codes("older pages of several strips", counts.older_strips) && all;
   all = met_for_both_codes("older pages until spent", counts.older_runs) && all;
+  for (unsigned kind = 0; kind < kMapKinds; ++kind) all = met("maps of random pages, marked", kMapName[kind], counts.maps[kind]) && all;
+  all = met_for_both_codes("mapped writes done", counts.mapped_done) && all;
+  all = met_for_both_codes("mapped writes spent", counts.mapped_spent) && all;
+  all = met_for_both_codes("mapped writes with a tie", counts.mapped_ties) && all;
+  all = met_for_both_codes("mapped, spent after a changed", counts.mapped_late) && all;
+  all = met_for_both_codes("mapped, spent in strip 63", counts.mapped_last) && all;
+  all = met_for_both_codes("mapped writes of what is held", counts.mapped_kept) && all;
+  all = met_for_both_codes("marked cells that show a one", counts.marked_one) && all;
+  all = met_for_both_codes("pages that the marks decide", counts.marks_decide) && all;
+  all = met_for_both_codes("spent by marks alone", counts.marks_spend) && all;
+  all = met_for_both_codes("spent by marks, though erased", counts.erased_spent) && all;
+  all = met_for_both_codes("every cell marked, done", counts.all_marked_done) && all;
+  all = met_for_both_codes("every cell marked, spent", counts.all_marked_spent) && all;
+  all = met_for_both_codes("dearer by more marks", counts.dearer) && all;
+  all = met_for_both_codes("spent by more marks", counts.spent_by_more) && all;
+  all = met_for_both_codes("mapped runs until spent", counts.mapped_runs) && all;
+  all = met_for_both_codes("of these with raises counted", counts.ledgers) && all;
+  all = met("erases that keep marked cells", "", counts.erases_that_keep) && all;
+  for (unsigned f = kUnmapped; f < kFunctions; ++f) all = every_pair_met(counts, static_cast<Function>(f)) && all;
   for (unsigned f = 0; f < kFunctions; ++f) {
     for (const std::uint32_t number : refusals_of(static_cast<Function>(f))) {
       const std::string kind = "refused by " + std::to_string(number);
@@ -1090,14 +1564,16 @@ int compare(std::uint64_t seed, unsigned factor) {
   std::printf("compare: seed %llu factor %u\n", static_cast<unsigned long long>(seed), factor);
   check_known_cells();
   check_known_run();
+  check_known_marks();
   Judge judge(seed);
   small_pages(judge, 40 * factor);
   random_shapes(judge, 200 * factor);
   large_pages(judge, 30 * factor);
   runs(judge, 50 * factor);
-  refusals(judge, 20000 * factor);
+  refusals(judge, 20000 * factor, false);
   erases(judge, 2000 * factor);
   older_runs(judge, 5 * factor);
+  mapped_cases(judge, factor);
   const bool complete = every_kind_met(judge.counts());
   if (!complete) give_up("a kind was never met");
   if (judge.calls() < 20000) give_up("fewer than 20000 calls");
