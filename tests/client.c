@@ -1,12 +1,13 @@
 /*
- * The known cells of document 01, writes with other weights and writes on pages of an older release, through include/segrunov.h, as a firmware would
- * call it: refusals in their order, nothing changed by them, guard bytes around every buffer. The exit status is 0 where every check holds.
+ * The known cells of document 01, writes with other weights, writes on pages of an older release, and writes and erases with marked cells, through
+ * include/segrunov.h, as a firmware would call it: refusals in their order, nothing changed by them, guard bytes around every buffer. The exit status
+ * is 0 where every check holds.
  *
  * With FREESTANDING it is built with no C library: it brings the two functions that the archive needs, and ends by the system's exit.
  */
 #include "segrunov.h"
 
-enum { GUARD = 8, PAGE = 36, DATA = 6 };
+enum { GUARD = 8, PAGE = 36, MAP = 12, DATA = 6 };
 
 static const uint8_t GUARD_BYTE = 0xa5;
 
@@ -139,13 +140,20 @@ static const struct weights HOUSE = {SEGRUNOV_HOUSE_W1, SEGRUNOV_HOUSE_W2, SEGRU
 
 enum call { PRICE, WRITE };
 
-/* A call on what is in the two buffers, with weights where there are some. */
-static uint64_t made(enum call call, const struct known_write *k, const struct weights *w, struct guarded *page, struct guarded *data)
+/* A call on what is in the buffers, with weights where there are some, and with a map where there is one. */
+static uint64_t made(enum call call, const struct known_write *k, const struct weights *w, struct guarded *page, struct guarded *map,
+                     struct guarded *data)
 {
     const size_t page_len = SEGRUNOV_PAGE_BYTES(k->bytes, k->strips);
+    const size_t map_len = SEGRUNOV_MAP_BYTES(k->bytes, k->strips);
     const size_t data_len = SEGRUNOV_DATA_BYTES(k->bytes, k->strips);
     uint8_t *const p = inside(page);
     const uint8_t *const d = inside(data);
+    if (map != NULL) {
+        const uint8_t *const m = inside(map);
+        return call == PRICE ? segrunov_price_mapped(k->code, k->bytes, k->strips, w->w1, w->w2, w->w3, p, page_len, m, map_len, d, data_len)
+                             : segrunov_write_mapped(k->code, k->bytes, k->strips, w->w1, w->w2, w->w3, p, page_len, m, map_len, d, data_len);
+    }
     if (w == NULL) {
         return call == PRICE ? segrunov_price(k->code, k->bytes, k->strips, p, page_len, d, data_len)
                              : segrunov_write(k->code, k->bytes, k->strips, p, page_len, d, data_len);
@@ -154,18 +162,25 @@ static uint64_t made(enum call call, const struct known_write *k, const struct w
                          : segrunov_write_weighted(k->code, k->bytes, k->strips, w->w1, w->w2, w->w3, p, page_len, d, data_len);
 }
 
-static void known_write(const struct known_write *k, const struct weights *w)
+static const uint8_t NO_MARKS[MAP] = {0};
+
+/* A price, a write and a read. Without marks the calls are those that take no map. */
+static void known_write(const struct known_write *k, const struct weights *w, const uint8_t *marks)
 {
     const size_t page_len = SEGRUNOV_PAGE_BYTES(k->bytes, k->strips);
+    const size_t map_len = SEGRUNOV_MAP_BYTES(k->bytes, k->strips);
     const size_t data_len = SEGRUNOV_DATA_BYTES(k->bytes, k->strips);
     const uint64_t expected = answer(k->number, k->value);
-    struct guarded page, data, back;
+    struct guarded page, map, data, back;
+    struct guarded *const map_at = marks == NULL ? NULL : &map;
     fill(&page, k->before, page_len);
+    fill(&map, marks == NULL ? NO_MARKS : marks, map_len);
     fill(&data, k->data, data_len);
-    check(k->what, made(PRICE, k, w, &page, &data) == expected);
+    check(k->what, made(PRICE, k, w, &page, map_at, &data) == expected);
     check(k->what, holds(&page, k->before, page_len));
-    check(k->what, made(WRITE, k, w, &page, &data) == expected);
+    check(k->what, made(WRITE, k, w, &page, map_at, &data) == expected);
     check(k->what, holds(&page, k->after, page_len));
+    check(k->what, holds(&map, marks == NULL ? NO_MARKS : marks, map_len));
     check(k->what, holds(&data, k->data, data_len));
     if (k->number == SEGRUNOV_DONE) {
         fill(&back, k->data, 0);
@@ -175,13 +190,14 @@ static void known_write(const struct known_write *k, const struct weights *w)
     }
 }
 
-/* Without weights, and with the house's. */
+/* Without weights, with the house's, and with a map that marks no cell. */
 static void known_writes(void)
 {
     size_t i;
     for (i = 0; i < sizeof KNOWN_WRITES / sizeof *KNOWN_WRITES; i++) {
-        known_write(&KNOWN_WRITES[i], NULL);
-        known_write(&KNOWN_WRITES[i], &HOUSE);
+        known_write(&KNOWN_WRITES[i], NULL, NULL);
+        known_write(&KNOWN_WRITES[i], &HOUSE, NULL);
+        known_write(&KNOWN_WRITES[i], &HOUSE, NO_MARKS);
     }
 }
 
@@ -231,7 +247,8 @@ static void known_weighted(void)
 {
     size_t i;
     for (i = 0; i < sizeof KNOWN_WEIGHTED / sizeof *KNOWN_WEIGHTED; i++) {
-        known_write(&KNOWN_WEIGHTED[i].write, &KNOWN_WEIGHTED[i].weights);
+        known_write(&KNOWN_WEIGHTED[i].write, &KNOWN_WEIGHTED[i].weights, NULL);
+        known_write(&KNOWN_WEIGHTED[i].write, &KNOWN_WEIGHTED[i].weights, NO_MARKS);
     }
     for (i = 0; i < DECIDED; i++) {
         const struct known_write *k = &KNOWN_WEIGHTED[i].write;
@@ -239,8 +256,187 @@ static void known_weighted(void)
         struct guarded page, data;
         fill(&page, k->before, page_len);
         fill(&data, k->data, SEGRUNOV_DATA_BYTES(k->bytes, k->strips));
-        check(k->what, SEGRUNOV_NUMBER(made(WRITE, k, NULL, &page, &data)) == SEGRUNOV_DONE);
+        check(k->what, SEGRUNOV_NUMBER(made(WRITE, k, NULL, &page, NULL, &data)) == SEGRUNOV_DONE);
         check(k->what, !holds(&page, k->after, page_len));
+    }
+}
+
+/* A write with weights and a map. */
+struct known_mapped {
+    struct weights weights;
+    uint8_t map[MAP];
+    struct known_write write;
+};
+
+/* The first of these lead to another page or answer than without marks. */
+enum { MARKS_DECIDE = 20 };
+
+#define HOUSE_WEIGHTS {SEGRUNOV_HOUSE_W1, SEGRUNOV_HOUSE_W2, SEGRUNOV_HOUSE_W3}
+
+/*
+ * Cell c of strip k is map bit 16*L*k + c: with L = 1 the cells 8 to 15 of strip 0 are the second byte, cell 15 its highest bit. The first writes are
+ * document 01's tie: for the data 80 raising cell 14 costs as much as cell 15, which wins. Costs and pages of the others are by write_page, the model
+ * in tests/run.py. The six on a worn page would come out otherwise with the bits of each byte of the map reversed, its bytes exchanged in pairs, the
+ * marks of strip 0 for every strip, or L and S exchanged.
+ */
+static const struct known_mapped KNOWN_MAPPED[] = {
+    {HOUSE_WEIGHTS, {0, 0x80}, {"cell 15 marked, write 80", 3, 1, 1, {0}, {0x80}, 0, 16, {0, 0, 0, 0, 0, 0x10}}},
+    {HOUSE_WEIGHTS, {0, 0x80}, {"cell 15 marked, write 80 with code 7", 7, 1, 1, {0}, {0x80}, 0, 16, {0, 0, 0, 0, 0, 0x10}}},
+    {HOUSE_WEIGHTS, {0, 0xc0}, {"cells 14 and 15 marked, write 80", 3, 1, 1, {0}, {0x80}, 0, 32, {0, 0, 0, 0, 0x10, 0x01}}},
+    {HOUSE_WEIGHTS, {0, 0xc0}, {"cells 14 and 15 marked, write 80 with code 7", 7, 1, 1, {0}, {0x80}, 0, 32, {0, 0, 0, 0, 0x10, 0x01}}},
+    {HOUSE_WEIGHTS, {0, 0, 0, 0x80},
+     {"cell 15 of strip 1 marked, write 80 80", 3, 1, 2, {0}, {0x80, 0x80}, 0, 32, {0, 0, 0, 0, 0, 0x20, 0, 0, 0, 0, 0, 0x10}}},
+    {HOUSE_WEIGHTS, {0, 0x80},
+     {"cell 15 of strip 0 marked, write 80 80 with code 7", 7, 1, 2, {0}, {0x80, 0x80}, 0, 32, {0, 0, 0, 0, 0, 0x10, 0, 0, 0, 0, 0, 0x20}}},
+    /* A marked cell that shows a one where a zero is wanted: its neighbour takes the other one, though the marked cell's next step is cheap. */
+    {{255, 1, 1}, {0, 0x80}, {"cell 15 marked at level 1, write 00", 3, 1, 1, {0, 0, 0, 0, 0, 0x20}, {0}, 0, 255, {0, 0, 0, 0, 0, 0x30}}},
+    {{255, 1, 1}, {0, 0x80}, {"cell 15 marked at level 1 by its second bit", 7, 1, 1, {0, 0, 0, 0, 0, 0x40}, {0}, 0, 255, {0, 0, 0, 0, 0, 0x50}}},
+    {{255, 1, 1}, {0, 0x80}, {"cell 15 marked at level 2, write 80", 3, 1, 1, {0, 0, 0, 0, 0, 0xa0}, {0x80}, 0, 255, {0, 0, 0, 0, 0, 0xb0}}},
+    /* Erased, and spent. */
+    {HOUSE_WEIGHTS, {0x0f}, {"cells 0 to 3 marked, write 01", 3, 1, 1, {0}, {0x01}, 7, 0, {0}}},
+    {HOUSE_WEIGHTS, {0, 0, 0xff, 0xff}, {"every cell of strip 1 marked, write 80 80", 3, 1, 2, {0}, {0x80, 0x80}, 7, 1, {0}}},
+    {HOUSE_WEIGHTS, {0, 0, 0, 0, 0x61, 0xe6, 0x0c, 0x13},
+     {"spent by marks in strip 1, L = 2, S = 3", 3, 2, 3, {0}, {0x01, 0x23, 0x45, 0x67, 0x89, 0xab}, 7, 1, {0}}},
+    {{1, 2, 3}, {0, 0, 0, 0, 0, 0, 0, 0, 0xf9, 0x05, 0xf0, 0xb3},
+     {"spent by marks in strip 2, L = 2, S = 3 with code 7", 7, 2, 3, {0}, {0x01, 0x23, 0x45, 0x67, 0x89, 0xab}, 7, 2, {0}}},
+    /* Cells at every level, the marked ones too. */
+    {HOUSE_WEIGHTS, {0x40, 0x08, 0x81, 0x06, 0, 0x30, 0x01, 0x4a, 0x0c, 0x40, 0x14, 0xc0},
+     {"marks, L = 2, S = 3", 3, 2, 3, WORN, {0xfe, 0xed, 0xc0, 0xff, 0xee, 0x42}, 0, 304,
+      {0x33, 0x22, 0x42, 0x8c, 0x10, 0x03, 0x68, 0x84, 0x09, 0, 0x03, 0x40, 0x17, 0x02, 0x46, 0x05, 0, 0x31,
+       0x20, 0xc0, 0x88, 0x11, 0, 0x02, 0x39, 0x06, 0x02, 0x88, 0x18, 0x20, 0x62, 0x80, 0x09, 0, 0x21, 0x40}}},
+    {{1, 255, 2}, {0x10, 0xc8, 0x08, 0x44, 0x0a, 0x20, 0x60, 0x02, 0, 0x40, 0x10, 0},
+     {"marks, L = 2, S = 3 with code 7", 7, 2, 3, WORN, {0xfe, 0xed, 0xc0, 0xff, 0xee, 0x42}, 0, 26,
+      {0x17, 0x23, 0x46, 0x8c, 0x10, 0x01, 0x6a, 0x80, 0x88, 0x10, 0x23, 0x40, 0x17, 0x02, 0x46, 0x04, 0x10, 0x31,
+       0x62, 0xc0, 0x88, 0x11, 0x01, 0, 0x39, 0x06, 0x02, 0x88, 0x08, 0x21, 0x60, 0x84, 0x88, 0x10, 0x21, 0x42}}},
+    {{2, 1, 255}, {0x08, 0x40, 0x10, 0, 0x04, 0x02, 0x42, 0x08, 0x12, 0x36, 0x02, 0x01},
+     {"marks, L = 3, S = 2", 3, 3, 2, WORN, {0xfe, 0xed, 0xc0, 0xff, 0xee, 0x42}, 0, 25,
+      {0x33, 0xa1, 0x02, 0x8c, 0x31, 0x01, 0x68, 0x84, 0x09, 0, 0x03, 0x40, 0x13, 0x0a, 0x06, 0x04, 0x04, 0x11,
+       0x20, 0xc0, 0x88, 0x11, 0, 0x01, 0x38, 0x86, 0x82, 0x88, 0, 0x60, 0xe4, 0x90, 0x08, 0, 0x21, 0x40}}},
+    {HOUSE_WEIGHTS, {0, 0x80, 0x09, 0xa3, 0x62, 0x50, 0x10, 0, 0xc5, 0xa2, 0x08, 0},
+     {"marks, L = 3, S = 2 with code 7", 7, 3, 2, WORN, {0xfe, 0xed, 0xc0, 0xff, 0xee, 0x42}, 0, 292,
+      {0x17, 0x60, 0x46, 0x9c, 0x10, 0x01, 0x68, 0x80, 0x08, 0, 0x21, 0x40, 0x13, 0x0a, 0x26, 0x04, 0, 0x11,
+       0x20, 0xc0, 0xc8, 0x19, 0, 0x10, 0x38, 0x0e, 0x02, 0x88, 0x21, 0x20, 0xe0, 0x80, 0x08, 0, 0x21, 0x40}}},
+    {HOUSE_WEIGHTS, {0, 0, 0, 0, 0xe4, 0xcd, 0x21, 0xa2, 0, 0, 0, 0},
+     {"marks in strip 1 alone, L = 2, S = 3", 3, 2, 3, WORN, {0xfe, 0xed, 0xc0, 0xff, 0xee, 0x42}, 0, 388,
+      {0x33, 0x22, 0x42, 0x8c, 0x30, 0x11, 0x68, 0x80, 0x08, 0x10, 0x01, 0x44, 0x33, 0x26, 0x06, 0x0c, 0x10, 0x13,
+       0x28, 0xd0, 0x88, 0x13, 0, 0x04, 0x39, 0x06, 0x02, 0x88, 0x18, 0x20, 0x62, 0x80, 0x09, 0, 0x21, 0x40}}},
+    {{255, 255, 255}, {0, 0, 0, 0, 0, 0, 0x80, 0x24, 0, 0x80, 0x01, 0x02},
+     {"marks in strip 1 alone, L = 3, S = 2 with code 7", 7, 3, 2, WORN, {0xfe, 0xed, 0xc0, 0xff, 0xee, 0x42}, 0, 3825,
+      {0x33, 0x22, 0x06, 0x8c, 0x10, 0x11, 0x78, 0x84, 0x08, 0x40, 0x01, 0x40, 0x13, 0x02, 0x06, 0x24, 0, 0x11,
+       0x20, 0xe0, 0x8a, 0x11, 0, 0x10, 0x38, 0x06, 0x82, 0x88, 0, 0x20, 0x60, 0x88, 0x08, 0x02, 0x21, 0xc0}}},
+    /* The second cell of every stage marked: the first ones alone take every data. */
+    {HOUSE_WEIGHTS, {0xaa, 0xaa, 0xaa, 0xaa, 0xaa, 0xaa, 0xaa, 0xaa, 0xaa, 0xaa, 0xaa, 0xaa},
+     {"every second cell marked, L = 3, S = 2 with code 7", 7, 3, 2, {0}, {0x01, 0x23, 0x45, 0x67, 0x89, 0xab}, 0, 496,
+      {0x01, 0x20, 0x04, 0x84, 0x10, 0x10, 0x42, 0, 0, 0x01, 0x21, 0x04, 0x84, 0x10, 0, 0x40, 0x40, 0x08,
+       0x01, 0x01, 0, 0x04, 0, 0, 0x42, 0, 0x08, 0x01, 0, 0x04, 0, 0, 0x10, 0x42, 0, 0x08}}},
+    /* From here on the marks change nothing: other cells are marked, or what is marked shows what is wanted, and is kept for nothing. */
+    {HOUSE_WEIGHTS, {0, 0x40}, {"cell 14 marked, write 80", 3, 1, 1, {0}, {0x80}, 0, 16, {0, 0, 0, 0, 0, 0x20}}},
+    {HOUSE_WEIGHTS, {0, 0x30}, {"cells 12 and 13 marked, write 80: the tie goes to cell 15", 3, 1, 1, {0}, {0x80}, 0, 16, {0, 0, 0, 0, 0, 0x20}}},
+    {HOUSE_WEIGHTS, {0, 0x20}, {"cell 13 marked, write 80 with code 7", 7, 1, 1, {0}, {0x80}, 0, 16, {0, 0, 0, 0, 0, 0x20}}},
+    {HOUSE_WEIGHTS, {0, 0x01}, {"cell 8 marked, write 80", 3, 1, 1, {0}, {0x80}, 0, 16, {0, 0, 0, 0, 0, 0x20}}},
+    {HOUSE_WEIGHTS, {0x80, 0}, {"cell 7 marked, write 80", 7, 1, 1, {0}, {0x80}, 0, 16, {0, 0, 0, 0, 0, 0x20}}},
+    {HOUSE_WEIGHTS, {0xff, 0xff}, {"every cell marked, write 00", 3, 1, 1, {0}, {0}, 0, 0, {0}}},
+    {HOUSE_WEIGHTS, {0, 0x80}, {"cell 15 marked at level 1, write 80", 3, 1, 1, {0, 0, 0, 0, 0, 0x20}, {0x80}, 0, 0, {0, 0, 0, 0, 0, 0x20}}},
+    {HOUSE_WEIGHTS, {0, 0x80}, {"cell 15 marked by its third bit, write 80", 7, 1, 1, {0, 0, 0, 0, 0, 0x80}, {0x80}, 0, 0, {0, 0, 0, 0, 0, 0x80}}},
+    {HOUSE_WEIGHTS, {0xff, 0xff, 0xff, 0xff},
+     {"every cell marked, write of what is held", 3, 1, 2, {0, 0, 0, 0, 0, 0x20, 0xff, 0xff, 0xff, 0xff, 0xff, 0xff}, {0x80, 0xfe}, 0, 0,
+      {0, 0, 0, 0, 0, 0x20, 0xff, 0xff, 0xff, 0xff, 0xff, 0xff}}},
+    {HOUSE_WEIGHTS, {0xff, 0xff},
+     {"every cell of strip 0 marked, write 80 40", 7, 1, 2, {0, 0, 0, 0, 0, 0x20}, {0x80, 0x40}, 0, 16, {0, 0, 0, 0, 0, 0x20, 0, 0, 0, 0, 0x10, 0}}},
+    {HOUSE_WEIGHTS, {0xff, 0xff}, {"a full page with every cell marked", 3, 1, 1, {0xff, 0xff, 0xff, 0xff, 0xff, 0xff}, {0x80}, 7, 0,
+                                   {0xff, 0xff, 0xff, 0xff, 0xff, 0xff}}},
+};
+
+static void known_mapped(void)
+{
+    size_t i;
+    for (i = 0; i < sizeof KNOWN_MAPPED / sizeof *KNOWN_MAPPED; i++) {
+        known_write(&KNOWN_MAPPED[i].write, &KNOWN_MAPPED[i].weights, KNOWN_MAPPED[i].map);
+    }
+    for (i = 0; i < MARKS_DECIDE; i++) {
+        const struct known_write *k = &KNOWN_MAPPED[i].write;
+        const size_t page_len = SEGRUNOV_PAGE_BYTES(k->bytes, k->strips);
+        struct guarded page, map, data;
+        fill(&page, k->before, page_len);
+        fill(&map, NO_MARKS, SEGRUNOV_MAP_BYTES(k->bytes, k->strips));
+        fill(&data, k->data, SEGRUNOV_DATA_BYTES(k->bytes, k->strips));
+        check(k->what, SEGRUNOV_NUMBER(made(WRITE, k, &KNOWN_MAPPED[i].weights, &page, &map, &data)) == SEGRUNOV_DONE);
+        check(k->what, !holds(&page, k->after, page_len));
+    }
+}
+
+/* 'with every cell marked at level 0 it takes only zeros' */
+static void only_zeros(void)
+{
+    static const uint8_t erased[6] = {0};
+    static const uint8_t marks[2] = {0xff, 0xff};
+    static const uint32_t codes[2] = {SEGRUNOV_SHORT, SEGRUNOV_LONG};
+    const char *const what = "every cell marked at level 0";
+    unsigned c, byte;
+    for (c = 0; c < 2; c++) {
+        for (byte = 0; byte < 256; byte++) {
+            const uint8_t data = (uint8_t)byte;
+            const uint64_t expected = answer(byte == 0 ? SEGRUNOV_DONE : SEGRUNOV_SPENT, 0);
+            struct guarded page;
+            fill(&page, erased, 6);
+            check(what, segrunov_price_mapped(codes[c], 1, 1, 16, 20, 28, inside(&page), 6, marks, 2, &data, 1) == expected);
+            check(what, segrunov_write_mapped(codes[c], 1, 1, 16, 20, 28, inside(&page), 6, marks, 2, &data, 1) == expected);
+            check(what, holds(&page, erased, 6));
+        }
+    }
+}
+
+enum { LEDGER = 8 };
+
+/* Writes one after another with steps of 1, so that a cost is the raises: the answers, and the page after the last. */
+struct known_ledger {
+    const char *what;
+    uint32_t code;
+    uint64_t answers[LEDGER];
+    uint8_t last[6];
+};
+
+static unsigned sum_of_levels(const uint8_t *page)
+{
+    unsigned sum = 0;
+    unsigned k;
+    for (k = 0; k < 48; k++) {
+        sum += (unsigned)page[k / 8] >> (k % 8) & 1u;
+    }
+    return sum;
+}
+
+/*
+ * A page with cell 0 at level 1 and, marked, cell 3 at level 3 and cell 15 at level 2. The erase leaves 5, the sum of the marked cells, and the
+ * raises are counted from there. Answers and pages by the model in tests/run.py.
+ */
+static void ledger(void)
+{
+    static const uint8_t before[6] = {0x01, 0x0e, 0, 0, 0, 0x60};
+    static const uint8_t emptied[6] = {0, 0x0e, 0, 0, 0, 0x60};
+    static const uint8_t marks[2] = {0x08, 0x80};
+    static const uint8_t data[LEDGER] = {0x01, 0x80, 0x33, 0xcc, 0x0f, 0x5a, 0xa5, 0x96};
+    static const struct known_ledger KNOWN_LEDGERS[] = {
+        {"raises after an erase", 3, {2, 4, 3, 3, 4, 2, (uint64_t)SEGRUNOV_SPENT << 32, 3}, {0x3f, 0xaf, 0xe3, 0xcc, 0x09, 0x61}},
+        {"raises after an erase, code 7", 7, {2, 3, 3, 3, 4, 3, (uint64_t)SEGRUNOV_SPENT << 32, 2}, {0x3f, 0xaf, 0x43, 0x1d, 0x30, 0x63}},
+    };
+    size_t i, j;
+    for (i = 0; i < sizeof KNOWN_LEDGERS / sizeof *KNOWN_LEDGERS; i++) {
+        const struct known_ledger *k = &KNOWN_LEDGERS[i];
+        unsigned levels = 5;
+        struct guarded page;
+        fill(&page, before, 6);
+        check(k->what, segrunov_erase_mapped(1, 1, inside(&page), 6, marks, 2, 200) == 0);
+        check(k->what, holds(&page, emptied, 6));
+        check(k->what, sum_of_levels(inside(&page)) == levels);
+        for (j = 0; j < LEDGER; j++) {
+            check(k->what, segrunov_write_mapped(k->code, 1, 1, 1, 1, 1, inside(&page), 6, marks, 2, &data[j], 1) == k->answers[j]);
+            levels += SEGRUNOV_VALUE(k->answers[j]);
+            check(k->what, sum_of_levels(inside(&page)) == levels);
+        }
+        check(k->what, holds(&page, k->last, 6));
+        check(k->what, segrunov_erase_mapped(1, 1, inside(&page), 6, marks, 2, 200) == 0);
+        check(k->what, holds(&page, emptied, 6));
     }
 }
 
@@ -433,14 +629,208 @@ static void known_erases(void)
     }
 }
 
+/* An erase with a map: the page before and after. */
+struct known_mapped_erase {
+    const char *what;
+    uint32_t bytes;
+    uint32_t strips;
+    uint8_t map[MAP];
+    int16_t tenths;
+    uint32_t number;
+    uint8_t before[PAGE];
+    uint8_t after[PAGE];
+};
+
+/* Cell 2 is in two bytes, and cell 5 too; 5a has cells at level 1 and 2 by any of their bits. */
+static const struct known_mapped_erase KNOWN_MAPPED_ERASES[] = {
+    {"erase, no cell marked", 1, 1, {0}, 50, 0, {0x5a, 0x5a, 0x5a, 0x5a, 0x5a, 0x5a}, {0}},
+    {"erase, every cell marked", 1, 1, {0xff, 0xff}, 400, 0, {0x5a, 0x5a, 0x5a, 0x5a, 0x5a, 0x5a}, {0x5a, 0x5a, 0x5a, 0x5a, 0x5a, 0x5a}},
+    {"erase, cells 0 and 15 marked", 1, 1, {0x01, 0x80}, 200, 0, {0x5a, 0x5a, 0x5a, 0x5a, 0x5a, 0x5a}, {0x02, 0, 0, 0, 0, 0x40}},
+    {"erase, cells 1 and 14 marked", 1, 1, {0x02, 0x40}, 200, 0, {0x5a, 0x5a, 0x5a, 0x5a, 0x5a, 0x5a}, {0x18, 0, 0, 0, 0, 0x18}},
+    {"erase, cell 2 marked at level 3", 1, 1, {0x04, 0}, 200, 0, {0xff, 0xff, 0xff, 0xff, 0xff, 0xff}, {0xc0, 0x01}},
+    {"erase, cell 5 marked at level 3", 1, 1, {0x20, 0}, 200, 0, {0xff, 0xff, 0xff, 0xff, 0xff, 0xff}, {0, 0x80, 0x03}},
+    {"erase, cell 7 marked at level 0", 1, 1, {0x80, 0}, 200, 0, {0xff, 0xff, 0x1f, 0xff, 0xff, 0xff}, {0}},
+    {"erase, cells 0 to 7 of strip 1 marked", 1, 2, {0, 0, 0xff, 0}, 200, 0,
+     {0xff, 0xff, 0xff, 0xff, 0xff, 0xff, 0xff, 0xff, 0xff, 0xff, 0xff, 0xff}, {0, 0, 0, 0, 0, 0, 0xff, 0xff, 0xff, 0, 0, 0}},
+    {"erase with marks, L = 2, S = 3", 2, 3, {0x40, 0x08, 0x81, 0x06, 0, 0x30, 0x01, 0x4a, 0x0c, 0x40, 0x14, 0xc0}, 200, 0, WORN,
+     {0, 0, 0, 0, 0, 0, 0, 0, 0, 0, 0x01, 0, 0, 0, 0, 0, 0, 0x01,
+      0, 0, 0, 0x10, 0, 0, 0, 0x06, 0, 0, 0, 0, 0x40, 0, 0, 0, 0, 0x40}},
+    {"erase with marks, L = 3, S = 2", 3, 2, {0, 0x80, 0x09, 0xa3, 0x62, 0x50, 0x10, 0, 0xc5, 0xa2, 0x08, 0}, 200, 0, WORN,
+     {0, 0, 0, 0, 0, 0, 0, 0, 0, 0, 0, 0x40, 0x10, 0, 0x06, 0, 0, 0x10,
+      0, 0x40, 0, 0, 0, 0, 0, 0, 0, 0x08, 0, 0x20, 0, 0, 0, 0, 0, 0}},
+    {"erase with marks at 49", 1, 1, {0x01, 0x80}, 49, 8, {0x5a, 0x5a, 0x5a, 0x5a, 0x5a, 0x5a}, {0x5a, 0x5a, 0x5a, 0x5a, 0x5a, 0x5a}},
+    {"erase with marks at 401", 1, 1, {0xff, 0xff}, 401, 8, {0xff, 0xff, 0xff, 0xff, 0xff, 0xff}, {0xff, 0xff, 0xff, 0xff, 0xff, 0xff}},
+    {"erase with no marks at -32768", 1, 1, {0}, INT16_MIN, 8, {0x5a, 0x5a, 0x5a, 0x5a, 0x5a, 0x5a}, {0x5a, 0x5a, 0x5a, 0x5a, 0x5a, 0x5a}},
+};
+
+static void known_mapped_erases(void)
+{
+    size_t i;
+    for (i = 0; i < sizeof KNOWN_MAPPED_ERASES / sizeof *KNOWN_MAPPED_ERASES; i++) {
+        const struct known_mapped_erase *k = &KNOWN_MAPPED_ERASES[i];
+        const size_t page_len = SEGRUNOV_PAGE_BYTES(k->bytes, k->strips);
+        const size_t map_len = SEGRUNOV_MAP_BYTES(k->bytes, k->strips);
+        struct guarded page, map;
+        fill(&page, k->before, page_len);
+        fill(&map, k->map, map_len);
+        check(k->what, segrunov_erase_mapped(k->bytes, k->strips, inside(&page), page_len, inside(&map), map_len, k->tenths) == answer(k->number, 0));
+        check(k->what, holds(&page, k->after, page_len));
+        check(k->what, holds(&map, k->map, map_len));
+    }
+}
+
+/* What the calls with a map are made with. A length of 0 goes with NULL. */
+struct arguments {
+    uint32_t code;
+    uint32_t bytes;
+    uint32_t strips;
+    uint8_t w2;
+    size_t page_len;
+    size_t map_len;
+    size_t data_len;
+    uint8_t filled; /* every byte of the page */
+    int16_t tenths;
+};
+
+static uint8_t *at(struct guarded *g, size_t length)
+{
+    return length == 0 ? NULL : inside(g);
+}
+
+/* The two calls with a code, or the erase, and nothing is changed by them. */
+static void refused(const char *what, const struct arguments *a, int erase, uint32_t number)
+{
+    static const uint8_t marks[PAGE] = {0x21, 0x84, 0x5a, 0x0f};
+    static const uint8_t bytes[DATA] = {0x80, 0x80, 0x80, 0x80, 0x80, 0x80};
+    const uint64_t expected = answer(number, 0);
+    uint8_t before[PAGE];
+    struct guarded page, map, data;
+    size_t i;
+    for (i = 0; i < PAGE; i++) {
+        before[i] = a->filled;
+    }
+    fill(&page, before, a->page_len);
+    fill(&map, marks, a->map_len);
+    fill(&data, bytes, a->data_len);
+    if (erase) {
+        check(what, expected == segrunov_erase_mapped(a->bytes, a->strips, at(&page, a->page_len), a->page_len, at(&map, a->map_len), a->map_len,
+                                                      a->tenths));
+    } else {
+        check(what, expected == segrunov_price_mapped(a->code, a->bytes, a->strips, 1, a->w2, 3, at(&page, a->page_len), a->page_len,
+                                                      at(&map, a->map_len), a->map_len, at(&data, a->data_len), a->data_len));
+        check(what, expected == segrunov_write_mapped(a->code, a->bytes, a->strips, 1, a->w2, 3, at(&page, a->page_len), a->page_len,
+                                                      at(&map, a->map_len), a->map_len, at(&data, a->data_len), a->data_len));
+    }
+    check(what, holds(&page, before, a->page_len));
+    check(what, holds(&map, marks, a->map_len));
+    check(what, holds(&data, bytes, a->data_len));
+}
+
+/* Gives a call this ground. A full page does not take the data 80. */
+static void spoil(struct arguments *a, uint32_t number)
+{
+    switch (number) {
+    case SEGRUNOV_CODE:
+        a->code = 11;
+        break;
+    case SEGRUNOV_BYTES:
+        a->bytes = 65;
+        break;
+    case SEGRUNOV_STRIPS:
+        a->strips = 0;
+        break;
+    case SEGRUNOV_WEIGHT:
+        a->w2 = 0;
+        break;
+    case SEGRUNOV_PAGE_LENGTH:
+        a->page_len = 7;
+        break;
+    case SEGRUNOV_MAP_LENGTH:
+        a->map_len = 3;
+        break;
+    case SEGRUNOV_DATA_LENGTH:
+        a->data_len = 2;
+        break;
+    case SEGRUNOV_SPENT:
+        a->filled = 0xff;
+        break;
+    default:
+        a->tenths = 401;
+        break;
+    }
+}
+
+static const struct arguments IN_ORDER = {7, 1, 1, 2, 6, 2, 1, 0x11, 250};
+
+/* Each ground by itself, and every two of them: the answer is the one that is tested first. */
+static void grounds_in_order(const uint32_t *order, size_t n, int erase)
+{
+    size_t i, j;
+    for (i = 0; i < n; i++) {
+        for (j = i; j < n; j++) {
+            struct arguments a = IN_ORDER;
+            spoil(&a, order[j]);
+            spoil(&a, order[i]);
+            refused("grounds of a call with a map, in their order", &a, erase, order[i]);
+        }
+    }
+}
+
+/* Lengths of the map that another item, another shape or another layout would have. */
+struct known_map_length {
+    const char *what;
+    uint32_t bytes;
+    uint32_t strips;
+    size_t map_len;
+};
+
+static const struct known_map_length KNOWN_MAP_LENGTHS[] = {
+    {"no map", 1, 1, 0},
+    {"a map of 1 byte", 1, 1, 1},
+    {"a map of 3 bytes", 1, 1, 3},
+    {"a map of 4 bytes", 1, 1, 4},
+    {"a map as long as the page", 1, 1, 6},
+    {"no map, L = 2, S = 3", 2, 3, 0},
+    {"a map of one strip, L = 2, S = 3", 2, 3, 4},
+    {"a map as long as the data, L = 2, S = 3", 2, 3, 6},
+    {"a map of 11 bytes, L = 2, S = 3", 2, 3, 11},
+    {"a map of 13 bytes, L = 3, S = 2", 3, 2, 13},
+    {"a map as long as the page, L = 3, S = 2", 3, 2, 36},
+};
+
+static void known_mapped_refusals(void)
+{
+    static const uint32_t of_writes[] = {1, 2, 3, 9, 4, 11, 5, 7};
+    static const uint32_t of_erases[] = {2, 3, 4, 11, 8};
+    size_t i;
+    grounds_in_order(of_writes, sizeof of_writes / sizeof *of_writes, 0);
+    grounds_in_order(of_erases, sizeof of_erases / sizeof *of_erases, 1);
+    for (i = 0; i < sizeof KNOWN_MAP_LENGTHS / sizeof *KNOWN_MAP_LENGTHS; i++) {
+        const struct known_map_length *k = &KNOWN_MAP_LENGTHS[i];
+        struct arguments a = IN_ORDER;
+        a.bytes = k->bytes;
+        a.strips = k->strips;
+        a.page_len = SEGRUNOV_PAGE_BYTES(k->bytes, k->strips);
+        a.map_len = k->map_len;
+        a.data_len = SEGRUNOV_DATA_BYTES(k->bytes, k->strips);
+        refused(k->what, &a, 0, SEGRUNOV_MAP_LENGTH);
+        refused(k->what, &a, 1, SEGRUNOV_MAP_LENGTH);
+    }
+}
+
 static void all(void)
 {
     known_writes();
     known_weighted();
+    known_mapped();
+    only_zeros();
+    ledger();
     known_runs();
     known_refusals();
     known_weight_refusals();
     known_erases();
+    known_mapped_erases();
+    known_mapped_refusals();
 }
 
 #ifdef FREESTANDING

@@ -50,12 +50,18 @@ def sums_of(generator, memory):
     return sum((generator >> (memory - i) & 1) << i for i in range(memory + 1))
 
 
+def highest(strip, marks, c):
+    """The highest level that cell c of a strip may take: its own where the strip's part of a map marks it (document 02, K3)."""
+    return level(strip, c) if bit(marks, c) else 3
+
+
 @functools.cache
-def choices(weights, old_a, old_b):
-    """For each pair of bits that the cells of a stage can show, of all levels not below the old ones: the least cost, then the lowest levels."""
+def choices(weights, old_a, old_b, top_a, top_b):
+    """For each pair of bits that the cells of a stage can show, of all levels not below the old ones nor above the tops: the least cost, then the
+    lowest levels."""
     best = {}
-    for x in range(old_a, 4):
-        for y in range(old_b, 4):
+    for x in range(old_a, top_a + 1):
+        for y in range(old_b, top_b + 1):
             way = climb(weights, old_a, x) + climb(weights, old_b, y), bytes((x, y))
             shown = x % 2, y % 2
             best[shown] = min(way, best.get(shown, way))
@@ -63,7 +69,7 @@ def choices(weights, old_a, old_b):
 
 
 @functools.cache
-def write_strip(code, weights, strip, data):
+def write_strip(code, weights, strip, marks, data):
     """The strip after the write and its cost, or None: the least cost, then the lowest levels at the first cell that differs.
 
     All that the rest of a strip depends on is what the cells so far add to the data bits to come: of the ways that add the same, the best is kept.
@@ -72,7 +78,9 @@ def write_strip(code, weights, strip, data):
     sums_a, sums_b = sums_of(g2, memory), sums_of(g1, memory)
     best = {0: (0, b"")}
     for t in range(8 * len(data)):
-        steps = [(a * sums_a ^ b * sums_b, *way) for (a, b), way in choices(weights, level(strip, 2 * t), level(strip, 2 * t + 1)).items()]
+        pair = 2 * t, 2 * t + 1
+        ways = choices(weights, *(level(strip, c) for c in pair), *(highest(strip, marks, c) for c in pair))
+        steps = [(a * sums_a ^ b * sums_b, *way) for (a, b), way in ways.items()]
         data_bit = bit(data, t)
         following = {}
         for so_far, (cost, levels) in best.items():
@@ -95,11 +103,16 @@ def write_strip(code, weights, strip, data):
     return bytes(after), cost
 
 
-def write_page(code, length, strips, page, data, weights=HOUSE):
-    """The page after, the answer's number and the cost. The run program writes with the house's weights."""
+def part(data, size, k):
+    return data[size * k : size * (k + 1)]
+
+
+def write_page(code, length, strips, page, data, weights=HOUSE, marks=None):
+    """The page after, the answer's number and the cost. The run program writes with the house's weights and no map."""
+    marks = marks or bytes(2 * length * strips)
     after, cost = b"", 0
     for k in range(strips):
-        found = write_strip(code, weights, page[6 * length * k : 6 * length * (k + 1)], data[length * k : length * (k + 1)])
+        found = write_strip(code, weights, part(page, 6 * length, k), part(marks, 2 * length, k), part(data, length, k))
         if found is None:
             return page, 7, 0
         after, cost = after + found[0], cost + found[1]
