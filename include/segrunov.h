@@ -37,8 +37,8 @@
  * marked cell at its level: one that shows the bit that is wanted serves as it is and costs nothing. So an erased page can be spent, and another
  * erase does not help: with every cell marked at level 0 it takes only zeros. A call without a map means a map with no cell marked: with a map of
  * zeros a call that takes one is the call that takes none, answer and page. Marking more cells never makes a write cheaper, and never makes a spent
- * page take the data. The map may be another one in each call, as cells wear out. What a page reads as goes by all its cells, so segrunov_read takes
- * no map.
+ * page take the data. The map may be another one in each call, as cells wear out; examples/worn.c finds them, and keeps the map beside the page. What
+ * a page reads as goes by all its cells, so segrunov_read takes no map.
  *
  * THE FLASH. An erased page is zeros here, and a write turns zeros into ones. Nearly every NOR part has it the other way: an erase makes ones, and
  * programming turns ones into zeros. Its driver complements every byte, on load and on program (examples/relay.c); the calls need not know. No bit has
