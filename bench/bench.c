@@ -1,5 +1,5 @@
 /*
- * The library, with and without weights, beside three Rust programs and two decoders of the same trellis.
+ * The library, with and without weights and maps, beside three Rust programs and two decoders of the same trellis.
  *
  *   bench FILE [ROUNDS]        the table of one run, and a plot into FILE: how time grows with L and S
  *   bench --tried [ROUNDS]     the shapes that were tried in 16 and 8 bits
@@ -252,6 +252,89 @@ static void check(int code_count)
     printf("All programs agree on %lu calls of all L and S, %lu of them spent.\n\n", compared_calls, spent_calls);
 }
 
+/* ---------------------------------------------------------------- maps */
+
+/* Calls without a map, with one that marks nothing, and with one that marks two of each sixteen cells: the first cell of each block of eight stages, and
+ * the second cell of the block's fifth stage. So every block has marks, and none of the pages is spent. */
+enum { NO_MAP, MAP_OF_ZEROS, WORN, MAPS };
+
+static uint8_t map[SEGRUNOV_MAP_BYTES(MOST, MOST)];
+
+static void make_map(int which)
+{
+    for (size_t i = 0; i < sizeof map; i++) {
+        map[i] = (uint8_t)(which == WORN ? 1U << (i % 2) : 0U);
+    }
+}
+
+static double timed_with(int which, int call, uint8_t *page, uint64_t *answer)
+{
+    const size_t map_length = SEGRUNOV_MAP_BYTES(job.bytes, job.strips);
+    memcpy(page, job.page, page_length());
+    make_map(which);
+    const double began = seconds();
+    if (which == NO_MAP) {
+        *answer = call == 0 ? weighted_price(job.code, job.bytes, job.strips, page, page_length(), job.data, data_length())
+                            : weighted_write(job.code, job.bytes, job.strips, page, page_length(), job.data, data_length());
+    } else {
+        *answer = call == 0 ? segrunov_price_mapped(job.code, job.bytes, job.strips, SEGRUNOV_HOUSE_W1, SEGRUNOV_HOUSE_W2, SEGRUNOV_HOUSE_W3, page,
+                                                    page_length(), map, map_length, job.data, data_length())
+                            : segrunov_write_mapped(job.code, job.bytes, job.strips, SEGRUNOV_HOUSE_W1, SEGRUNOV_HOUSE_W2, SEGRUNOV_HOUSE_W3, page,
+                                                    page_length(), map, map_length, job.data, data_length());
+    }
+    return seconds() - began;
+}
+
+/* The three bits of a cell. */
+static unsigned cell_bits(const uint8_t *page, size_t cell)
+{
+    unsigned bits = 0;
+    for (size_t k = 3 * cell; k < 3 * cell + 3; k++) {
+        bits = 2 * bits + ((unsigned)page[k / 8] >> (k % 8) & 1U);
+    }
+    return bits;
+}
+
+/* Whether a written page reads as the data and has the marked cells as they were. */
+static int kept(const uint8_t *page)
+{
+    static uint8_t out[DATA];
+    if (SEGRUNOV_NUMBER(segrunov_read(job.code, job.bytes, job.strips, page, page_length(), out, data_length())) != SEGRUNOV_DONE ||
+        memcmp(out, job.data, data_length()) != 0) {
+        return 0;
+    }
+    make_map(WORN);
+    for (size_t cell = 0; cell < cells(); cell++) {
+        if ((map[cell / 8] >> (cell % 8) & 1U) != 0 && cell_bits(page, cell) != cell_bits(job.page, cell)) {
+            return 0;
+        }
+    }
+    return 1;
+}
+
+/* One price and one write with each map, another one first each time: a map of zeros changes nothing, and what a marked page costs is what its price said. */
+static void compared_maps(double times[CALLS][MAPS])
+{
+    static uint8_t pages[CALLS][MAPS][PAGE];
+    static int turn;
+    uint64_t answers[CALLS][MAPS];
+    turn++;
+    for (int call = 0; call < CALLS; call++) {
+        for (int i = 0; i < MAPS; i++) {
+            const int m = (i + turn) % MAPS;
+            times[call][m] = timed_with(m, call, pages[call][m], &answers[call][m]);
+        }
+        if (answers[call][MAP_OF_ZEROS] != answers[call][NO_MAP] || memcmp(pages[call][MAP_OF_ZEROS], pages[call][NO_MAP], page_length()) != 0) {
+            printf("bench: a %s with a map of zeros differs from one without a map\n", calls[call]);
+            exit(1);
+        }
+    }
+    if (SEGRUNOV_NUMBER(answers[1][WORN]) != SEGRUNOV_DONE || answers[0][WORN] != answers[1][WORN] || !kept(pages[1][WORN])) {
+        printf("bench: a write with marked cells is spent, costs something else than its price, or does not keep the marked cells\n");
+        exit(1);
+    }
+}
+
 /* ---------------------------------------------------------------- times */
 
 static double least(double x, double y)
@@ -291,6 +374,44 @@ static void round_of_calls(int first_code, int code_count, int first_kind, int k
                     b[p] = is_first ? times[p] : least(b[p], times[p]);
                 }
             }
+        }
+    }
+}
+
+static double best_mapped[CODES][KINDS][CALLS][MAPS];
+
+/* One round of a page with maps. */
+static void round_of_maps(uint32_t bytes, uint32_t strips, int is_first)
+{
+    job.bytes = bytes;
+    job.strips = strips;
+    for (int c = 0; c < CODES; c++) {
+        for (int k = 0; k < KINDS; k++) {
+            double times[CALLS][MAPS];
+            job.code = codes[c];
+            make_page(k);
+            new_data();
+            compared_maps(times);
+            for (int call = 0; call < CALLS; call++) {
+                for (int m = 0; m < MAPS; m++) {
+                    double *b = &best_mapped[c][k][call][m];
+                    *b = is_first ? times[call][m] : least(*b, times[call][m]);
+                }
+            }
+        }
+    }
+}
+
+static void measure_maps(uint32_t bytes, uint32_t strips, int rounds)
+{
+    for (int i = 0; i < rounds; i++) {
+        round_of_maps(bytes, strips, i == 0);
+    }
+    for (int c = 0; c < CODES; c++) {
+        for (int k = 0; k < KINDS; k++) {
+            const double *price = best_mapped[c][k][0], *write = best_mapped[c][k][1];
+            printf("| L = %u, S = %u | %u | %s | %.3f | %.3f | %.3f | %.3f |\n", (unsigned)bytes, (unsigned)strips, (unsigned)codes[c], kinds[k],
+                   price[MAP_OF_ZEROS] / price[NO_MAP], price[WORN] / price[NO_MAP], write[MAP_OF_ZEROS] / write[NO_MAP], write[WORN] / write[NO_MAP]);
         }
     }
 }
@@ -345,6 +466,10 @@ static void measure(int rounds)
             printf("| %u | %s | %.3f | %.3f |\n", (unsigned)codes[c], kinds[k], price[WEIGHTED] / price[SEGRUNOV], write[WEIGHTED] / write[SEGRUNOV]);
         }
     }
+    printf("\n| with a map, over the same call without one | code | page | price, map of zeros | price, worn | write, map of zeros | write, worn |\n"
+           "|---|---|---|---|---|---|---|\n");
+    measure_maps(MOST, MOST, rounds);
+    measure_maps(1, 1, 100 * rounds);
     printf("\n| decoder | its time | segrunov's write, code 7, over it: erased | half-full | random |\n|---|---|---|---|---|\n");
     print_decoder("libosmocore", osmocore);
     print_decoder("libfec", fec);

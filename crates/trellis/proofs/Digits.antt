@@ -1,20 +1,24 @@
 -- Digits of some bits each, packed into a number, and numbers stored one after the other.
 --   packed-less   n digits of w bits each fit n times w bits, and more (packed-fits)
---   packed-more   a digit more, as the code adds it
+--   packed-next   a digit more, and as a shift within 64 bits (packed-more)
 --   packed-bits   b bits of digit i, from bit r on; the whole digit (packed-at)
 --   packed-self   a number is packed from its digits
 --   packed-times  a multiple of a packed number, by its digits
 --   stored        a list with n numbers stored from place p on, as long as before (length-stored)
 --   stored-at     the numbers stored, and every other place as it was (stored-other)
+--   stored-more   a loop that stores n numbers a turn
 use mathlib.Core.Path.{_≡_, refl, sym, _∙_, ap, ap₂}
 use mathlib.Core.Logic.{⊎-elim}
+use mathlib.Core.Bool.{Bool, true, false}
 use mathlib.Core.List.{List}
 use Prim.Native.Nat.{ℕ, zero, suc, _+_, _*_, _-_, _/_, _%_, _^_, _<_, _≤_}
 use native.Mathlib.Omega.{arith, ne-cases}
 use native.Mathlib.Nat.{not-suc-le-zero, mod-eq-of-lt, mul-assoc, mul-add, mul-le-mul-left, mul-le-mul-right, add-mul-div-right, add-mul-mod-self-right}
+use lib.Dec.{ltb}
 use lib.ListN.{length, getD, set, length-set}
 use lib.Pow.{pow-add, pow-pos, pow-mono, high, shr-shr, shl-exact, mod-pow-add}
 use lib.Seq.{getD-set-same, getD-set-other}
+use borrow.Author.Tests.{ltb-true, ltb-false}
 use Rattle.cells.proofs.Places.{same?}
 use Rattle.cells.proofs.Parts.{within}
 use Rattle.trellis.specs.Rows.{packedOf}
@@ -43,12 +47,14 @@ module _ (w : ℕ) (f : ℕ → ℕ) (f-less : (i : ℕ) → f i < 2 ^ w) where
   pub packed-fits : (n m : ℕ) → n ≤ m → packedOf w f n < 2 ^ (w * m)
   packed-fits n m h = omega (arith, packed-less n, pow-mono (mul-le-mul-left w h))
 
+  -- a digit more, at its place
+  pub packed-next : (i : ℕ) {out x : ℕ} → out ≡ packedOf w f i → x ≡ f i * 2 ^ (w * i) → out + x ≡ packedOf w f (i + 1)
+  unfolding packedOf
+  packed-next i e h = let s : suc i ≡ i + 1 = omega arith in ap₂ _+_ e h ∙ ap (packedOf w f) s
+
   -- a digit more, shifted to its place within 64 bits
   pub packed-more : (i out : ℕ) → w + w * i ≤ 64 → out ≡ packedOf w f i → out + (f i * 2 ^ (w * i)) % 2 ^ 64 ≡ packedOf w f (i + 1)
-  unfolding packedOf
-  packed-more i out h e =
-      let s : suc i ≡ i + 1 = omega arith in
-      ap₂ _+_ e (shl-exact w (w * i) 64 (f-less i) h) ∙ ap (packedOf w f) s
+  packed-more i out h e = packed-next i e (shl-exact w (w * i) 64 (f-less i) h)
 
   -- b bits of digit i, from its bit r on
   pub packed-bits : (n i r b : ℕ) → i < n → r + b ≤ w → packedOf w f n / 2 ^ (w * i + r) % 2 ^ b ≡ f i / 2 ^ r % 2 ^ b
@@ -123,3 +129,19 @@ module _ (l : List ℕ) (p : ℕ) (f : ℕ → ℕ) where
       getD-set-other (stored l p f n) (p + n) (p + j) (f n) 0 (λ z. d (omega arith))
       ∙ stored-at n j (omega arith) (ne-cases j n (j < n) d (λ z. z) (λ z. omega arith)))
       (same? j n)
+
+-- STORES, n at a time: a loop that has stored g at the places before p has stored it before p + n
+pub stored-more : (l : List ℕ) (p n : ℕ) (f g : ℕ → ℕ) → p + n ≤ length l → ((j : ℕ) → j < n → f j ≡ g (p + j))
+    → ((k : ℕ) → k < p → getD l k 0 ≡ g k) → (k : ℕ) → k < p + n → getD (stored l p f n) k 0 ≡ g k
+stored-more l p n f g h e before k i =
+    go (ltb k p) refl
+  where
+    go : (b : Bool) → ltb k p ≡ b → getD (stored l p f n) k 0 ≡ g k
+    go true t =
+        let m : k < p = ltb-true k p t in
+        stored-other l p f n k (λ j z y. omega arith) ∙ before k m
+    go false t =
+        let m : p ≤ k = ltb-false k p t in
+        let z : p + (k - p) ≡ k = omega arith in
+        let q : k - p < n = omega arith in
+        rw (← z) (stored-at l p f n (k - p) h q ∙ e (k - p) q)

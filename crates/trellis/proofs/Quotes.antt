@@ -1,14 +1,15 @@
 -- THE ROWS: the table of prices, the rows that a block picks, and what they tell of its stages.
 --   steps-le, steps-are         the steps of three weights of a byte each, and of marked cells
 --   price-nothing, price-step   what a cell costs to show a bit, in 256ths
---   price-cut, table-filled     the price of a word, and the table of all
+--   row-price, row-cut          what a word of a row costs, by the row's cells and label, and in 256ths
+--   table-filled                the table of all
 --   pairList, pairs-le          the program's table of pairs, none of them above 63
 --   row-added, row-less         a row as the program adds it up, which is a byte
+--   plain-le, row-plain         a pair and a row without marks
 --   picks-are                   eight rows packed are picked one by one, counted round
 --   bits-bit, bits-less         the 48 bits of a block are bits of the strip
 --   marks-two                   two of its 16 marks are a stage's
 --   six-bit, pair-levels        six of its bits are a stage's, and give the levels of its two cells
---   row-price                   what a word of a row costs, by the row's cells and label
 --   price-told                  the price of a bit tells the price of the plain search
 --   row-quoted                  THE MAIN LAW: the row that a block picks tells the prices of its stage, and the bit that wins a tie
 use mathlib.Core.Path.{_≡_, refl, sym, _∙_, ap, ap₂}
@@ -17,7 +18,7 @@ use mathlib.Core.List.{List, [], _∷_, _++_}
 use mathlib.Core.Option.{none, some}
 use Prim.Native.Nat.{ℕ, zero, suc, _+_, _-_, _*_, _/_, _%_, _^_, _<_, _≤_, min}
 use native.Mathlib.Omega.{arith}
-use native.Mathlib.Nat.{mod-lt, zero-lt-suc, min-eq-left, min-eq-right, min-le-right}
+use native.Mathlib.Nat.{mod-lt, zero-lt-suc, zero-div, min-eq-left, min-eq-right, min-le-right}
 use lib.Dec.{eqb, ltb}
 use lib.ListN.{length, getD, replicate, getD-replicate, List·getD-append, List·getD-eq-default}
 use lib.Seq.{getD-append-add}
@@ -98,11 +99,23 @@ cut-both x y = go (ltb (x + y) closed) refl
         let p : top ≤ 256 * x + 256 * y = omega arith in
         rw (min-eq-right p, min-eq-right l)
 
--- the price at place k by those of its two cells
-pub price-cut : (steps : List ℕ) (k x y : ℕ) → x ≡ 256 * priceFor steps (k / 4 % 8) (k % 2)
-    → y ≡ 256 * priceFor steps (k / 32 % 4) ((k / 2 + k / 128) % 2) → min (x + y) top ≡ 256 * rowPrice steps k
+-- THE PRICES of a row are those of its two cells
+row-price : (steps : List ℕ) (r j : ℕ) → r < 64 → j ≤ 3 → rowPrice steps (4 * r + j)
+    ≡ min (priceFor steps (r % 8) (j % 2) + priceFor steps (r / 8 % 4) ((j / 2 + r / 32) % 2)) closed
 unfolding rowPrice
-price-cut steps k x y e f = rw (e, f) (cut-both _ _)
+row-price steps r j h l =
+    let a : (4 * r + j) / 4 ≡ r = omega arith in
+    let b : (4 * r + j) % 2 ≡ j % 2 = omega arith in
+    let c : (4 * r + j) / 32 ≡ r / 8 = omega arith in
+    let d : (4 * r + j) / 2 ≡ 2 * r + j / 2 = omega arith in
+    let e : (4 * r + j) / 128 ≡ r / 32 = omega arith in
+    let f : (2 * r + j / 2 + r / 32) % 2 ≡ (j / 2 + r / 32) % 2 = omega arith in
+    rw (a, b, c, d, e, f)
+
+-- so is the price that the program makes of them, in 256ths
+pub row-cut : (steps : List ℕ) (r j x y : ℕ) → r < 64 → j ≤ 3 → x ≡ 256 * priceFor steps (r % 8) (j % 2)
+    → y ≡ 256 * priceFor steps (r / 8 % 4) ((j / 2 + r / 32) % 2) → min (x + y) top ≡ 256 * rowPrice steps (4 * r + j)
+row-cut steps r j x y h l e f = rw (e, f, row-price steps r j h l) (cut-both _ _)
 
 -- no price is more than closed
 price-le : (steps : List ℕ) (k : ℕ) → rowPrice steps k ≤ closed
@@ -173,6 +186,17 @@ module _ (bits marks labels i : ℕ) where
   row-less =
       let b : labels / 2 ^ (7 - i) % 2 ≤ 1 = omega arith in
       omega (arith, row-added, pairs-le (bits / 2 ^ (6 * i)) (marks / 2 ^ (2 * i)))
+
+-- WITHOUT MARKS the first quarter of the table is in use
+pub plain-le : (x : ℕ) → getD pairList (x % 64) 0 ≤ 63
+plain-le x = let e : x % 64 + 64 * (0 % 4) ≡ x % 64 = omega arith in rw e at (pairs-le x 0)
+
+-- and a row is the same
+pub row-plain : (bits labels i : ℕ)
+    → getD pairList (bits / 2 ^ (6 * i) % 64) 0 + labels / 2 ^ (7 - i) % 2 * 32 ≡ stageRow bits 0 labels i
+row-plain bits labels i =
+    let e : bits / 2 ^ (6 * i) % 64 + 64 * (0 % 4) ≡ bits / 2 ^ (6 * i) % 64 = omega arith in
+    (rw (zero-div (2 ^ (2 * i)), e) at (row-added bits 0 labels i))
 
 -- eight rows packed are picked one by one, counted round
 pub picks-are : (bits marks labels picks : ℕ) → picks ≡ packedOf 8 (stageRow bits marks labels) 8 → (i : ℕ) → i < 8
@@ -314,19 +338,6 @@ pair-cells strip map strip-bytes map-bytes q i h =
     let s : (m + 2 * n) % 2 ≡ m = omega (arith, one-if-le (marksIn map c)) in
     let t : (m + 2 * n) / 2 ≡ n = omega (arith, one-if-le (marksIn map c)) in
     rw (l .0, l .1, marks-two map map-bytes q i h, s, t)
-
--- THE PRICES of a row are those of its two cells
-pub row-price : (steps : List ℕ) (r j : ℕ) → r < 64 → j ≤ 3 → rowPrice steps (4 * r + j)
-    ≡ min (priceFor steps (r % 8) (j % 2) + priceFor steps (r / 8 % 4) ((j / 2 + r / 32) % 2)) closed
-unfolding rowPrice
-row-price steps r j h l =
-    let a : (4 * r + j) / 4 ≡ r = omega arith in
-    let b : (4 * r + j) % 2 ≡ j % 2 = omega arith in
-    let c : (4 * r + j) / 32 ≡ r / 8 = omega arith in
-    let d : (4 * r + j) / 2 ≡ 2 * r + j / 2 = omega arith in
-    let e : (4 * r + j) / 128 ≡ r / 32 = omega arith in
-    let f : (2 * r + j / 2 + r / 32) % 2 ≡ (j / 2 + r / 32) % 2 = omega arith in
-    rw (a, b, c, d, e, f)
 
 -- a cell shows the bit b just where its level is as odd
 shows : (l : ℕ) (b : Bool) → eqb (l % 2) (one-if b) ≡ Bool·beq (odd l) b

@@ -3,10 +3,10 @@
 use stages::CLOSED;
 use stages::stage::least;
 ghost use mathlib.Core.Path.{_≡_};
-ghost use Prim.Native.Nat.{ℕ, _+_, _*_, _<_, _≤_};
+ghost use Prim.Native.Nat.{ℕ, _+_, _-_, _*_, _/_, _%_, _^_, _<_, _≤_};
 ghost use lib.ListN.{length, getD};
 ghost use Rattle.stages.specs.Stage.{closed, top};
-ghost use Rattle.trellis.specs.Rows.{stepList, priceFor, Table, stageRow, packedOf, bitsAt, marksAt};
+ghost use Rattle.trellis.specs.Rows.{stepList, priceFor, rowPrice, Table, stageRow, packedOf, bitsAt, marksAt};
 
 // The cells of a stage by their six bits and their two marks: the first cell's level, and 4 more where it is marked; eight times that of
 // the second, which is 3 where it is marked, and 32 more where it is and shows 0.
@@ -288,19 +288,41 @@ fn price_for(steps: [u32; 8], kind: usize, v: usize) -> u32
     if kind % 2 == v { 0 } else { 256 * w }
 }
 
-// The table of rows by the weights: row r has the first cell's kind r mod 8, the second cell's level r div 8 mod 4 and the label r div 32.
-// A word that is closed costs closed, however many of its cells are.
+// The prices of the four words of a row: it has the first cell's kind r mod 8, the second cell's level r div 8 mod 4 and the label r div
+// 32. A word that is closed costs closed, however many of its cells are.
+fn row_prices(steps: [u32; 8], r: usize) -> [u32; 4]
+    requires { ⌜ (r < 64) × ((i : ℕ) → getD steps i 0 ≤ closed) ⌝ }
+    ensures { λ p. ⌜ ((j : ℕ) → j < 4 → getD p j 0 ≡ 256 * rowPrice steps (4 * r + j)) ⌝ }
+{
+    let label = r / 32;
+    let a = price_for(steps, r % 8, 0);
+    let b = price_for(steps, r % 8, 1);
+    let c = price_for(steps, r / 8 % 4, label);
+    let d = price_for(steps, r / 8 % 4, 1 - label);
+    let most = CLOSED * 256;
+    [
+        least(a + c, most),
+        least(b + c, most),
+        least(a + d, most),
+        least(b + d, most),
+    ]
+}
+
+// The table of rows by the weights.
 pub fn rows_of(weights: [u8; 3]) -> [u32; 256]
     ensures { λ r. ⌜ Table weights r ⌝ }
 {
     let steps = steps_of(weights);
     let mut rows = [0u32; 256];
-    let mut k: usize = 0;
-    while k < 256 {
-        let first = price_for(steps, k / 4 % 8, k % 2);
-        let second = price_for(steps, k / 32 % 4, (k / 2 + k / 128) % 2);
-        rows[k] = least(first + second, CLOSED * 256);
-        k += 1;
+    let mut r: usize = 0;
+    while r < 64 {
+        let p = row_prices(steps, r);
+        let k = 4 * r;
+        rows[k] = p[0];
+        rows[k + 1] = p[1];
+        rows[k + 2] = p[2];
+        rows[k + 3] = p[3];
+        r += 1;
     }
     rows
 }
@@ -343,26 +365,47 @@ fn marks_of(map: &[u8], q: usize) -> u64
     (low + high * 256) as u64
 }
 
+// A stage's row at its byte: the pair of its cells, and its label.
+fn row_at(pair: u8, labels: u32, i: u32) -> u64
+    requires { ⌜ (pair < 64) × (i < 8) ⌝ }
+    ensures { λ r. ⌜ r ≡ (pair + labels / 2 ^ (7 - i) % 2 * 32) * 2 ^ (8 * i) ⌝ }
+{
+    let label = ((labels >> (7 - i)) % 2) as u64;
+    (pair as u64 + label * 32) << (8 * i)
+}
+
 // The rows of eight stages, by the 48 bits of their cells, their 16 marks and their labels, as the bytes of one number.
-fn picks_of(bits: u64, marks: u64, labels: u32) -> u64
+fn marked_picks(bits: u64, marks: u64, labels: u32) -> u64
     ensures { λ r. ⌜ r ≡ packedOf 8 (stageRow bits marks labels) 8 ⌝ }
 {
     let pairs = PAIRS;
     let mut picks: u64 = 0;
     let mut i: u32 = 0;
     while i < 8 {
-        let back = 7 - i;
         let six = (bits >> (6 * i)) % 64;
         let two = (marks >> (2 * i)) % 4;
-        let pair = pairs[(six + 64 * two) as usize] as u64;
-        let label = ((labels >> back) % 2) as u64;
-        picks += (pair + label * 32) << (8 * i);
+        picks += row_at(pairs[(six + 64 * two) as usize], labels, i);
         i += 1;
     }
     picks
 }
 
-// The rows of block q of a strip. A block without a mark is the rule, and the compiler makes a loop of its own of it.
+// The same of stages without a mark, which are the rule.
+fn plain_picks(bits: u64, labels: u32) -> u64
+    ensures { λ r. ⌜ r ≡ packedOf 8 (stageRow bits 0 labels) 8 ⌝ }
+{
+    let pairs = PAIRS;
+    let mut picks: u64 = 0;
+    let mut i: u32 = 0;
+    while i < 8 {
+        let six = (bits >> (6 * i)) % 64;
+        picks += row_at(pairs[six as usize], labels, i);
+        i += 1;
+    }
+    picks
+}
+
+// The rows of block q of a strip.
 pub fn picks_at(strip: &[u8], map: &[u8], q: usize, labels: u32) -> u64
     requires { ⌜ (6 * q + 6 ≤ length (now strip)) × (q < 64) ⌝ }
     ensures { λ r. ⌜ r ≡ packedOf 8 (stageRow (bitsAt (now (strip .entry)) q) (marksAt (now (map .entry)) q) labels) 8 ⌝ }
@@ -370,8 +413,8 @@ pub fn picks_at(strip: &[u8], map: &[u8], q: usize, labels: u32) -> u64
     let bits = bits_of(strip, q);
     let marks = marks_of(map, q);
     if marks == 0 {
-        picks_of(bits, 0, labels)
+        plain_picks(bits, labels)
     } else {
-        picks_of(bits, marks, labels)
+        marked_picks(bits, marks, labels)
     }
 }

@@ -12,26 +12,26 @@ bits-of-requires c κs = search needs
 marks-of-requires : tie.Need-marks-of-requires
 marks-of-requires c κs = search needs
 
-picks-of-requires : tie.Need-picks-of-requires
-picks-of-requires c κs = search needs
+plain-picks-requires : tie.Need-plain-picks-requires
+plain-picks-requires c κs = search needs
 
-picks-of-requires-2 : tie.Need-picks-of-requires-2
-picks-of-requires-2 c κs = search needs
+marked-picks-requires : tie.Need-marked-picks-requires
+marked-picks-requires c κs = search needs
 
 returns : tie.Need-returns
 returns c =
-    c .picks-of .ensures
+    c .plain-picks .ensures
     ∙ ap₂ (rows c) (c .before .before .before .bits-of .ensures) (sym (c .before .if1 .taken) ∙ c .before .before .marks-of .ensures)
   where
-    rows : tie.After-picks-of → ℕ → ℕ → ℕ
+    rows : tie.After-plain-picks → ℕ → ℕ → ℕ
     rows d bits marks = packedOf 8 (stageRow bits marks (d .before .before .before .before .before .before .args .labels)) 8
 
 returns-2 : tie.Need-returns-2
 returns-2 c =
-    c .picks-of2 .ensures ∙ ap₂ (rows c) (c .before .before .before .bits-of .ensures) (c .before .before .marks-of .ensures)
+    c .marked-picks .ensures ∙ ap₂ (rows c) (c .before .before .before .bits-of .ensures) (c .before .before .marks-of .ensures)
   where
-    rows : tie.After-picks-of2 → ℕ → ℕ → ℕ
+    rows : tie.After-marked-picks → ℕ → ℕ → ℕ
     rows d bits marks = packedOf 8 (stageRow bits marks (d .before .before .before .before .before .before .args .labels)) 8
 
 pub picks-at-spec : {M : Type 1} → statement M
-picks-at-spec = tie.close (tie.spec bits-of-requires marks-of-requires picks-of-requires picks-of-requires-2 returns returns-2)
+picks-at-spec = tie.close (tie.spec bits-of-requires marks-of-requires plain-picks-requires marked-picks-requires returns returns-2)
