@@ -17,23 +17,22 @@ use native.Mathlib.Omega.{arith}
 use native.Mathlib.Nat.{zero-div}
 use lib.ListN.{length, replicate}
 use Rattle.cells.specs.Places.{sumOf, Each, and-each}
-use Rattle.cells.specs.Bytes.{bitOf}
+use Rattle.cells.specs.Bytes.{bitOf, Octets}
 use Rattle.cells.specs.Levels.{level, raisesOf}
 use Rattle.cells.specs.Marks.{emptied}
 use Rattle.cells.proofs.Places.{zeros-at, sumOf-same, sumOf-add, sumOf-zero}
 use Rattle.cells.proofs.Marks.{emptied-length, emptied-kept, emptied-raises}
-use Rattle.codes.proofs.Layouts.{oneBit-cells, oneBit-bytes}
 use Rattle.search.specs.Layouts.{unmarked}
 use Rattle.demand.specs.Jobs.{pageCells}
-use Rattle.page.specs.Answers.{kept, markedBy, mapSize, groundWith, jobWith}
+use Rattle.demand.proofs.Demand.{page-cell}
+use Rattle.page.specs.Answers.{kept, markedBy, groundWith, jobWith}
 use Rattle.page.specs.Promise.{Promised, done, spent, refused}
 use Rattle.page.specs.Ledger.{cellsOn, raisesMade, Event, raised, erased, looked, Fair, fair-raise, fair-erase, fair-look}
 use Rattle.page.specs.Ledger.{pageAfter, counted, Call, Marking, writes, erases, looks, erasing, markedLevels}
 use Rattle.page.specs.Ledger.{eventOf, played, tallied}
 use Rattle.refusals.specs.declared.Refusal.{Refusal}
 use Rattle.page.specs.declared.Answer.{Answer}
-use Rattle.refusals.proofs.Refusals.{weighted-in-order}
-use Rattle.page.proofs.Promise.{wrote-by}
+use Rattle.page.proofs.Promise.{job-in-order, wrote-by}
 
 -- ERASED PAGES. Every bit is 0
 pub erased-bit : (n k : ℕ) → bitOf (replicate n 0) k ≡ 0
@@ -91,19 +90,12 @@ erase-leaves marks map page m =
     ∙ emptied-raises (markedBy map) page (cellsOn page)
     ∙ sumOf-same (cellsOn page) _ _ (λ c h. ap (λ (b : Bool). cond b (level page c) 0) (m c h))
 
--- THE CALLS. A call in order on a page of 6·L·S bytes speaks of all its cells
-all-cells : (L S : ℕ) (page : List ℕ) → length page ≡ 6 * L * S → cellsOn page ≡ 16 * L * S
-unfolding cellsOn
-all-cells L S page e = omega arith
-
-module _ (map : Option (List ℕ)) (W : List ℕ) (code L S : ℕ) (before content : List ℕ) where
-  -- they are the cells of its job
+-- THE CALLS. A write in order speaks of all cells of its page
+module _ (map : Option (List ℕ)) (W : List ℕ) (code L S : ℕ) (before content : List ℕ) (b : Octets content) where
   inside : groundWith map W code L S before content ≡ none → (c : ℕ) → c < cellsOn before
       → c < pageCells (jobWith map W code L S before content)
-  inside e c h =
-      let i = weighted-in-order (mapSize map) W code L S (length before) (length content) e in
-      let s : length before ≡ 6 * L * S = rw (oneBit-bytes L) at (i .2) in
-      rw (oneBit-cells L) (rw (all-cells L S before s) at h)
+  unfolding cellsOn
+  inside e c h = page-cell _ (job-in-order map W code L S before content b e) c (omega arith)
 
   -- a write lowers no cell and keeps the page's length, whatever its answer
   write-fair : {start : ℕ → ℕ} {after : List ℕ} {r : Answer} (base : ℕ)
@@ -126,7 +118,7 @@ pub call-fair : (start : ℕ → ℕ) (marks : ℕ → Bool) (page : List ℕ) {
     → Fair (markedLevels marks page) page (eventOf start c page)
 unfolding eventOf
 call-fair start marks page (writes {map} {W} {code} {L} {S} {content} {b} m) =
-    write-fair map W code L S page content (markedLevels marks page) (wrote-by start map W code L S page content b)
+    write-fair map W code L S page content b (markedLevels marks page) (wrote-by start map W code L S page content b)
 call-fair start marks page (erases {map} {L} {S} {tenths} m) = go (erasing map L S tenths page)
   where
     go : (g : Option Refusal) → Fair (markedLevels marks page) page (kept g (erased (emptied (markedBy map) page)) looked)
@@ -139,7 +131,7 @@ pub call-stays : (start : ℕ → ℕ) (marks : ℕ → Bool) (page : List ℕ) 
     → Stays marks page (pageAfter (eventOf start c page) page)
 unfolding eventOf
 call-stays start marks page (writes {map} {W} {code} {L} {S} {content} {b} m) =
-    let s = write-stays map W code L S page content (wrote-by start map W code L S page content b) in
+    let s = write-stays map W code L S page content b (wrote-by start map W code L S page content b) in
     record { size = s .size; same = λ c h k. s .same c h (m c h ∙ k) }
 call-stays start marks page (erases {map} {L} {S} {tenths} m) = go (erasing map L S tenths page)
   where

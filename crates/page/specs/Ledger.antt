@@ -1,4 +1,4 @@
--- The ledger of a page: its levels count the raises since it was last erased.
+-- The ledger of a page: its levels count the raises since it was last erased, and the levels of the marked cells, which no erase empties.
 --   cellsOn              every cell of a page of so many bytes
 --   raisesMade           the steps that the cells climb from one page to another
 --   Event, Fair          what can happen to a page, and what is asked of it
