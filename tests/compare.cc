@@ -527,7 +527,9 @@ struct Counts {
   std::array<std::uint64_t, 2> mapped_last{};       // spent in strip 63
   std::array<std::uint64_t, 2> mapped_kept{};       // writes of what is held
   std::array<std::uint64_t, 2> marked_one{};        // done with a marked cell that shows a one and could rise
-  std::array<std::uint64_t, 2> marks_decide{};      // done on another page than without marks
+  std::array<std::uint64_t, 2> marks_decide{};      // done, with another page than without marks
+  std::array<std::uint64_t, 2> decide_strips{};     // of these, with several strips and L another number than S
+  std::array<std::uint64_t, 2> decide_largest{};    // of these, with L and S both 64
   std::array<std::uint64_t, 2> marks_spend{};       // spent, and done without marks
   std::array<std::uint64_t, 2> erased_spent{};      // spent, though every cell is at level 0
   std::array<std::uint64_t, 2> all_marked_done{};   // with every cell marked
@@ -798,14 +800,18 @@ class Judge {
 
   void count_map(MapKind kind) { ++counts_.maps[kind]; }
 
-  // Data that some page above this one reads as with the marked cells kept, at times with a bit or two changed; or any.
+  // Data that some page above this one reads as with the marked cells kept, so that a write of it is done.
+  Bytes mapped_fitting_data(const Code& code, Shape shape, Bytes page, const Bytes& map) {
+    for (std::size_t n = 0; n < 8 * map.size(); ++n) {
+      if (chance(1, 3) && bit_at(map, n) == 0 && level_of(page, n) < kFull) raise_once(page, n);
+    }
+    return read_page(code, shape, page);
+  }
+
+  // Such data, at times with a bit or two changed; or any.
   Bytes mapped_data(const Code& code, Shape shape, const Bytes& page, const Bytes& map) {
     if (chance(1, 8)) return random_bytes(data_length(shape));
-    Bytes above = page;
-    for (std::size_t n = 0; n < 8 * map.size(); ++n) {
-      if (chance(1, 3) && bit_at(map, n) == 0 && level_of(above, n) < kFull) raise_once(above, n);
-    }
-    Bytes data = read_page(code, shape, above);
+    Bytes data = mapped_fitting_data(code, shape, page, map);
     const std::uint64_t flips = chance(1, 3) ? 1 + below(2) : 0;
     // in the last strip as a rule, so that a spent strip comes late
     const std::uint64_t among = 8 * (chance(1, 4) ? data.size() : std::uint64_t{shape.bytes});
@@ -908,15 +914,18 @@ class Judge {
       if (cheaper || (was_spent && !is_spent)) disagree("more marks make a write cheaper, or a spent page take the data", call, before, got);
       counts_.dearer[i] += !is_spent && got.answer > before.answer ? 1 : 0;
       counts_.spent_by_more[i] += is_spent && !was_spent ? 1 : 0;
-      if (marks == map) count_marks(i, unmarked, got);
+      if (marks == map) count_marks(i, shape, unmarked, got);
       before = got;
     }
   }
 
-  void count_marks(std::size_t i, const Outcome& unmarked, const Outcome& got) {
+  void count_marks(std::size_t i, Shape shape, const Outcome& unmarked, const Outcome& got) {
     const bool unmarked_done = SEGRUNOV_NUMBER(unmarked.answer) == SEGRUNOV_DONE;
     const bool done = SEGRUNOV_NUMBER(got.answer) == SEGRUNOV_DONE;
-    counts_.marks_decide[i] += done && got.page != unmarked.page ? 1 : 0;
+    const bool decide = done && got.page != unmarked.page;
+    counts_.marks_decide[i] += decide ? 1 : 0;
+    counts_.decide_strips[i] += decide && shape.strips > 1 && shape.strips != shape.bytes ? 1 : 0;
+    counts_.decide_largest[i] += decide && shape.strips == kMost && shape.bytes == kMost ? 1 : 0;
     counts_.marks_spend[i] += unmarked_done && !done ? 1 : 0;
   }
 
@@ -1370,6 +1379,11 @@ void mapped_page(Judge& judge, const Code& code, Shape shape, const Bytes& page,
   judge.judge_all_marked(code, shape, page, read_page(code, shape, page));
 }
 
+void fitting_mapped_write(Judge& judge, const Code& code, Shape shape, const Bytes& page, MapKind kind) {
+  const Bytes map = judge.map_of_kind(kind, shape);
+  judge.judge_mapped(code, shape, some_weights(judge), page, map, judge.mapped_fitting_data(code, shape, page, map));
+}
+
 void every_mapped_byte(Judge& judge, const Code& code, const Bytes& page, const Bytes& map) {
   const Weights weights = some_weights(judge);
   for (unsigned byte = 0; byte < 256; ++byte) judge.judge_mapped(code, Shape{1, 1}, weights, page, map, Bytes{static_cast<std::uint8_t>(byte)});
@@ -1410,8 +1424,10 @@ void mapped_shapes(Judge& judge, unsigned rounds) {
 void mapped_large_pages(Judge& judge) {
   for (const Shape shape : {Shape{64, 64}, Shape{64, 1}, Shape{1, 64}, Shape{63, 64}, Shape{64, 63}}) {
     for (const MapKind kind : kAllMapKinds) mapped_page(judge, kCodes[0], shape, judge.strip_of_kind(6, page_length(shape)), kind);
+    fitting_mapped_write(judge, kCodes[0], shape, judge.strip_of_kind(6, page_length(shape)), kFew);
     mapped_page(judge, kCodes[1], shape, judge.random_page(shape), kNearlyAll);
-    mapped_page(judge, kCodes[1], shape, judge.random_full_cells(page_length(shape), 3, 4), kHalf);
+    fitting_mapped_write(judge, kCodes[1], shape, judge.strip_of_kind(6, page_length(shape)), kNearlyAll);
+    fitting_mapped_write(judge, kCodes[1], shape, judge.random_full_cells(page_length(shape), 1, 2), kHalf);
     for (const Code& code : kCodes) {
       for (const MapKind kind : kAllMapKinds) {
         const Bytes page = judge.random_page(shape);
@@ -1541,6 +1557,8 @@ bool every_kind_met(const Counts& counts) {
   all = met_for_both_codes("mapped writes of what is held", counts.mapped_kept) && all;
   all = met_for_both_codes("marked cells that show a one", counts.marked_one) && all;
   all = met_for_both_codes("pages that the marks decide", counts.marks_decide) && all;
+  all = met_for_both_codes("of these with L other than S", counts.decide_strips) && all;
+  all = met_for_both_codes("of these with L and S both 64", counts.decide_largest) && all;
   all = met_for_both_codes("spent by marks alone", counts.marks_spend) && all;
   all = met_for_both_codes("spent by marks, though erased", counts.erased_spent) && all;
   all = met_for_both_codes("every cell marked, done", counts.all_marked_done) && all;
