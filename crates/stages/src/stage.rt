@@ -6,7 +6,7 @@ ghost use Rattle.cells.specs.Places.{Untouched};
 ghost use Rattle.stages.specs.Stage.{pick, StageAsked, HalfAsked, Staged};
 
 // The first for the digit 0, else the second.
-fn pick(d: u8, x: u32, y: u32) -> u32
+pub fn pick(d: u8, x: u32, y: u32) -> u32
     ensures { λ r. ⌜ r ≡ pick d x y ⌝ }
 {
     if d == 0 { x } else { y }

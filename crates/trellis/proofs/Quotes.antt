@@ -1,7 +1,8 @@
 -- THE ROWS: the table of prices, the rows that a block picks, and what they tell of its stages.
 --   steps-le, steps-are         the steps of three weights of a byte each, and of marked cells
 --   price-nothing, price-step   what a cell costs to show a bit, in 256ths
---   row-price, row-cut          what a word of a row costs, by the row's cells and label, and in 256ths
+--   row-shown, row-raised       what a word of a row costs: the second cell alone, or both
+--   second-label, second-other  what the second cell of a row costs
 --   table-filled                the table of all
 --   pairList, pairs-le          the program's table of pairs, none of them above 63
 --   row-added, row-less         a row as the program adds it up, which is a byte
@@ -43,7 +44,7 @@ use Rattle.search.specs.Parity.{keep-or-raise}
 use Rattle.search.specs.Plan.{solutionCost}
 use Rattle.search.specs.OneBit.{bitPrice, oneBitPrices}
 use Rattle.search.proofs.Windows.{mod-odd}
-use Rattle.stages.specs.Stage.{closed, top}
+use Rattle.stages.specs.Stage.{closed, top, pick}
 use Rattle.stages.specs.Blocks.{pickAt}
 use Rattle.stages.specs.Costs.{Tells, open-at, shut}
 use Rattle.stages.specs.Trails.{Quoted}
@@ -84,6 +85,15 @@ pub price-step : (steps : List ℕ) (l v : ℕ) → (l % 2 ≡ v → ⊥) → 25
 unfolding priceFor
 price-step steps l v e = rw (ne-eqb (l % 2) v e)
 
+-- and no more than closed
+pub price-most : (steps : List ℕ) → ((i : ℕ) → getD steps i 0 ≤ closed) → (l v : ℕ) → priceFor steps l v ≤ closed
+unfolding priceFor
+price-most steps cut l v = go (eqb (l % 2) v)
+  where
+    go : (b : Bool) → cond b 0 (getD steps l 0) ≤ closed
+    go true = omega arith
+    go false = cut l
+
 -- THE TABLE. Two numbers in 256ths, cut off at closed
 cut-both : (x y : ℕ) → min (256 * x + 256 * y) top ≡ 256 * min (x + y) closed
 cut-both x y = go (ltb (x + y) closed) refl
@@ -113,9 +123,52 @@ row-price steps r j h l =
     rw (a, b, c, d, e, f)
 
 -- so is the price that the program makes of them, in 256ths
-pub row-cut : (steps : List ℕ) (r j x y : ℕ) → r < 64 → j ≤ 3 → x ≡ 256 * priceFor steps (r % 8) (j % 2)
+row-cut : (steps : List ℕ) (r j x y : ℕ) → r < 64 → j ≤ 3 → x ≡ 256 * priceFor steps (r % 8) (j % 2)
     → y ≡ 256 * priceFor steps (r / 8 % 4) ((j / 2 + r / 32) % 2) → min (x + y) top ≡ 256 * rowPrice steps (4 * r + j)
 row-cut steps r j x y h l e f = rw (e, f, row-price steps r j h l) (cut-both _ _)
+
+-- a word that asks of the first cell the bit that it shows costs what the second does
+pub row-shown : (steps : List ℕ) → ((i : ℕ) → getD steps i 0 ≤ closed) → (r j y : ℕ) → r < 64 → j ≤ 3 → r % 2 ≡ j % 2
+    → y ≡ 256 * priceFor steps (r / 8 % 4) ((j / 2 + r / 32) % 2) → y ≡ 256 * rowPrice steps (4 * r + j)
+row-shown steps cut r j y h l e f =
+    let m : r % 8 % 2 ≡ j % 2 = omega arith in
+    let n : y ≤ top = omega (arith, price-most steps cut (r / 8 % 4) ((j / 2 + r / 32) % 2)) in
+    let z : 0 + y ≡ y = omega arith in
+    sym (rw z (min-eq-left n)) ∙ row-cut steps r j 0 y h l (price-nothing steps (r % 8) (j % 2) m) f
+
+-- any other costs the first cell's step too
+pub row-raised : (steps : List ℕ) (r j y : ℕ) → r < 64 → j ≤ 3 → (r % 2 ≡ j % 2 → ⊥)
+    → y ≡ 256 * priceFor steps (r / 8 % 4) ((j / 2 + r / 32) % 2)
+    → min (256 * getD steps (r % 8) 0 + y) top ≡ 256 * rowPrice steps (4 * r + j)
+row-raised steps r j y h l e f =
+    let m : r % 8 % 2 ≡ r % 2 = omega arith in
+    row-cut steps r j (256 * getD steps (r % 8) 0) y h l (price-step steps (r % 8) (j % 2) (λ z. e (sym m ∙ z))) f
+
+-- of two numbers whose sum is odd, the bit of the one is not that of the other
+unlike : (m b t : ℕ) → b ≤ 1 → (m + b) % 2 ≡ suc t → m % 2 ≡ 1 - b
+unlike m zero t h e = omega arith
+unlike m (suc zero) t h e = omega arith
+unlike m (suc (suc b)) t h e = absurd (let z : ⊥ = omega arith in z)
+
+-- THE SECOND CELL of a row, of which a word asks the label or the other bit
+module _ (steps : List ℕ) (r : ℕ) (h : r < 64) where
+  pub second-label : pick ((r / 8 + r / 32) % 2) 0 (256 * getD steps (r / 8 % 4) 0) ≡ 256 * priceFor steps (r / 8 % 4) (r / 32)
+  second-label = go ((r / 8 + r / 32) % 2) refl
+    where
+      go : (t : ℕ) → (r / 8 + r / 32) % 2 ≡ t
+          → pick t 0 (256 * getD steps (r / 8 % 4) 0) ≡ 256 * priceFor steps (r / 8 % 4) (r / 32)
+      go zero e = price-nothing steps (r / 8 % 4) (r / 32) (omega arith)
+      go (suc t) e = price-step steps (r / 8 % 4) (r / 32) (λ z. omega arith)
+
+  pub second-other : pick ((r / 8 + r / 32) % 2) (256 * getD steps (r / 8 % 4) 0) 0 ≡ 256 * priceFor steps (r / 8 % 4) (1 - r / 32)
+  second-other = go ((r / 8 + r / 32) % 2) refl
+    where
+      go : (t : ℕ) → (r / 8 + r / 32) % 2 ≡ t
+          → pick t (256 * getD steps (r / 8 % 4) 0) 0 ≡ 256 * priceFor steps (r / 8 % 4) (1 - r / 32)
+      go zero e = price-step steps (r / 8 % 4) (1 - r / 32) (λ z. omega arith)
+      go (suc t) e =
+          let m : r / 8 % 4 % 2 ≡ r / 8 % 2 = omega arith in
+          price-nothing steps (r / 8 % 4) (1 - r / 32) (m ∙ unlike (r / 8) (r / 32) t (omega arith) e)
 
 -- no price is more than closed
 price-le : (steps : List ℕ) (k : ℕ) → rowPrice steps k ≤ closed

@@ -2,11 +2,12 @@
 // stage, one bit a cell: a row is the kinds of the two cells and the label. Two bits a cell and three cells a stage will be other rows.
 use stages::CLOSED;
 use stages::stage::least;
+use stages::stage::pick;
 ghost use mathlib.Core.Path.{_≡_};
 ghost use Prim.Native.Nat.{ℕ, _+_, _-_, _*_, _/_, _%_, _^_, _<_, _≤_};
 ghost use lib.ListN.{length, getD};
-ghost use Rattle.stages.specs.Stage.{closed, top};
-ghost use Rattle.trellis.specs.Rows.{stepList, priceFor, rowPrice, Table, stageRow, packedOf, bitsAt, marksAt};
+ghost use Rattle.stages.specs.Stage.{closed};
+ghost use Rattle.trellis.specs.Rows.{stepList, rowPrice, Table, stageRow, packedOf, bitsAt, marksAt};
 
 // The cells of a stage by their six bits and their two marks: the first cell's level, and 4 more where it is marked; eight times that of
 // the second, which is 3 where it is marked, and 32 more where it is and shows 0.
@@ -279,33 +280,25 @@ fn steps_of(weights: [u8; 3]) -> [u32; 8]
     [a, b, c, CLOSED, CLOSED, CLOSED, CLOSED, CLOSED]
 }
 
-// What it costs in 256ths that a cell of a kind shows the bit v.
-fn price_for(steps: [u32; 8], kind: usize, v: usize) -> u32
-    requires { ⌜ (kind ≤ 7) × ((i : ℕ) → getD steps i 0 ≤ closed) ⌝ }
-    ensures { λ r. ⌜ (r ≡ 256 * priceFor steps kind v) × (r ≤ top) ⌝ }
-{
-    let w = steps[kind];
-    if kind % 2 == v { 0 } else { 256 * w }
-}
-
-// The prices of the four words of a row: it has the first cell's kind r mod 8, the second cell's level r div 8 mod 4 and the label r div
-// 32. A word that is closed costs closed, however many of its cells are.
+// The prices of the four words of row r, in 256ths: it has the first cell's kind r mod 8, the second cell's level r div 8 mod 4 and the
+// label r div 32. A cell pays where it does not show the bit that the word asks of it. A word that is closed costs closed, however many
+// of its cells are.
 fn row_prices(steps: [u32; 8], r: usize) -> [u32; 4]
     requires { ⌜ (r < 64) × ((i : ℕ) → getD steps i 0 ≤ closed) ⌝ }
     ensures { λ p. ⌜ ((j : ℕ) → j < 4 → getD p j 0 ≡ 256 * rowPrice steps (4 * r + j)) ⌝ }
 {
-    let label = r / 32;
-    let a = price_for(steps, r % 8, 0);
-    let b = price_for(steps, r % 8, 1);
-    let c = price_for(steps, r / 8 % 4, label);
-    let d = price_for(steps, r / 8 % 4, 1 - label);
-    let most = CLOSED * 256;
-    [
-        least(a + c, most),
-        least(b + c, most),
-        least(a + d, most),
-        least(b + d, most),
-    ]
+    let first = 256 * steps[r % 8];
+    let second = 256 * steps[r / 8 % 4];
+    let other = ((r / 8 + r / 32) % 2) as u8;
+    let a = pick(other, 0, second);
+    let b = pick(other, second, 0);
+    let c = least(first + a, CLOSED * 256);
+    let d = least(first + b, CLOSED * 256);
+    if r % 2 == 0 {
+        [a, c, b, d]
+    } else {
+        [c, a, d, b]
+    }
 }
 
 // The table of rows by the weights.
