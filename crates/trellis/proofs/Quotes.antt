@@ -150,6 +150,12 @@ unlike m zero t h e = omega arith
 unlike m (suc zero) t h e = omega arith
 unlike m (suc (suc b)) t h e = absurd (let z : ⊥ = omega arith in z)
 
+-- and where it is even, it is
+alike : (m b : ℕ) → b ≤ 1 → (m + b) % 2 ≡ 0 → m % 2 ≡ 1 - b → ⊥
+alike m zero h e f = omega arith
+alike m (suc zero) h e f = omega arith
+alike m (suc (suc b)) h e f = omega arith
+
 -- THE SECOND CELL of a row, of which a word asks the label or the other bit
 module _ (steps : List ℕ) (r : ℕ) (h : r < 64) where
   pub second-label : pick ((r / 8 + r / 32) % 2) 0 (256 * getD steps (r / 8 % 4) 0) ≡ 256 * priceFor steps (r / 8 % 4) (r / 32)
@@ -165,7 +171,9 @@ module _ (steps : List ℕ) (r : ℕ) (h : r < 64) where
     where
       go : (t : ℕ) → (r / 8 + r / 32) % 2 ≡ t
           → pick t (256 * getD steps (r / 8 % 4) 0) 0 ≡ 256 * priceFor steps (r / 8 % 4) (1 - r / 32)
-      go zero e = price-step steps (r / 8 % 4) (1 - r / 32) (λ z. omega arith)
+      go zero e =
+          let m : r / 8 % 4 % 2 ≡ r / 8 % 2 = omega arith in
+          price-step steps (r / 8 % 4) (1 - r / 32) (λ z. alike (r / 8) (r / 32) (omega arith) e (sym m ∙ z))
       go (suc t) e =
           let m : r / 8 % 4 % 2 ≡ r / 8 % 2 = omega arith in
           price-nothing steps (r / 8 % 4) (1 - r / 32) (m ∙ unlike (r / 8) (r / 32) t (omega arith) e)
