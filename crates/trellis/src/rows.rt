@@ -398,16 +398,18 @@ fn plain_picks(bits: u64, labels: u32) -> u64
     picks
 }
 
-// The rows of block q of a strip.
+// The rows of block q of a strip. A map with no byte marks nothing, and is not looked at.
 pub fn picks_at(strip: &[u8], map: &[u8], q: usize, labels: u32) -> u64
     requires { ⌜ (6 * q + 6 ≤ length (now strip)) × (q < 64) ⌝ }
     ensures { λ r. ⌜ r ≡ packedOf 8 (stageRow (bitsAt (now (strip .entry)) q) (marksAt (now (map .entry)) q) labels) 8 ⌝ }
 {
     let bits = bits_of(strip, q);
+    if map.len() == 0 {
+        return plain_picks(bits, labels);
+    }
     let marks = marks_of(map, q);
     if marks == 0 {
-        plain_picks(bits, labels)
-    } else {
-        marked_picks(bits, marks, labels)
+        return plain_picks(bits, labels);
     }
+    marked_picks(bits, marks, labels)
 }
