@@ -32,9 +32,9 @@ use Rattle.codes.specs.Blocks.{labelAt}
 use Rattle.codes.proofs.Taps.{low-bit, window-less}
 use Rattle.codes.proofs.Divisions.{xor-bit}
 use Rattle.codes.proofs.Windows.{window-byte, window-parity, label-bound}
-use Rattle.trellis.specs.Rows.{onesOf, bitsAt}
+use Rattle.trellis.specs.Rows.{onesOf, bitsAt, cellIn}
 use Rattle.trellis.specs.Carrying.{digitIn, wantedFirst, wantedSecond, wantedOf, carriedTo}
-use Rattle.trellis.specs.Carrying.{shownCell, cellIn, wantedBits, BlockShown, byteIn, withBits}
+use Rattle.trellis.specs.Carrying.{shownCell, wantedBits, BlockShown, byteIn, withBits}
 use Rattle.trellis.proofs.Quotes.{bits-bit}
 use Rattle.trellis.proofs.Shown.{threeBits, shown-bit, cell-bit, low-cell, high-cell}
 use Rattle.trellis.proofs.Digits.{stored, length-stored, stored-at, stored-other}

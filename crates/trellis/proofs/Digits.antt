@@ -3,7 +3,8 @@
 --   packed-next   a digit more, and as a shift within 64 bits (packed-more)
 --   packed-bits   b bits of digit i, from bit r on; the whole digit (packed-at)
 --   packed-self   a number is packed from its digits
---   packed-times  a multiple of a packed number, by its digits
+--   packed-times  a multiple of a packed number, by its digits, and a sum of two (packed-plus)
+--   packed-same   packed from the same digits
 --   stored        a list with n numbers stored from place p on, as long as before (length-stored)
 --   stored-at     the numbers stored, and every other place as it was (stored-other)
 --   stored-more   a loop that stores n numbers a turn
@@ -13,7 +14,7 @@ use mathlib.Core.Bool.{Bool, true, false}
 use mathlib.Core.List.{List}
 use Prim.Native.Nat.{ℕ, zero, suc, _+_, _*_, _-_, _/_, _%_, _^_, _<_, _≤_}
 use native.Mathlib.Omega.{arith, ne-cases}
-use native.Mathlib.Nat.{not-suc-le-zero, mod-eq-of-lt, mul-assoc, mul-add, mul-le-mul-left, mul-le-mul-right, add-mul-div-right, add-mul-mod-self-right}
+use native.Mathlib.Nat.{not-suc-le-zero, mod-eq-of-lt, mul-assoc, mul-add, add-mul, mul-le-mul-left, mul-le-mul-right, add-mul-div-right, add-mul-mod-self-right}
 use lib.Dec.{ltb}
 use lib.ListN.{length, getD, set, length-set}
 use lib.Pow.{pow-add, pow-pos, pow-mono, high, shr-shr, shl-exact, mod-pow-add}
@@ -36,7 +37,7 @@ bits-below x y r b e =
 -- DIGITS of w bits each
 module _ (w : ℕ) (f : ℕ → ℕ) (f-less : (i : ℕ) → f i < 2 ^ w) where
   -- n digits fit n times w bits
-  packed-less : (n : ℕ) → packedOf w f n < 2 ^ (w * n)
+  pub packed-less : (n : ℕ) → packedOf w f n < 2 ^ (w * n)
   unfolding packedOf
   packed-less zero = let e : w * 0 ≡ 0 = omega arith in rw e (omega arith)
   packed-less (suc n) =
@@ -91,6 +92,20 @@ packed-self w x zero = let e : w * 0 ≡ 0 = omega arith in rw e (omega arith)
 packed-self w x (suc n) =
     let e : w * suc n ≡ w + w * n = omega arith in
     rw (e, mod-pow-add x w (w * n)) (omega (arith, packed-self w x n))
+
+-- two packed numbers added, digit by digit
+pub packed-plus : (w : ℕ) (f g : ℕ → ℕ) (n : ℕ) → packedOf w f n + packedOf w g n ≡ packedOf w (λ i. f i + g i) n
+unfolding packedOf
+packed-plus w f g zero = refl
+packed-plus w f g (suc n) =
+    omega (arith, packed-plus w f g n, add-mul (f n) (g n) (2 ^ (w * n)))
+
+-- packed from the same digits
+pub packed-same : (w : ℕ) (f g : ℕ → ℕ) (n : ℕ) → ((i : ℕ) → i < n → f i ≡ g i) → packedOf w f n ≡ packedOf w g n
+unfolding packedOf
+packed-same w f g zero e = refl
+packed-same w f g (suc n) e =
+    ap₂ (λ (x y : ℕ). x + y * 2 ^ (w * n)) (packed-same w f g n (λ i h. e i (omega arith))) (e n (omega arith))
 
 -- a multiple of a packed number
 pub packed-times : (w k : ℕ) (f : ℕ → ℕ) (n : ℕ) → k * packedOf w f n ≡ packedOf w (λ i. k * f i) n

@@ -4,13 +4,11 @@
 --   row-shown, row-raised       what a word of a row costs: the second cell alone, or both
 --   second-label, second-other  what the second cell of a row costs
 --   table-filled                the table of all
---   pairList, pairs-le          the program's table of pairs, none of them above 63
---   row-added, row-less         a row as the program adds it up, which is a byte
---   plain-le, row-plain         a pair and a row without marks
+--   row-less, row-added         a row is a byte, as the program adds it up
 --   picks-are                   eight rows packed are picked one by one, counted round
 --   bits-bit, bits-less         the 48 bits of a block are bits of the strip
---   marks-two                   two of its 16 marks are a stage's
---   six-bit, pair-levels        six of its bits are a stage's, and give the levels of its two cells
+--   cell-level, cell-mark       the level and the mark of a cell of a block
+--   first-kind, second-kind     the two cells of a stage in its row
 --   price-told                  the price of a bit tells the price of the plain search
 --   row-quoted                  THE MAIN LAW: the row that a block picks tells the prices of its stage, and the bit that wins a tie
 use mathlib.Core.Path.{_≡_, refl, sym, _∙_, ap, ap₂}
@@ -48,10 +46,12 @@ use Rattle.stages.specs.Stage.{closed, top, pick}
 use Rattle.stages.specs.Blocks.{pickAt}
 use Rattle.stages.specs.Costs.{Tells, open-at, shut}
 use Rattle.stages.specs.Trails.{Quoted}
-use Rattle.trellis.specs.Rows.{stepList, priceFor, rowPrice, Table, Priced, onesOf, secondIn, pairOf, stageRow, bitsAt, marksAt, packedOf}
+use Rattle.trellis.specs.Rows.{stepList, priceFor, rowPrice, Table, Priced, onesOf, cellIn, markIn, secondIn, cellKind, stageRow, bitsAt, marksAt, packedOf}
 use Rattle.trellis.specs.Ways.{labelFor, cellFor, stageFor, quoteFor}
 use Rattle.trellis.proofs.Costs.{tells-add, tells-cut}
 use Rattle.trellis.proofs.Digits.{packed-bits}
+use Rattle.trellis.proofs.Shown.{cell-bit}
+use Rattle.trellis.proofs.Words.{pair-packed, kind-less}
 
 -- PRICES. Where no weight is more than a byte, no step is more than closed
 pub steps-le : (W : List ℕ) → ((i : ℕ) → getD W i 0 ≤ 255) → (i : ℕ) → getD (stepList W) i 0 ≤ closed
@@ -195,69 +195,20 @@ table-filled W steps rows s e p = record {
     go k true f = omega (arith, p k (ltb-true k 256 f), price-le steps k)
     go k false f = let l : length rows ≤ k = omega (arith, ltb-false k 256 f) in omega (arith, List·getD-eq-default rows 0 l)
 
--- THE PICKS. The program's table of pairs
-abbrev pub pairList : List ℕ
-pairList =
-    0 ∷ 1 ∷ 1 ∷ 2 ∷ 1 ∷ 2 ∷ 2 ∷ 3 ∷ 8 ∷ 9 ∷ 9 ∷ 10 ∷ 9 ∷ 10 ∷ 10 ∷ 11 ∷ 8 ∷ 9 ∷ 9 ∷ 10 ∷ 9 ∷ 10 ∷ 10 ∷ 11 ∷ 16 ∷ 17 ∷ 17 ∷ 18 ∷ 17 ∷ 18
-    ∷ 18 ∷ 19 ∷ 8 ∷ 9 ∷ 9 ∷ 10 ∷ 9 ∷ 10 ∷ 10 ∷ 11 ∷ 16 ∷ 17 ∷ 17 ∷ 18 ∷ 17 ∷ 18 ∷ 18 ∷ 19 ∷ 16 ∷ 17 ∷ 17 ∷ 18 ∷ 17 ∷ 18 ∷ 18 ∷ 19 ∷ 24
-    ∷ 25 ∷ 25 ∷ 26 ∷ 25 ∷ 26 ∷ 26 ∷ 27 ∷ 4 ∷ 5 ∷ 5 ∷ 6 ∷ 5 ∷ 6 ∷ 6 ∷ 7 ∷ 12 ∷ 13 ∷ 13 ∷ 14 ∷ 13 ∷ 14 ∷ 14 ∷ 15 ∷ 12 ∷ 13 ∷ 13 ∷ 14 ∷ 13
-    ∷ 14 ∷ 14 ∷ 15 ∷ 20 ∷ 21 ∷ 21 ∷ 22 ∷ 21 ∷ 22 ∷ 22 ∷ 23 ∷ 12 ∷ 13 ∷ 13 ∷ 14 ∷ 13 ∷ 14 ∷ 14 ∷ 15 ∷ 20 ∷ 21 ∷ 21 ∷ 22 ∷ 21 ∷ 22 ∷ 22 ∷ 23
-    ∷ 20 ∷ 21 ∷ 21 ∷ 22 ∷ 21 ∷ 22 ∷ 22 ∷ 23 ∷ 28 ∷ 29 ∷ 29 ∷ 30 ∷ 29 ∷ 30 ∷ 30 ∷ 31 ∷ 56 ∷ 57 ∷ 57 ∷ 58 ∷ 57 ∷ 58 ∷ 58 ∷ 59 ∷ 24 ∷ 25 ∷ 25
-    ∷ 26 ∷ 25 ∷ 26 ∷ 26 ∷ 27 ∷ 24 ∷ 25 ∷ 25 ∷ 26 ∷ 25 ∷ 26 ∷ 26 ∷ 27 ∷ 56 ∷ 57 ∷ 57 ∷ 58 ∷ 57 ∷ 58 ∷ 58 ∷ 59 ∷ 24 ∷ 25 ∷ 25 ∷ 26 ∷ 25 ∷ 26
-    ∷ 26 ∷ 27 ∷ 56 ∷ 57 ∷ 57 ∷ 58 ∷ 57 ∷ 58 ∷ 58 ∷ 59 ∷ 56 ∷ 57 ∷ 57 ∷ 58 ∷ 57 ∷ 58 ∷ 58 ∷ 59 ∷ 24 ∷ 25 ∷ 25 ∷ 26 ∷ 25 ∷ 26 ∷ 26 ∷ 27 ∷ 60
-    ∷ 61 ∷ 61 ∷ 62 ∷ 61 ∷ 62 ∷ 62 ∷ 63 ∷ 28 ∷ 29 ∷ 29 ∷ 30 ∷ 29 ∷ 30 ∷ 30 ∷ 31 ∷ 28 ∷ 29 ∷ 29 ∷ 30 ∷ 29 ∷ 30 ∷ 30 ∷ 31 ∷ 60 ∷ 61 ∷ 61 ∷ 62
-    ∷ 61 ∷ 62 ∷ 62 ∷ 63 ∷ 28 ∷ 29 ∷ 29 ∷ 30 ∷ 29 ∷ 30 ∷ 30 ∷ 31 ∷ 60 ∷ 61 ∷ 61 ∷ 62 ∷ 61 ∷ 62 ∷ 62 ∷ 63 ∷ 60 ∷ 61 ∷ 61 ∷ 62 ∷ 61 ∷ 62 ∷ 62
-    ∷ 63 ∷ 28 ∷ 29 ∷ 29 ∷ 30 ∷ 29 ∷ 30 ∷ 30 ∷ 31 ∷ []
+-- THE PICKS. A row is a byte
+pub row-less : (bits marks labels i : ℕ) → stageRow bits marks labels i < 2 ^ 8
+unfolding stageRow
+row-less bits marks labels i =
+    let b : labels / 2 ^ (7 - i) % 2 ≤ 1 = omega arith in
+    omega (arith, kind-less bits marks (2 * i), kind-less bits marks (2 * i + 1))
 
--- it has the cells of a stage by their six bits and two marks
-pairs-are : (x m : ℕ) → getD pairList (x % 64 + 64 * (m % 4)) 0 ≡ pairOf (x % 64) (m % 4)
-unfolding listOf pairOf onesOf secondIn
-pairs-are x m =
-    let h : x % 64 + 64 * (m % 4) < 256 = omega arith in
-    let a : (x % 64 + 64 * (m % 4)) % 64 ≡ x % 64 = omega arith in
-    let b : (x % 64 + 64 * (m % 4)) / 64 ≡ m % 4 = omega arith in
-    listOf-at 256 (λ k. pairOf (k % 64) (k / 64)) (x % 64 + 64 * (m % 4)) 0 h ∙ ap₂ pairOf a b
-
--- a cell has at most three ones
-ones-le : (x : ℕ) → onesOf x ≤ 3
-unfolding onesOf
-ones-le x = omega arith
-
--- a second cell adds at most 56
-second-le : (l m : ℕ) → l ≤ 3 → secondIn l m ≤ 56
-unfolding secondIn
-second-le l zero h = omega arith
-second-le l (suc m) h = omega arith
-
--- so a pair is at most 63
-pub pairs-le : (x m : ℕ) → getD pairList (x % 64 + 64 * (m % 4)) 0 ≤ 63
-unfolding pairOf
-pairs-le x m =
-    rw (pairs-are x m) (omega (arith, ones-le (x % 64), second-le (onesOf (x % 64 / 8)) (m % 4 / 2) (ones-le (x % 64 / 8))))
-
-module _ (bits marks labels i : ℕ) where
-  -- the row of stage i, as the program adds it up
-  pub row-added : getD pairList (bits / 2 ^ (6 * i) % 64 + 64 * (marks / 2 ^ (2 * i) % 4)) 0 + labels / 2 ^ (7 - i) % 2 * 32
-      ≡ stageRow bits marks labels i
-  unfolding stageRow
-  row-added = rw (pairs-are (bits / 2 ^ (6 * i)) (marks / 2 ^ (2 * i)))
-
-  -- it is a byte
-  pub row-less : stageRow bits marks labels i < 2 ^ 8
-  row-less =
-      let b : labels / 2 ^ (7 - i) % 2 ≤ 1 = omega arith in
-      omega (arith, row-added, pairs-le (bits / 2 ^ (6 * i)) (marks / 2 ^ (2 * i)))
-
--- WITHOUT MARKS the first quarter of the table is in use
-pub plain-le : (x : ℕ) → getD pairList (x % 64) 0 ≤ 63
-plain-le x = let e : x % 64 + 64 * (0 % 4) ≡ x % 64 = omega arith in rw e at (pairs-le x 0)
-
--- and a row is the same
-pub row-plain : (bits labels i : ℕ)
-    → getD pairList (bits / 2 ^ (6 * i) % 64) 0 + labels / 2 ^ (7 - i) % 2 * 32 ≡ stageRow bits 0 labels i
-row-plain bits labels i =
-    let e : bits / 2 ^ (6 * i) % 64 + 64 * (0 % 4) ≡ bits / 2 ^ (6 * i) % 64 = omega arith in
-    (rw (zero-div (2 ^ (2 * i)), e) at (row-added bits 0 labels i))
+-- as the program adds it up
+pub row-added : (bits marks labels kinds i : ℕ) → kinds ≡ packedOf 3 (cellKind bits marks) 16 → i < 8
+    → kinds / 2 ^ (6 * i) % 64 + labels / 2 ^ (7 - i) % 2 * 32 ≡ stageRow bits marks labels i
+unfolding stageRow
+row-added bits marks labels kinds i e h =
+    ap (λ (x : ℕ). x + labels / 2 ^ (7 - i) % 2 * 32)
+    (ap (λ (k : ℕ). k / 2 ^ (6 * i) % 64) e ∙ pair-packed (cellKind bits marks) (kind-less bits marks) i h)
 
 -- eight rows packed are picked one by one, counted round
 pub picks-are : (bits marks labels picks : ℕ) → picks ≡ packedOf 8 (stageRow bits marks labels) 8 → (i : ℕ) → i < 8
@@ -307,39 +258,17 @@ module _ (strip : List ℕ) (bytes : (i : ℕ) → getD strip i 0 < 256) (q : �
   pub bits-less : bitsAt strip q < 2 ^ 48
   bits-less = rw bits-number (number-less 48 _ (λ i. bit-bound strip (48 * q + i)))
 
-  -- a bit of the six bits of stage i
-  six-bit : (i r : ℕ) → i < 8 → r < 6 → bitsAt strip q / 2 ^ (6 * i) % 64 / 2 ^ r % 2 ≡ bitOf strip (48 * q + (6 * i + r))
-  six-bit i r h l =
-      let y = bitsAt strip q / 2 ^ (6 * i) in
-      let g : 5 - r + 1 + r ≡ 6 = omega arith in
-      let d : y % 64 / 2 ^ r ≡ y / 2 ^ r % 2 ^ (5 - r + 1) = ap (λ (k : ℕ). y % 2 ^ k / 2 ^ r) (sym g) ∙ field y (5 - r + 1) r in
-      ap (λ (k : ℕ). k % 2) d
-      ∙ mod-mod-pow (y / 2 ^ r) (5 - r) 1
-      ∙ ap (λ (k : ℕ). k % 2) (shr-shr (bitsAt strip q) (6 * i) r)
-      ∙ bits-bit (6 * i + r) (omega arith)
-
-  -- the ones of its six bits are the levels of its two cells
-  pair-levels : (i : ℕ) → i < 8
-      → (onesOf (bitsAt strip q / 2 ^ (6 * i) % 64) ≡ level strip (2 * (8 * q + i)))
-      × (onesOf (bitsAt strip q / 2 ^ (6 * i) % 64 / 8) ≡ level strip (2 * (8 * q + i) + 1))
+  -- the ones of a cell of the block are its level
+  pub cell-level : (j : ℕ) → j < 16 → onesOf (cellIn (bitsAt strip q) j) ≡ level strip (16 * q + j)
   unfolding onesOf level
-  pair-levels i h =
-      let x = bitsAt strip q / 2 ^ (6 * i) % 64 in
-      let c = 2 * (8 * q + i) in
-      let at : (r k : ℕ) → r < 6 → 48 * q + (6 * i + r) ≡ k → x / 2 ^ r % 2 ≡ bitOf strip k =
-      λ r k l e. six-bit i r h l ∙ ap (bitOf strip) e in
-      let b0 = at 0 (3 * c) (omega arith) (omega arith) in
-      let b1 = at 1 (3 * c + 1) (omega arith) (omega arith) in
-      let b2 = at 2 (3 * c + 2) (omega arith) (omega arith) in
-      let b3 = at 3 (3 * (c + 1)) (omega arith) (omega arith) in
-      let b4 = at 4 (3 * (c + 1) + 1) (omega arith) (omega arith) in
-      let b5 = at 5 (3 * (c + 1) + 2) (omega arith) (omega arith) in
-      let z0 : x % 2 ≡ x / 2 ^ 0 % 2 = omega arith in
-      let z3 : x / 8 / 2 ≡ x / 16 = omega arith in
-      let z4 : x / 8 / 4 ≡ x / 32 = omega arith in (
-        ap₂ _+_ (ap₂ _+_ (z0 ∙ b0) b1) b2,
-        ap₂ _+_ (ap₂ _+_ b3 (ap (λ (k : ℕ). k % 2) z3 ∙ b4)) (ap (λ (k : ℕ). k % 2) z4 ∙ b5),
-      )
+  cell-level j h =
+      let x = cellIn (bitsAt strip q) j in
+      let c = 16 * q + j in
+      let at : (r k : ℕ) → r < 3 → 48 * q + (3 * j + r) ≡ k → x / 2 ^ r % 2 ≡ bitOf strip k =
+      λ r k l e. cell-bit (bitsAt strip q) j r l ∙ bits-bit (3 * j + r) (omega arith) ∙ ap (bitOf strip) e in
+      let z : x % 2 ≡ x / 2 ^ 0 % 2 = omega arith in
+      ap₂ _+_ (ap₂ _+_ (z ∙ at 0 (3 * c) (omega arith) (omega arith)) (at 1 (3 * c + 1) (omega arith) (omega arith)))
+      (at 2 (3 * c + 2) (omega arith) (omega arith))
 
 -- THE MARKS. A bit of the map says whether the cell is marked
 mark-bit : (map : List ℕ) (c : ℕ) → bitOf map c ≡ one-if (marksIn map c)
@@ -351,7 +280,7 @@ mark-bit map c = go (bitOf map c) (bit-bound map c)
     go (suc zero) h = refl
     go (suc (suc b)) h = absurd (let z : ⊥ = omega arith in z)
 
--- two marks of a block are those of stage i
+-- the marks of a block
 module _ (map : List ℕ) (bytes : (i : ℕ) → getD map i 0 < 256) (q : ℕ) where
   -- 16 marks as one number
   marks-number : marksAt map q ≡ number 16 (λ j. bitOf map (16 * q + j))
@@ -372,33 +301,30 @@ module _ (map : List ℕ) (bytes : (i : ℕ) → getD map i 0 < 256) (q : ℕ) w
   marks-bit : (j : ℕ) → j < 16 → marksAt map q / 2 ^ j % 2 ≡ bitOf map (16 * q + j)
   marks-bit j h = rw marks-number (number-bit 16 (λ j. bitOf map (16 * q + j)) (λ i l. bit-bound map (16 * q + i)) j h)
 
-  -- of stage i
-  marks-two : (i : ℕ) → i < 8 → marksAt map q / 2 ^ (2 * i) % 4 ≡ one-if (marksIn map (2 * (8 * q + i))) + 2 * one-if
-      (marksIn map (2 * (8 * q + i) + 1))
-  marks-two i h =
-      let x = marksAt map q / 2 ^ (2 * i) in
-      let c = 2 * (8 * q + i) in
-      let e0 : 16 * q + 2 * i ≡ c = omega arith in
-      let e1 : 16 * q + (2 * i + 1) ≡ c + 1 = omega arith in
-      let a : x % 2 ≡ bitOf map c = marks-bit (2 * i) (omega arith) ∙ ap (bitOf map) e0 in
-      let b : x / 2 % 2 ≡ bitOf map (c + 1) =
-      ap (λ (k : ℕ). k % 2) (shr-shr (marksAt map q) (2 * i) 1) ∙ marks-bit (2 * i + 1) (omega arith) ∙ ap (bitOf map) e1 in
-      omega (arith, a, b, mark-bit map c, mark-bit map (c + 1))
+  -- by the cell
+  pub cell-mark : (j : ℕ) → j < 16 → markIn (marksAt map q) j ≡ one-if (marksIn map (16 * q + j))
+  cell-mark j h = marks-bit j h ∙ mark-bit map (16 * q + j)
 
--- THE PAIR of stage i: the kinds of its two cells
-pub pair-cells : (strip map : List ℕ) → ((k : ℕ) → getD strip k 0 < 256) → ((k : ℕ) → getD map k 0 < 256) → (q i : ℕ) → i < 8
-    → pairOf (bitsAt strip q / 2 ^ (6 * i) % 64) (marksAt map q / 2 ^ (2 * i) % 4)
-    ≡ level strip (2 * (8 * q + i)) + 4 * one-if (marksIn map (2 * (8 * q + i)))
-    + secondIn (level strip (2 * (8 * q + i) + 1)) (one-if (marksIn map (2 * (8 * q + i) + 1)))
-unfolding pairOf
-pair-cells strip map strip-bytes map-bytes q i h =
-    let c = 2 * (8 * q + i) in
-    let m = one-if (marksIn map c) in
-    let n = one-if (marksIn map (c + 1)) in
-    let l = pair-levels strip strip-bytes q i h in
-    let s : (m + 2 * n) % 2 ≡ m = omega (arith, one-if-le (marksIn map c)) in
-    let t : (m + 2 * n) / 2 ≡ n = omega (arith, one-if-le (marksIn map c)) in
-    rw (l .0, l .1, marks-two map map-bytes q i h, s, t)
+-- A STAGE'S CELLS in its row
+module _ (strip map : List ℕ) (strip-bytes : (k : ℕ) → getD strip k 0 < 256) (map-bytes : (k : ℕ) → getD map k 0 < 256) (q i : ℕ) (h : i < 8)
+  where
+    -- the kind of the first
+    pub first-kind : cellKind (bitsAt strip q) (marksAt map q) (2 * i)
+        ≡ level strip (2 * (8 * q + i)) + 4 * one-if (marksIn map (2 * (8 * q + i)))
+    unfolding cellKind
+    first-kind =
+        let e : 16 * q + 2 * i ≡ 2 * (8 * q + i) = omega arith in
+        let z : 2 * i % 2 ≡ 0 = omega arith in
+        rw (z, cell-level strip strip-bytes q (2 * i) (omega arith), cell-mark map map-bytes q (2 * i) (omega arith), e)
+
+    -- and the second
+    pub second-kind : cellKind (bitsAt strip q) (marksAt map q) (2 * i + 1)
+        ≡ secondIn (level strip (2 * (8 * q + i) + 1)) (one-if (marksIn map (2 * (8 * q + i) + 1)))
+    unfolding cellKind
+    second-kind =
+        let e : 16 * q + (2 * i + 1) ≡ 2 * (8 * q + i) + 1 = omega arith in
+        let z : (2 * i + 1) % 2 ≡ 1 = omega arith in
+        rw (z, cell-level strip strip-bytes q (2 * i + 1) (omega arith), cell-mark map map-bytes q (2 * i + 1) (omega arith), e)
 
 -- a cell shows the bit b just where its level is as odd
 shows : (l : ℕ) (b : Bool) → eqb (l % 2) (one-if b) ≡ Bool·beq (odd l) b
@@ -467,7 +393,7 @@ as-full W three l w i j =
     go (suc (suc b)) v h k = absurd (let z : ⊥ = omega arith in z)
 
 -- the label of a row that is counted round
-turned : (k p b r : ℕ) → k ≤ 7 → p ≤ 1 → b ≤ 1 → r ≡ (k + (24 + 32 * p) + b * 32) % 64 → r / 32 ≡ (p + b) % 2
+turned : (k p b r : ℕ) → k ≤ 7 → p ≤ 1 → b ≤ 1 → r ≡ (k + 8 * (3 + 4 * p) + b * 32) % 64 → r / 32 ≡ (p + b) % 2
 turned k p b r h i j e = omega arith
 
 -- the bit that is asked by it
@@ -481,7 +407,7 @@ stageAt x y a = record { adds = a ∷ []; cells = x ∷ y ∷ [] }
 -- a second cell and a label in a row r that has the first cell's kind k
 module _ (W : List ℕ) (three : length W ≡ 3) (bytes : (i : ℕ) → getD W i 0 ≤ 255) (k l r : ℕ) (a : Bool) (k-le : k ≤ 7) (l-le : l ≤ 3) where
   -- it tells the price of the bit that the word asks of the cell, the label added
-  second-told : (mark : Bool) → r ≡ (k + secondIn l (one-if mark) + one-if a * 32) % 64 → (v : ℕ) → v < 2
+  second-told : (mark : Bool) → r ≡ (k + 8 * secondIn l (one-if mark) + one-if a * 32) % 64 → (v : ℕ) → v < 2
       → Tells closed 255 (priceFor (stepList W) (r / 8 % 4) ((v + r / 32) % 2)) (bitPrice (stepsOf W) (record { level = l; mark = mark })
       (odd v +₂ a))
   unfolding secondIn one-if
@@ -500,13 +426,13 @@ module _ (W : List ℕ) (three : length W ≡ 3) (bytes : (i : ℕ) → getD W i
       rw (d, f, as-full W three l ((v + one-if a) % 2) l-le (mod-lt _ (zero-lt-suc 1)), g) (price-told W three bytes l true (odd v +₂ a) l-le)
 
 module _ (W rows : List ℕ) (P : Priced W rows) (x y : Cell) (r : ℕ) (a : Bool) (x-le : x .level ≤ 3) (y-le : y .level ≤ 3)
-    (e : r ≡ (x .level + 4 * one-if (x .mark) + secondIn (y .level) (one-if (y .mark)) + one-if a * 32) % 64) where
+    (e : r ≡ (x .level + 4 * one-if (x .mark) + 8 * secondIn (y .level) (one-if (y .mark)) + one-if a * 32) % 64) where
   -- the first cell's kind
-  first-kind : r % 8 ≡ x .level + 4 * one-if (x .mark)
+  kind-there : r % 8 ≡ x .level + 4 * one-if (x .mark)
   unfolding secondIn one-if
-  first-kind = go (y .mark) e
+  kind-there = go (y .mark) e
     where
-      go : (m : Bool) → r ≡ (x .level + 4 * one-if (x .mark) + secondIn (y .level) (one-if m) + one-if a * 32) % 64
+      go : (m : Bool) → r ≡ (x .level + 4 * one-if (x .mark) + 8 * secondIn (y .level) (one-if m) + one-if a * 32) % 64
           → r % 8 ≡ x .level + 4 * one-if (x .mark)
       go true f = let n = one-if-le (x .mark) in omega arith
       go false f = let n = one-if-le (x .mark) in omega arith
@@ -517,7 +443,7 @@ module _ (W rows : List ℕ) (P : Priced W rows) (x y : Cell) (r : ℕ) (a : Boo
   word-told j h =
       let n = one-if-le (x .mark) in
       let l : r < 64 = omega arith in
-      rw (row-price (stepList W) r j l h, first-kind, mod-odd j)
+      rw (row-price (stepList W) r j l h, kind-there, mod-odd j)
       (tells-cut (tells-add (price-told W (P .three) (P .bytes) (x .level) (x .mark) (odd j) x-le)
       (second-told W (P .three) (P .bytes) (x .level + 4 * one-if (x .mark)) (y .level) r a (omega arith) y-le (y .mark) e (j / 2)
       (omega arith))) (omega arith))
@@ -526,7 +452,7 @@ module _ (W rows : List ℕ) (P : Priced W rows) (x y : Cell) (r : ℕ) (a : Boo
   cells-quoted : Quoted 256 closed 510 rows r (oneBitPrices (stepsOf W) (stageAt x y a))
   unfolding oneBitPrices cellAt
   cells-quoted =
-      let f : r % 2 ≡ x .level % 2 = omega (arith, first-kind) in
+      let f : r % 2 ≡ x .level % 2 = omega (arith, kind-there) in
       record {
         plain = λ j. rowPrice (stepList W) (4 * r + j);
         in-units = λ j h. P .table .prices (4 * r + j) (let z : 4 * r + j < 256 = omega arith in z);
@@ -545,4 +471,5 @@ row-quoted W rows P strip map strip-bytes map-bytes G content q i labels picks h
     let c = 2 * (8 * q + i) in
     cells-quoted W rows P (cellFor strip (marksIn map) c) (cellFor strip (marksIn map) (c + 1)) (pickAt picks i)
     (labelFor G content (8 * q + i)) (level-bound strip c) (level-bound strip (c + 1))
-    (e ∙ ap (λ (n : ℕ). n % 64) (ap₂ (λ (m n : ℕ). m + n * 32) (pair-cells strip map strip-bytes map-bytes q i h) f))
+    (e ∙ ap (λ (n : ℕ). n % 64) (ap₂ (λ (m n : ℕ). m + n * 32)
+    (ap₂ (λ (m n : ℕ). m + 8 * n) (first-kind strip map strip-bytes map-bytes q i h) (second-kind strip map strip-bytes map-bytes q i h)) f))

@@ -26,8 +26,8 @@ use Rattle.cells.proofs.Bytes.{number-bit, cases8}
 use Rattle.cells.proofs.Raising.{raised-bit}
 use Rattle.codes.proofs.Taps.{low-bit}
 use Rattle.codes.proofs.Divisions.{xor-bit}
-use Rattle.trellis.specs.Rows.{onesOf, packedOf}
-use Rattle.trellis.specs.Carrying.{shownCell, cellIn, wantedPair, wantedBits, CellBits, Onward, BlockShown}
+use Rattle.trellis.specs.Rows.{onesOf, packedOf, cellIn}
+use Rattle.trellis.specs.Carrying.{shownCell, wantedPair, wantedBits, CellBits, Onward, BlockShown}
 use Rattle.trellis.proofs.Digits.{packed-fits, packed-bits, packed-at, packed-self, packed-times}
 
 -- WHAT IS SHOWN of a cell, by its three bits
@@ -61,25 +61,25 @@ cell-past word j h l =
 
 -- the operations on words work on each cell apart
 module _ (a b j : ℕ) where
-  cell-and : cellIn (bitAnd a b) j ≡ bitAnd (cellIn a j) (cellIn b j)
+  pub cell-and : cellIn (bitAnd a b) j ≡ bitAnd (cellIn a j) (cellIn b j)
   unfolding cellIn
   cell-and = ap (λ (y : ℕ). y % 8) (and-shr a b (3 * j)) ∙ and-mod (a / 2 ^ (3 * j)) (b / 2 ^ (3 * j)) 3
 
-  cell-or : cellIn (bitOr a b) j ≡ bitOr (cellIn a j) (cellIn b j)
+  pub cell-or : cellIn (bitOr a b) j ≡ bitOr (cellIn a j) (cellIn b j)
   unfolding cellIn
   cell-or = ap (λ (y : ℕ). y % 8) (or-shr a b (3 * j)) ∙ or-mod (a / 2 ^ (3 * j)) (b / 2 ^ (3 * j)) 3
 
-  cell-xor : cellIn (bitXor a b) j ≡ bitXor (cellIn a j) (cellIn b j)
+  pub cell-xor : cellIn (bitXor a b) j ≡ bitXor (cellIn a j) (cellIn b j)
   unfolding cellIn
   cell-xor = ap (λ (y : ℕ). y % 8) (xor-shr a b (3 * j)) ∙ xor-mod (a / 2 ^ (3 * j)) (b / 2 ^ (3 * j)) 3
 
 -- cell j of a word that is packed from cells
-cell-packed : (f : ℕ → ℕ) → ((i : ℕ) → f i < 8) → (n j : ℕ) → j < n → cellIn (packedOf 3 f n) j ≡ f j
+pub cell-packed : (f : ℕ → ℕ) → ((i : ℕ) → f i < 8) → (n j : ℕ) → j < n → cellIn (packedOf 3 f n) j ≡ f j
 unfolding cellIn
 cell-packed f less n j h = packed-at 3 f less n j h
 
 -- a word is packed from its cells
-word-cells : (word n : ℕ) → packedOf 3 (cellIn word) n ≡ word % 2 ^ (3 * n)
+pub word-cells : (word n : ℕ) → packedOf 3 (cellIn word) n ≡ word % 2 ^ (3 * n)
 unfolding cellIn
 word-cells word n = packed-self 3 word n
 
@@ -113,7 +113,7 @@ abbrev startWords : List ℕ
 startWords = startsFrom 0 ∷ startsFrom 1 ∷ startsFrom 2 ∷ []
 
 -- a cell of each
-lowest-cell : (j : ℕ) → j < 16 → cellIn lowest j ≡ 1
+pub lowest-cell : (j : ℕ) → j < 16 → cellIn lowest j ≡ 1
 lowest-cell j h = cell-packed (λ i. 1) (λ i. omega arith) 16 j h
 
 others-cell : (j : ℕ) → j < 16 → cellIn others j ≡ 6

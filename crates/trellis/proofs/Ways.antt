@@ -58,11 +58,11 @@ use Rattle.stages.specs.Trails.{stagesFrom, Quoted}
 use Rattle.stages.proofs.Runs.{settled-le}
 use Rattle.stages.proofs.Costs.{told-settled, told-low, told-cost}
 use Rattle.stages.proofs.Trails.{run-told}
-use Rattle.trellis.specs.Rows.{Priced, secondIn, stageRow, bitsAt, marksAt, packedOf}
+use Rattle.trellis.specs.Rows.{Priced, stageRow, bitsAt, marksAt, packedOf}
 use Rattle.trellis.specs.Ways.{encoderFor, labelFor, cellFor, stageFor, quoteFor, nextFor, stagesFor, costsFor, trailFor, blocksFor}
 use Rattle.trellis.specs.Outcomes.{toldOutcome, solutionOutcome}
 use Rattle.trellis.specs.Plans.{writeOf}
-use Rattle.trellis.proofs.Quotes.{picks-are, pair-cells, row-quoted}
+use Rattle.trellis.proofs.Quotes.{picks-are, first-kind, row-quoted}
 
 -- what the program asks of a code and its weights: two generators that begin with 1, and weights of three bytes
 pub record Suits (G : Generators) (W : List ℕ) : Type 0 where
@@ -308,19 +308,17 @@ traced-more G {rows} {strip} {marks} {content} {history} {history′} {ran} q fi
 pub block-lows : (strip map : List ℕ) (q picks before : ℕ) {r : ℕ} → ((k : ℕ) → getD strip k 0 < 256) → ((k : ℕ) → getD map k 0 < 256)
     → picks ≡ packedOf 8 (stageRow (bitsAt strip q) (marksAt map q) before) 8 → r ≡ windowOf 8 (λ i. picks / 2 ^ (8 * i) % 2) 8
     → r ≡ windowOf 8 (firstBit (level strip)) (8 * (q + 1))
-unfolding pickAt stageRow firstBit secondIn one-if
+unfolding pickAt stageRow firstBit
 block-lows strip map q picks before octets marks p f =
     f ∙ window-of-word picks 8 (firstBit (level strip)) (λ t. mod-lt _ (zero-lt-suc 1)) q
     (λ i l.
     let c = 2 * (8 * q + i) in
-    let a = pair-cells strip map octets marks q i l in
-    even-row (picks / 2 ^ (8 * i)) _ (level strip c) (one-if (marksIn map c)) (level strip (c + 1)) (marksIn map (c + 1))
-    (before / 2 ^ (7 - i) % 2) (picks-are _ _ _ picks p i l) a)
+    even-row (picks / 2 ^ (8 * i)) _ (level strip c) (one-if (marksIn map c)) _ (before / 2 ^ (7 - i) % 2) (picks-are _ _ _ picks p i l)
+    (first-kind strip map octets marks q i l))
   where
-    even-row : (x both first mark second : ℕ) (marked : Bool) (label : ℕ) → x % 64 ≡ (both + label * 32) % 64
-        → both ≡ first + 4 * mark + secondIn second (one-if marked) → x % 2 ≡ first % 2
-    even-row x both first mark second true label h k = omega arith
-    even-row x both first mark second false label h k = omega arith
+    even-row : (x kind first mark second label : ℕ) → x % 64 ≡ (kind + 8 * second + label * 32) % 64 → kind ≡ first + 4 * mark
+        → x % 2 ≡ first % 2
+    even-row x kind first mark second label h k = omega arith
 
 -- STORES. A loop that stores f k at each place k from the last back has stored one more
 pub store-back : (r : List ℕ) (n u x : ℕ) (f : ℕ → ℕ) → u < length r → x ≡ f u → ((k : ℕ) → suc u ≤ k → k < n → getD r k 0 ≡ f k)

@@ -3,7 +3,6 @@
 --   wantedFirst, wantedSecond   the bits that the digits want of a stage's cells
 --   carriedTo                   the level of each cell after the digits are carried out
 --   shownCell                   the bits of a cell that is to show a given bit
---   cellIn word j               cell j of a word, three bits a cell
 --   CellBits word               a word with one bit for each cell
 --   wantedBits                  the bits that are wanted of the cells of a block, as such a word
 --   Onward                      marks on bits of cells, each moved to the next bit
@@ -22,7 +21,7 @@ use Rattle.codes.specs.Layouts.{oneBit, byteCount}
 use Rattle.codes.specs.Taps.{tapsOf, parityOf, windowOf}
 use Rattle.codes.specs.Blocks.{labelAt}
 use Rattle.stages.specs.Stage.{pick}
-use Rattle.trellis.specs.Rows.{onesOf, packedOf}
+use Rattle.trellis.specs.Rows.{onesOf, cellIn, packedOf}
 
 -- the digit of stage t
 unfoldable pub digitIn : List ℕ → ℕ → ℕ
@@ -48,10 +47,6 @@ carriedTo G strip content u c = level strip c + (level strip c + wantedOf G cont
 unfoldable pub shownCell : (start x v : ℕ) → ℕ
 shownCell start x v =
     number 3 (λ i. getD (raisedTimes start ((onesOf x + v) % 2) (x % 2 ∷ x / 2 % 2 ∷ x / 4 % 2 ∷ [])) i 0)
-
--- cell j of a word of three bits a cell, the first cell worth least
-unfoldable pub cellIn : ℕ → ℕ → ℕ
-cellIn word j = word / 2 ^ (3 * j) % 8
 
 -- the bits that are wanted of the two cells of stage i of a block, each at its cell's lowest bit: `first` and `second` have the first
 -- stage's worth most

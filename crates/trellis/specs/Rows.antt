@@ -5,7 +5,8 @@
 --   rowPrice steps k               the price at place k of the table: word k mod 4 of row k div 4
 --   Table W rows                   the table of the weights W, in 256ths
 --   Priced W rows                  the same, of three weights of a byte each, none of them free
---   pairOf                         the cells of a stage by their six bits and two marks
+--   cellIn word j                  cell j of a word, three bits a cell
+--   cellKind bits marks j          cell j of a block in a row
 --   stageRow bits marks labels i   the row of stage i of a block
 --   bitsAt strip q, marksAt map q  the 48 bits of block q, and its 16 marks
 --   packedOf w f n                 n digits of w bits each as one number
@@ -47,19 +48,28 @@ pub record Priced (W rows : List ℕ) : Type 0 where
 unfoldable pub onesOf : ℕ → ℕ
 onesOf x = x % 2 + x / 2 % 2 + x / 4 % 2
 
--- a second cell at level l in a row: a marked one is as one at level 3, which can be raised no more, and where it shows 0 the other bit is
--- asked of it, by the label
+-- cell j of a word of three bits a cell, the first cell worth least
+unfoldable pub cellIn : ℕ → ℕ → ℕ
+cellIn word j = word / 2 ^ (3 * j) % 8
+
+-- the mark of cell j of a block
+abbrev pub markIn : ℕ → ℕ → ℕ
+markIn marks j = marks / 2 ^ j % 2
+
+-- a second cell at level l in a row: a marked one is as one at level 3, which can be raised no more, and 4 more where it shows 0: then the
+-- other bit is asked of it, by the label
 unfoldable pub secondIn : (l mark : ℕ) → ℕ
-secondIn l mark = pick mark (8 * l) (24 + 32 * ((1 + l) % 2))
+secondIn l mark = pick mark l (3 + 4 * ((1 + l) % 2))
 
--- both cells of a stage, by their six bits and their two marks
-unfoldable pub pairOf : (six two : ℕ) → ℕ
-pairOf six two = onesOf six + 4 * (two % 2) + secondIn (onesOf (six / 8)) (two / 2)
+-- cell j of a block, by the block's 48 bits and its 16 marks: the kind of a first cell, or a second one
+unfoldable pub cellKind : (bits marks j : ℕ) → ℕ
+cellKind bits marks j =
+    pick (j % 2) (onesOf (cellIn bits j) + 4 * markIn marks j) (secondIn (onesOf (cellIn bits j)) (markIn marks j))
 
--- the row of stage i of a block: six of its 48 bits, two of its 16 marks, and its label, the first stage's worth most. A label too many
--- falls out: rows are counted round
+-- the row of stage i of a block: its two cells, and its label, the first stage's worth most. A label too many falls out: rows are counted
+-- round
 unfoldable pub stageRow : (bits marks labels i : ℕ) → ℕ
-stageRow bits marks labels i = pairOf (bits / 2 ^ (6 * i) % 64) (marks / 2 ^ (2 * i) % 4) + labels / 2 ^ (7 - i) % 2 * 32
+stageRow bits marks labels i = cellKind bits marks (2 * i) + 8 * cellKind bits marks (2 * i + 1) + labels / 2 ^ (7 - i) % 2 * 32
 
 -- the 48 bits of block q: six bytes of the strip
 unfoldable pub bitsAt : List ℕ → ℕ → ℕ

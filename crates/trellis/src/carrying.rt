@@ -2,6 +2,7 @@
 // bit of a cell a raise sets is a matter of the bit at which it starts to look for a zero (`startOf`). Sixteen cells are raised at once, as
 // one word of three bits a cell.
 use crate::backward::data_window;
+use crate::rows::LOWEST;
 use crate::rows::bits_of;
 use codes::Code;
 ghost use mathlib.Core.Path.{_≡_};
@@ -10,9 +11,6 @@ ghost use lib.ListN.{length};
 ghost use Rattle.cells.specs.Raising.{startOf, raisedTo};
 ghost use Rattle.codes.specs.Codes.{generatorsOf};
 ghost use Rattle.trellis.specs.Carrying.{wantedBits, Onward, CellBits, BlockShown, withBits, digitIn, carriedTo, CarryAsked};
-
-// The lowest bit of each of sixteen cells.
-const LOWEST: u64 = 0o1111_1111_1111_1111;
 
 // The other two bits of each.
 const OTHERS: u64 = 0o6666_6666_6666_6666;

@@ -4,271 +4,16 @@ use stages::CLOSED;
 use stages::stage::least;
 use stages::stage::pick;
 ghost use mathlib.Core.Path.{_≡_};
-ghost use Prim.Native.Nat.{ℕ, _+_, _-_, _*_, _/_, _%_, _^_, _<_, _≤_};
+ghost use Prim.Native.Nat.{ℕ, _+_, _*_, _^_, _<_, _≤_};
 ghost use lib.ListN.{length, getD};
 ghost use Rattle.stages.specs.Stage.{closed};
-ghost use Rattle.trellis.specs.Rows.{stepList, rowPrice, Table, stageRow, packedOf, bitsAt, marksAt};
+ghost use Rattle.trellis.specs.Rows.{stepList, rowPrice, Table, markIn, cellKind, stageRow, packedOf, bitsAt, marksAt};
 
-// The cells of a stage by their six bits and their two marks: the first cell's level, and 4 more where it is marked; eight times that of
-// the second, which is 3 where it is marked, and 32 more where it is and shows 0.
-const PAIRS: [u8; 256] = [
-    0,
-    1,
-    1,
-    2,
-    1,
-    2,
-    2,
-    3,
-    8,
-    9,
-    9,
-    10,
-    9,
-    10,
-    10,
-    11,
-    8,
-    9,
-    9,
-    10,
-    9,
-    10,
-    10,
-    11,
-    16,
-    17,
-    17,
-    18,
-    17,
-    18,
-    18,
-    19,
-    8,
-    9,
-    9,
-    10,
-    9,
-    10,
-    10,
-    11,
-    16,
-    17,
-    17,
-    18,
-    17,
-    18,
-    18,
-    19,
-    16,
-    17,
-    17,
-    18,
-    17,
-    18,
-    18,
-    19,
-    24,
-    25,
-    25,
-    26,
-    25,
-    26,
-    26,
-    27,
-    4,
-    5,
-    5,
-    6,
-    5,
-    6,
-    6,
-    7,
-    12,
-    13,
-    13,
-    14,
-    13,
-    14,
-    14,
-    15,
-    12,
-    13,
-    13,
-    14,
-    13,
-    14,
-    14,
-    15,
-    20,
-    21,
-    21,
-    22,
-    21,
-    22,
-    22,
-    23,
-    12,
-    13,
-    13,
-    14,
-    13,
-    14,
-    14,
-    15,
-    20,
-    21,
-    21,
-    22,
-    21,
-    22,
-    22,
-    23,
-    20,
-    21,
-    21,
-    22,
-    21,
-    22,
-    22,
-    23,
-    28,
-    29,
-    29,
-    30,
-    29,
-    30,
-    30,
-    31,
-    56,
-    57,
-    57,
-    58,
-    57,
-    58,
-    58,
-    59,
-    24,
-    25,
-    25,
-    26,
-    25,
-    26,
-    26,
-    27,
-    24,
-    25,
-    25,
-    26,
-    25,
-    26,
-    26,
-    27,
-    56,
-    57,
-    57,
-    58,
-    57,
-    58,
-    58,
-    59,
-    24,
-    25,
-    25,
-    26,
-    25,
-    26,
-    26,
-    27,
-    56,
-    57,
-    57,
-    58,
-    57,
-    58,
-    58,
-    59,
-    56,
-    57,
-    57,
-    58,
-    57,
-    58,
-    58,
-    59,
-    24,
-    25,
-    25,
-    26,
-    25,
-    26,
-    26,
-    27,
-    60,
-    61,
-    61,
-    62,
-    61,
-    62,
-    62,
-    63,
-    28,
-    29,
-    29,
-    30,
-    29,
-    30,
-    30,
-    31,
-    28,
-    29,
-    29,
-    30,
-    29,
-    30,
-    30,
-    31,
-    60,
-    61,
-    61,
-    62,
-    61,
-    62,
-    62,
-    63,
-    28,
-    29,
-    29,
-    30,
-    29,
-    30,
-    30,
-    31,
-    60,
-    61,
-    61,
-    62,
-    61,
-    62,
-    62,
-    63,
-    60,
-    61,
-    61,
-    62,
-    61,
-    62,
-    62,
-    63,
-    28,
-    29,
-    29,
-    30,
-    29,
-    30,
-    30,
-    31,
-];
+// The lowest bit of each of sixteen cells.
+pub const LOWEST: u64 = 0o1111_1111_1111_1111;
+
+// The lowest bit of each second cell of a stage.
+const SECONDS: u64 = 0o1010_1010_1010_1010;
 
 // The weights of the three steps, and closed for a step from level 3 and for a marked cell at each level.
 fn steps_of(weights: [u8; 3]) -> [u32; 8]
@@ -358,58 +103,68 @@ fn marks_of(map: &[u8], q: usize) -> u64
     (low + high * 256) as u64
 }
 
-// A stage's row at its byte: the pair of its cells, and its label.
-fn row_at(pair: u8, labels: u32, i: u32) -> u64
-    requires { ⌜ (pair < 64) × (i < 8) ⌝ }
-    ensures { λ r. ⌜ r ≡ (pair + labels / 2 ^ (7 - i) % 2 * 32) * 2 ^ (8 * i) ⌝ }
+// The levels of the sixteen cells of a block, three bits a cell: how many of each cell's three bits are one.
+fn levels_of(bits: u64) -> u64
+    requires { ⌜ bits < 2 ^ 48 ⌝ }
+    ensures { λ r. ⌜ r ≡ packedOf 3 (cellKind bits 0) 16 ⌝ }
 {
-    let label = ((labels >> (7 - i)) % 2) as u64;
-    (pair as u64 + label * 32) << (8 * i)
+    (bits & LOWEST) + ((bits >> 1) & LOWEST) + ((bits >> 2) & LOWEST)
 }
 
-// The rows of eight stages, by the 48 bits of their cells, their 16 marks and their labels, as the bytes of one number.
-fn marked_picks(bits: u64, marks: u64, labels: u32) -> u64
-    ensures { λ r. ⌜ r ≡ packedOf 8 (stageRow bits marks labels) 8 ⌝ }
+// The marks of sixteen cells, each at the lowest bit of its cell.
+fn marked_cells(marks: u64) -> u64
+    ensures { λ r. ⌜ r ≡ packedOf 3 (markIn marks) 16 ⌝ }
 {
-    let pairs = PAIRS;
-    let mut picks: u64 = 0;
-    let mut i: u32 = 0;
-    while i < 8 {
-        let six = (bits >> (6 * i)) % 64;
-        let two = (marks >> (2 * i)) % 4;
-        picks += row_at(pairs[(six + 64 * two) as usize], labels, i);
-        i += 1;
+    let mut out: u64 = 0;
+    let mut c: u32 = 0;
+    while c < 16 {
+        out += ((marks >> c) % 2) << (3 * c);
+        c += 1;
     }
-    picks
+    out
 }
 
-// The same of stages without a mark, which are the rule.
-fn plain_picks(bits: u64, labels: u32) -> u64
-    ensures { λ r. ⌜ r ≡ packedOf 8 (stageRow bits 0 labels) 8 ⌝ }
+// The cells of a block by their bits and marks, three bits a cell. A marked first cell has 4 more than its level. A marked second cell is
+// at 3, and has 4 more where it shows 0.
+fn kinds_of(bits: u64, marks: u64) -> u64
+    requires { ⌜ bits < 2 ^ 48 ⌝ }
+    ensures { λ r. ⌜ r ≡ packedOf 3 (cellKind bits marks) 16 ⌝ }
 {
-    let pairs = PAIRS;
-    let mut picks: u64 = 0;
-    let mut i: u32 = 0;
-    while i < 8 {
-        let six = (bits >> (6 * i)) % 64;
-        picks += row_at(pairs[six as usize], labels, i);
-        i += 1;
-    }
-    picks
+    let levels = levels_of(bits);
+    let marked = marked_cells(marks);
+    let second = marked & SECONDS;
+    (levels | (3 * second)) + 4 * (marked ^ (second & levels))
 }
 
-// The rows of block q of a strip. A map with no byte marks nothing, and is not looked at.
+// The cells of block q of a strip. A map with no byte marks nothing, and is not looked at.
+fn block_kinds(strip: &[u8], map: &[u8], q: usize) -> u64
+    requires { ⌜ (6 * q + 6 ≤ length (now strip)) × (q < 64) ⌝ }
+    ensures { λ r. ⌜ r ≡ packedOf 3 (cellKind (bitsAt (now (strip .entry)) q) (marksAt (now (map .entry)) q)) 16 ⌝ }
+{
+    let bits = bits_of(strip, q);
+    if map.len() == 0 {
+        return levels_of(bits);
+    }
+    let marks = marks_of(map, q);
+    if marks == 0 {
+        return levels_of(bits);
+    }
+    kinds_of(bits, marks)
+}
+
+// The rows of the eight stages of block q, by their cells and their labels, as the bytes of one number.
 pub fn picks_at(strip: &[u8], map: &[u8], q: usize, labels: u32) -> u64
     requires { ⌜ (6 * q + 6 ≤ length (now strip)) × (q < 64) ⌝ }
     ensures { λ r. ⌜ r ≡ packedOf 8 (stageRow (bitsAt (now (strip .entry)) q) (marksAt (now (map .entry)) q) labels) 8 ⌝ }
 {
-    let bits = bits_of(strip, q);
-    if map.len() == 0 {
-        return plain_picks(bits, labels);
+    let kinds = block_kinds(strip, map, q);
+    let mut picks: u64 = 0;
+    let mut i: u32 = 0;
+    while i < 8 {
+        let pair = (kinds >> (6 * i)) % 64;
+        let label = ((labels >> (7 - i)) % 2) as u64;
+        picks += (pair + label * 32) << (8 * i);
+        i += 1;
     }
-    let marks = marks_of(map, q);
-    if marks == 0 {
-        return plain_picks(bits, labels);
-    }
-    marked_picks(bits, marks, labels)
+    picks
 }
