@@ -1,4 +1,5 @@
 -- Marked cells, and a page emptied but for them.
+--   zeros-bit         bytes of zeros have no bit
 --   zero-map          a map of zeros marks no cell, and nor does an empty one (no-map)
 --   emptied-length    a page emptied is as long as before
 --   emptied-bit       a marked cell has its bits, every other has zeros
@@ -30,10 +31,15 @@ use Rattle.cells.proofs.Places.{listOf-at, sumOf-same, number-same, zer
 use Rattle.cells.proofs.Bytes.{bit-bound, length-bytesOf, bytesOf-bit, bytesOf-same}
 use Rattle.cells.proofs.Levels.{level-same, bit-past, levels-at}
 
+-- BYTES OF ZEROS have no bit
+pub zeros-bit : (n k : ℕ) → bitOf (replicate n 0) k ≡ 0
+unfolding bitOf
+zeros-bit n k = rw (zeros-at n (k / 8)) (ap (λ (x : ℕ). x % 2) (zero-div (2 ^ (k % 8))))
+
 -- MAPS. A map of zeros marks no cell
 pub zero-map : (n : ℕ) → marksIn (replicate n 0) ≡ (λ c. false)
-unfolding marksIn bitOf
-zero-map n = fun-ext λ c. rw (zeros-at n (c / 8), zero-div (2 ^ (c % 8)))
+unfolding marksIn
+zero-map n = fun-ext λ c. ap (λ (b : ℕ). eqb b 1) (zeros-bit n _)
 
 -- nor does an empty one
 pub no-map : marksIn [] ≡ (λ c. false)

@@ -1,7 +1,7 @@
 -- THE LEDGER UNDER ONE MAP: from a page whose unmarked cells are at level 0, over any sequence of calls that take that map, with any
 -- weights and by releases of any order, the sum of the levels is that of the marked cells and the raises of the accepted writes since the
 -- last accepted erase, or since the start. Without a map, from an erased page, it is those raises.
---   erased-bit, erased-level      every bit and every level of an erased page is 0
+--   erased-level                  every level of an erased page is 0
 --   counts                        a fair event keeps the ledger
 --   Stays, stays-levels           a page whose marked cells stay at their level: the sum of these is the same
 --   call-fair, call-stays         every call under the marks is a fair event, after which the marked cells are at their level
@@ -12,16 +12,15 @@ use mathlib.Core.Path.{_≡_, refl, sym, _∙_, ap}
 use mathlib.Core.Bool.{Bool, true, false, cond}
 use mathlib.Core.List.{List, [], _∷_}
 use mathlib.Core.Option.{Option, none, some}
-use Prim.Native.Nat.{ℕ, suc, _<_, _≤_, _+_, _*_, _-_, _/_, _%_, _^_}
+use Prim.Native.Nat.{ℕ, suc, _<_, _≤_, _+_, _*_, _-_, _/_}
 use native.Mathlib.Omega.{arith}
-use native.Mathlib.Nat.{zero-div}
 use lib.ListN.{length, replicate}
 use Rattle.cells.specs.Places.{sumOf, Each, and-each}
-use Rattle.cells.specs.Bytes.{bitOf, Octets}
+use Rattle.cells.specs.Bytes.{Octets}
 use Rattle.cells.specs.Levels.{level, raisesOf}
 use Rattle.cells.specs.Marks.{emptied}
-use Rattle.cells.proofs.Places.{zeros-at, sumOf-same, sumOf-add, sumOf-zero}
-use Rattle.cells.proofs.Marks.{emptied-length, emptied-kept, emptied-raises}
+use Rattle.cells.proofs.Places.{sumOf-same, sumOf-add, sumOf-zero}
+use Rattle.cells.proofs.Marks.{zeros-bit, emptied-length, emptied-kept, emptied-raises}
 use Rattle.search.specs.Layouts.{unmarked}
 use Rattle.demand.specs.Jobs.{pageCells}
 use Rattle.demand.proofs.Demand.{page-cell}
@@ -34,15 +33,10 @@ use Rattle.refusals.specs.declared.Refusal.{Refusal}
 use Rattle.page.specs.declared.Answer.{Answer}
 use Rattle.page.proofs.Promise.{job-in-order, wrote-by}
 
--- ERASED PAGES. Every bit is 0
-pub erased-bit : (n k : ℕ) → bitOf (replicate n 0) k ≡ 0
-unfolding bitOf
-erased-bit n k = rw (zeros-at n (k / 8)) (ap (λ (x : ℕ). x % 2) (zero-div (2 ^ (k % 8))))
-
--- and so is every level
+-- ERASED PAGES. Every level is 0
 pub erased-level : (n c : ℕ) → level (replicate n 0) c ≡ 0
 unfolding level
-erased-level n c = omega (arith, erased-bit n (3 * c), erased-bit n (3 * c + 1), erased-bit n (3 * c + 2))
+erased-level n c = omega (arith, zeros-bit n (3 * c), zeros-bit n (3 * c + 1), zeros-bit n (3 * c + 2))
 
 -- EVENTS. Where no cell is lowered, the sum of the levels grows by the raises
 grows : (before after : List ℕ) → ((c : ℕ) → c < cellsOn before → level before c ≤ level after c)

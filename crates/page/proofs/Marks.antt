@@ -26,7 +26,7 @@ use Rattle.cells.specs.Marks.{emptied}
 use Rattle.cells.specs.Raising.{startOf, startIn, triple}
 use Rattle.cells.proofs.Places.{zeros-at, sumOf-zero}
 use Rattle.cells.proofs.Raising.{raisedTo-keeps}
-use Rattle.cells.proofs.Marks.{zero-map, emptied-same, emptied-none}
+use Rattle.cells.proofs.Marks.{zeros-bit, zero-map, emptied-same, emptied-none}
 use Rattle.codes.specs.Generators.{Generators}
 use Rattle.codes.specs.Layouts.{oneBit, cellCount, byteCount, mapCount}
 use Rattle.codes.specs.Reading.{ago, sumBit, dataBit}
@@ -50,7 +50,7 @@ use Rattle.refusals.specs.declared.Refusal.{Refusal}
 use Rattle.page.specs.declared.Answer.{Answer}
 use Rattle.page.specs.declared.Answer.the-variants as A
 use Rattle.page.proofs.Promise.{job-in-order, wrote-by, wrote, one-ground, done-not-spent}
-use Rattle.page.proofs.Ledger.{erased-bit, erased-level}
+use Rattle.page.proofs.Ledger.{erased-level}
 
 -- THE LENGTH. A map of the right length, or none
 pub data RightMap (L S : ℕ) : Option (List ℕ) → Type 0 where
@@ -272,7 +272,7 @@ pub erased-reads : (G : Generators) (L S n : ℕ) → readPage G L S (replicate 
 unfolding readPage stripLevels
 erased-reads G L S n =
     reads-of oneBit G L S (replicate n 0) (replicate (L * S) 0) (length-replicate {A = ℕ} (L * S) 0) (zeros-octets (L * S))
-    (λ j h t l. ap (λ (v : ℕ → ℕ). dataBit oneBit G v t) (fun-ext (λ c. erased-level n _)) ∙ zero-sum G t ∙ sym (erased-bit (L * S) _))
+    (λ j h t l. ap (λ (v : ℕ → ℕ). dataBit oneBit G v t) (fun-ext (λ c. erased-level n _)) ∙ zero-sum G t ∙ sym (zeros-bit (L * S) _))
 
 -- an erased page of the right length
 abbrev pub erasedPage : ℕ → ℕ → List ℕ

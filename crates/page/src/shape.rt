@@ -1,20 +1,11 @@
 // The strips of a page, as parts of the caller's page.
 ghost use mathlib.Core.Path.{_≡_};
-ghost use Prim.Native.Nat.{_<_, _≤_, min};
 ghost use Rattle.page.specs.Shape.{stripOf, Lies, Found};
-ghost use Rattle.page.specs.Plans.{mapPart};
 
 // Where a strip stands in its page.
 struct Place {
     start: usize,
     end: usize,
-}
-
-// The lesser of two.
-fn lesser(x: usize, y: usize) -> usize
-    ensures { λ r. ⌜ r ≡ min x y ⌝ }
-{
-    if x < y { x } else { y }
 }
 
 // Where strip k stands in a page of this many bytes: nowhere, from a place to the same, where L is not from 1 to 64 or the strip lies
@@ -63,17 +54,4 @@ pub fn strip_mut(page: &mut [u8], bytes: usize, k: usize) -> &mut [u8]
     let start = p.start;
     let end = p.end;
     &mut page[start..end]
-}
-
-// Strip k's part of a map of cells, which ends where the map ends: of a map with no byte it has none, and so no cell is marked.
-pub fn map_part(map: &[u8], bytes: usize, k: usize) -> &[u8]
-    requires { ⌜ (bytes ≤ 64) × (k < 64) ⌝ }
-    ensures { λ r. ⌜ now r ≡ mapPart bytes k (now (map .entry)) ⌝ }
-{
-    let n = codes::MAP_BYTES * bytes;
-    let at = n * k;
-    let size = map.len();
-    let start = lesser(at, size);
-    let end = lesser(at + n, size);
-    &map[start..end]
 }

@@ -11,7 +11,7 @@ use trellis::rows::rows_of;
 ghost use mathlib.Core.Path.{_≡_};
 ghost use mathlib.Core.List.{[], _∷_};
 ghost use mathlib.Core.Option.{none, some};
-ghost use Prim.Native.Nat.{_*_, _≤_};
+ghost use Prim.Native.Nat.{_*_, _<_, _≤_, min};
 ghost use lib.ListN.{length};
 ghost use Rattle.cells.specs.Places.{Free};
 ghost use Rattle.cells.specs.Marks.{marksIn};
@@ -23,7 +23,27 @@ ghost use Rattle.search.specs.Strip.{Dear, stepsOf};
 ghost use Rattle.page.specs.Shape.{Sized};
 ghost use Rattle.page.specs.Answers.{oneBitJob, jobAnswer, jobPage, answerWith, pageWith, answerOf, pageOf, valueOf, largestCost, largestWeightedCost};
 ghost use Rattle.page.specs.Promise.{WroteWith, Wrote};
-ghost use Rattle.page.specs.Plans.{Planned, Carried};
+ghost use Rattle.page.specs.Plans.{mapPart, Planned, Carried};
+
+// The lesser of two.
+fn lesser(x: usize, y: usize) -> usize
+    ensures { λ r. ⌜ r ≡ min x y ⌝ }
+{
+    if x < y { x } else { y }
+}
+
+// Strip k's part of a map of cells, which ends where the map ends: of a map with no byte it has none, and so no cell is marked.
+fn map_part(map: &[u8], bytes: usize, k: usize) -> &[u8]
+    requires { ⌜ (bytes ≤ 64) × (k < 64) ⌝ }
+    ensures { λ r. ⌜ now r ≡ mapPart bytes k (now (map .entry)) ⌝ }
+{
+    let n = codes::MAP_BYTES * bytes;
+    let at = n * k;
+    let size = map.len();
+    let start = lesser(at, size);
+    let end = lesser(at + n, size);
+    &map[start..end]
+}
 
 // What the data of the whole page costs.
 fn price_strips(
@@ -48,7 +68,7 @@ fn price_strips(
             code,
             &rows,
             shape::strip(page, bytes, k),
-            shape::map_part(map, bytes, k),
+            map_part(map, bytes, k),
             &data[a..a + bytes],
         );
         total = total.add(price);
@@ -88,7 +108,7 @@ fn plan_strips(
             code,
             &rows,
             shape::strip(page, bytes, k),
-            shape::map_part(map, bytes, k),
+            map_part(map, bytes, k),
             &data[a..a + bytes],
             &mut digits[a..a + bytes],
         );

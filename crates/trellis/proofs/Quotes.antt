@@ -17,18 +17,17 @@ use mathlib.Core.List.{List, [], _∷_, _++_}
 use mathlib.Core.Option.{none, some}
 use Prim.Native.Nat.{ℕ, zero, suc, _+_, _-_, _*_, _/_, _%_, _^_, _<_, _≤_, min}
 use native.Mathlib.Omega.{arith}
-use native.Mathlib.Nat.{mod-lt, zero-lt-suc, zero-div, min-eq-left, min-eq-right, min-le-right}
+use native.Mathlib.Nat.{mod-lt, zero-lt-suc, min-eq-left, min-eq-right, min-le-right}
 use lib.Dec.{eqb, ltb}
 use lib.ListN.{length, getD, replicate, getD-replicate, List·getD-append, List·getD-eq-default}
 use lib.Seq.{getD-append-add}
-use lib.Pow.{shr-shr, field, mod-mod-pow}
 use borrow.Author.Tests.{eq-eqb, ne-eqb, ltb-true, ltb-false, le-ltb}
-use Rattle.cells.specs.Places.{listOf, number}
+use Rattle.cells.specs.Places.{number}
 use Rattle.cells.specs.Bytes.{bitOf}
 use Rattle.cells.specs.Levels.{level}
 use Rattle.cells.specs.Marks.{marksIn}
 use Rattle.cells.specs.Climbs.{weightOf}
-use Rattle.cells.proofs.Places.{listOf-at, number-same, number-less}
+use Rattle.cells.proofs.Places.{number-same, number-less}
 use Rattle.cells.proofs.Bytes.{bit-bound, number-bit, byte-bits}
 use Rattle.cells.proofs.Levels.{level-bound}
 use Rattle.codes.specs.Generators.{Generators}

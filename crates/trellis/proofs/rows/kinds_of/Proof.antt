@@ -1,7 +1,7 @@
 -- The law of the words; all of them are within 51 bits.
 use Prim.Native.Nat.{ℕ, _*_, _^_, _<_}
 use native.Mathlib.Omega.{arith}
-use lib.Bits.{bitAnd, bitOr, bitXor, and-le-r, or-lt, xor-lt}
+use lib.Bits.{bitAnd, bitXor, and-le-r, or-lt, xor-lt}
 use borrow.Author.Needs.{needs}
 use Rattle.trellis.specs.Rows.{packedOf}
 use Rattle.trellis.proofs.Words.{seconds, seconds-less, kinds-less, marks-less, kinds-packed}

@@ -5,8 +5,8 @@ use native.Mathlib.Nat.{mul-le-mul}
 use borrow.Author.Needs.{needs}
 use Rattle.codes.proofs.Layouts.{oneBit-map}
 use Rattle.page.proofs.Strips.{part-cut}
-use Rattle.page.proofs.shape.map_part.Statement.{statement}
-use Rattle.page.proofs.shape.map_part.Tie as tie
+use Rattle.page.proofs.writing.map_part.Statement.{statement}
+use Rattle.page.proofs.writing.map_part.Tie as tie
 
 -- the bytes before the part are at most 8,192
 most : (c : tie.Start) → 2 * c .args .bytes * c .args .k ≤ 128 * 64
