@@ -112,6 +112,33 @@ fn show_weighted_on(
     show_read(code, bytes, strips, page, data);
 }
 
+// The same with a map of marked cells.
+fn show_mapped_on(
+    name: &[u8],
+    code: u32,
+    bytes: u32,
+    strips: u32,
+    weights: [u8; 3],
+    page: &mut [u8],
+    map: &[u8],
+    data: &mut [u8],
+) {
+    let w1 = weights[0];
+    let w2 = weights[1];
+    let w3 = weights[2];
+    io::write_all(STDOUT_FILENO, name);
+    io::write_all(STDOUT_FILENO, b"\n");
+    print_answer(
+        b"  price",
+        firmware::segrunov_price_mapped(code, bytes, strips, w1, w2, w3, page, map, data),
+    );
+    print_answer(
+        b"  write",
+        firmware::segrunov_write_mapped(code, bytes, strips, w1, w2, w3, page, map, data),
+    );
+    show_read(code, bytes, strips, page, data);
+}
+
 // The same with one byte of data.
 fn show_call(name: &[u8], code: u32, bytes: u32, strips: u32, page: &mut [u8]) {
     let mut data = [0x80u8; 1];
@@ -126,7 +153,18 @@ fn show_erase_of(name: &[u8], bytes: u32, strips: u32, page: &mut [u8], tenths: 
     io::write_all(STDOUT_FILENO, b"\n");
 }
 
-// The same of a page of one strip.
+// The same with a map of marked cells.
+fn show_mapped_erase(name: &[u8], bytes: u32, strips: u32, page: &mut [u8], map: &[u8]) {
+    print_answer(
+        name,
+        firmware::segrunov_erase_mapped(bytes, strips, page, map, 200),
+    );
+    io::write_all(STDOUT_FILENO, b"  page ");
+    print_bytes(page);
+    io::write_all(STDOUT_FILENO, b"\n");
+}
+
+// The same of a page of one strip, without a map.
 fn show_erase(name: &[u8], tenths: i16) {
     let mut page = [0x5au8; 6];
     show_erase_of(name, 1, 1, &mut page, tenths);
@@ -270,6 +308,73 @@ fn show_weights() {
     );
 }
 
+// A page under one map, which marks the cells 7 and 10 of strip 1 where L = 2, and cells of strip 0 where L = 3: an erase that leaves their
+// bits, then writes. A map that is a byte short. And a page all of whose cells are marked at level 0. By write_page, the model in
+// tests/run.py, the map with the bits of each byte or the bytes of each pair turned round, or another strip's, gives other costs.
+fn show_maps() {
+    let map = [0u8, 0, 0, 0, 0x80, 0x04, 0, 0, 0, 0, 0, 0];
+    let mut page = [0x5au8; 36];
+    show_mapped_erase(
+        b"erase, map of strip 1, L = 2, S = 3",
+        2,
+        3,
+        &mut page,
+        &map,
+    );
+    show_mapped_on(
+        b"map of strip 1, L = 2, S = 3, code 7",
+        7,
+        2,
+        3,
+        [3, 1, 2],
+        &mut page,
+        &map,
+        &mut [0x61, 0x7b, 0x0f, 0xed, 0xa7, 0xe1],
+    );
+    show_mapped_on(
+        b"the same map, L = 3, S = 2, code 3",
+        3,
+        3,
+        2,
+        [16, 20, 28],
+        &mut page,
+        &map,
+        &mut [0x6a, 0xb3, 0x78, 0x20, 0xdb, 0x5c],
+    );
+    show_mapped_on(
+        b"a map of 11 bytes",
+        3,
+        3,
+        2,
+        [16, 20, 28],
+        &mut page,
+        &[0u8; 11],
+        &mut [0u8; 6],
+    );
+    show_mapped_erase(b"erase, a map of 11 bytes", 3, 2, &mut page, &[0u8; 11]);
+    let mut strip = [0u8; 6];
+    show_mapped_on(
+        b"every cell marked at level 0",
+        3,
+        1,
+        1,
+        [16, 20, 28],
+        &mut strip,
+        &[0xff, 0xff],
+        &mut [0x80],
+    );
+    show_mapped_on(
+        b"the same, zeros",
+        3,
+        1,
+        1,
+        [16, 20, 28],
+        &mut strip,
+        &[0xff, 0xff],
+        &mut [0x00],
+    );
+}
+
 // The calls that the paper says are refused, and those beside them that are done.
 fn show_calls() {
     show_call(b"code 3", 3, 1, 1, &mut [0u8; 6]);
@@ -292,6 +397,7 @@ fn show_calls() {
     show_census(1, 1, &[0xff, 0xff, 0xff, 0xff, 0xff, 0xff]);
     show_shapes();
     show_weights();
+    show_maps();
 }
 
 fn main() {
