@@ -187,7 +187,7 @@ FAULTS = {
             in_price_strip("crate::rows::planted([0; 512]);", "pub fn planted(kept: [u8; 512]) {}"),
         ),
         ("cells::bit keeps [u8; 3] 0 times, and 1 are named", change("tests/pricing.py", r'"cells::weight"', '"cells::bit"')),
-        ("has no place for a level", change("tests/pricing.py", r'(?<="\[u32; 64\]"\): \(1, )"a state"', '"a level"')),
+        ("has no place for a word", change("tests/pricing.py", r'(?<="\[u32; 64\]"\): \(1, )"a state"', '"a word"')),
         ("the source is rejected", append(ROWS, "\npub fn planted() -> u32 {}\n")),
     ],
     "measured": [

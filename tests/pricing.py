@@ -18,10 +18,9 @@ from repository import finish
 PLACES = {
     "a code": 2,
     "a step": 3,  # from level 0, 1 or 2
-    "a level": 4,
+    "a kind of cell": 8,  # its level, and 4 more where it is marked
     "a word": 4,  # the code bits of a stage
-    "a word of a row": 4 * 32,  # by the levels of two cells and a label
-    "a pattern of two cells": 64,  # six bits
+    "a word of a row": 4 * 64,  # by the kind of the first cell, the level of the second and a label
     "a state": 64,
 }
 
@@ -30,7 +29,7 @@ KEPT = {
     ("cells::weight", "[u8; 3]"): (1, "a step"),
     ("codes::Code::generators", "[codes::CodeRow; 2]"): (2, "a code"),  # the table stands in each arm
     ("page::writing::price", "[u8; 3]"): (1, "a step"),
-    ("page::writing::price_strips", "[u32; 128]"): (1, "a word of a row"),
+    ("page::writing::price_strips", "[u32; 256]"): (1, "a word of a row"),
     ("refusals::free_step", "[u8; 3]"): (1, "a step"),
     ("stages::blocks::run_long", "[u8; 64]"): (1, "a state"),
     ("stages::blocks::run_short", "[u32; 4]"): (1, "a word"),
@@ -38,9 +37,9 @@ KEPT = {
     ("stages::stage::stage", "[u32; 4]"): (1, "a word"),
     ("stages::stage::stage", "[u32; 64]"): (1, "a state"),
     ("trellis::backward::price_strip", "[u32; 64]"): (1, "a state"),
-    ("trellis::rows::picks_of", "[u8; 64]"): (1, "a pattern of two cells"),
-    ("trellis::rows::price_for", "[u32; 4]"): (1, "a level"),
-    ("trellis::rows::rows_of", "[u32; 128]"): (1, "a word of a row"),
+    ("trellis::rows::row_prices", "[u32; 8]"): (1, "a kind of cell"),
+    ("trellis::rows::rows_of", "[u32; 256]"): (1, "a word of a row"),
+    ("trellis::rows::rows_of", "[u32; 4]"): (1, "a word"),
 }
 
 
