@@ -26,7 +26,7 @@ FIRMWARE = "crates/firmware/src/lib.rt"
 WRITING = "crates/page/src/writing.rt"
 BACKWARD = "crates/trellis/src/backward.rt"
 ROWS = "crates/trellis/src/rows.rt"
-STRIP = "code, &rows, shape::strip(page, bytes, k), &data[a..a + bytes]"
+STRIP = "code, &rows, shape::strip(page, bytes, k), map_part(map, bytes, k), &data[a..a + bytes]"
 KEPT = "let mut kept = [0u8; 64]; kept[0] = 1;"
 
 # What rt ci is to count.
