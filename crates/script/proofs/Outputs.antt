@@ -41,7 +41,7 @@ begun-goes p content b =
     record {
       late = let h = b .late in omega arith;
       judged = b .judged;
-      sized = page-length house (v .code) (v .bytes) (v .strips) (p .page) content ∙ b .sized;
+      sized = page-length none house (v .code) (v .bytes) (v .strips) (p .page) content ∙ b .sized;
     }
 
 -- EACH DATA LINE prints a row whose answer is 0 or 7, or is at fault and the last

@@ -22,7 +22,7 @@ use Rattle.refusals.specs.declared.Completion.the-variants.{Done, Refused}
 use Rattle.refusals.specs.Refusals.{sizesGround, pageGround, dataGround, lengthsGround, ground, writeGround, refusalNumber, textNumber, completionOf}
 use Rattle.codes.proofs.Layouts.{oneBit-bytes}
 use Rattle.demand.specs.Computed.{pageWrite, spentStrip}
-use Rattle.page.specs.Answers.{callAnswer, jobAnswer, jobOf, answerOf, numberOf}
+use Rattle.page.specs.Answers.{callAnswer, jobAnswer, jobOf, answerWith, numberOf}
 use Rattle.refusals.proofs.Refusals.{house-ground, done-none, refused-some}
 use Rattle.text.specs.declared.Values.{Values}
 use Rattle.text.specs.declared.Form.{Form}
@@ -100,7 +100,7 @@ pub record Begun (p : Progress) : Type 0 where
 -- 'one row a write: its number from 1, 0 or 7'
 pub answers-0-or-7 : (p : Progress) (text : List ℕ) → Begun p → isData (sizeOf (p .values)) text ≡ true
     → (numberOf (valuesAnswer (p .values) (p .page) (pairs text)) ≡ 0) ⊎ (numberOf (valuesAnswer (p .values) (p .page) (pairs text)) ≡ 7)
-unfolding answerOf jobAnswer contentOf
+unfolding answerWith jobAnswer contentOf
 answers-0-or-7 p text b t =
     let v = p .values in
     let d = text-of-data (sizeOf v) text (pairs text) (rw t) in
