@@ -1,4 +1,5 @@
--- What a write cannot do, with any map and any weights of three bytes: raise a cell by more than one, or cost more than the dearest step for each cell.
+-- What a write cannot do, with any map and any weights of three bytes: raise a cell by more than one, or cost more than the dearest step for
+-- each cell.
 --   write-near         no cell rises by more than one
 --   write-most         the cost is at most the dearest step for each cell
 --   write-largest      so at most 65,536 times that
@@ -74,7 +75,8 @@ module _ (map : Option (List ℕ)) (W : List ℕ) (K : Weights W) (code L S : �
           rw (solution-raised startOf (jobWith map W code L S before content) (job-in-order map W code L S before content b e) a f c h)
           (page-near (numbered code) W (numbered-suits code W (K .three) (K .bytes))
           (dear-by (mapSize map) W code L S (length before) (length content) e) L S
-          (one-to-64 L (weighted-in-order (mapSize map) W code L S (length before) (length content) e .0) .1) before (markedBy map) content a f c h)
+          (one-to-64 L (weighted-in-order (mapSize map) W code L S (length before) (length content) e .0) .1) before
+          (markedBy map) content a f c h)
 
   -- THE COST of a write is at most w for each cell, where no step costs more
   module _ (w : ℕ) (most : (l : ℕ) → weightOf W l ≤ w) (cost : ℕ) (answer : answerWith map W code L S before content ≡ A.Done cost) where
@@ -86,7 +88,8 @@ module _ (map : Option (List ℕ)) (W : List ℕ) (K : Weights W) (code L S : �
     unfolding jobCost costOf
     write-most = go promised
       where
-        go : WroteWith map W code L S before content (pageWith map W code L S before content startOf) (A.Done cost) → cost ≤ cellCount oneBit L * S * w
+        go : WroteWith map W code L S before content (pageWith map W code L S before content startOf) (A.Done cost)
+            → cost ≤ cellCount oneBit L * S * w
         go (done g p) =
             rw (← (p .paid))
             (sumOf-le
@@ -108,7 +111,8 @@ module _ (map : Option (List ℕ)) (W : List ℕ) (K : Weights W) (code L S : �
             omega arith
 
 -- NO ANSWER HAS A GREATER VALUE, where no step costs more than w: the cost is at most that, and the number of a spent strip is below 64
-pub value-most : (map : Option (List ℕ)) (W : List ℕ) → Weights W → (w : ℕ) → 0 < w → ((l : ℕ) → weightOf W l ≤ w) → (code L S : ℕ) (before content : List ℕ)
+pub value-most : (map : Option (List ℕ)) (W : List ℕ) → Weights W → (w : ℕ) → 0 < w → ((l : ℕ) → weightOf W l ≤ w)
+    → (code L S : ℕ) (before content : List ℕ)
     → Octets content → {r : Answer} → r ≡ answerWith map W code L S before content → valueOf r ≤ 65536 * w
 value-most map W K w p most code L S before content b {r} e = go r (sym e) (rw (sym e) at (wrote map W code L S before content b))
   where
@@ -133,7 +137,8 @@ pub house-largest : (map : Option (List ℕ)) (code L S : ℕ) (before content :
 house-largest map = value-most map house (three-weights 16 20 28 (omega arith) (omega arith) (omega arith)) 28 (omega arith) house-most
 
 -- ANY WEIGHTS: a step costs at most 255, and 'one write of the largest page then costs at most 16,711,680'
-pub weighted-largest : (map : Option (List ℕ)) (W : List ℕ) → Weights W → (code L S : ℕ) (before content : List ℕ) → Octets content → {r : Answer}
+pub weighted-largest : (map : Option (List ℕ)) (W : List ℕ) → Weights W → (code L S : ℕ) (before content : List ℕ) → Octets content
+    → {r : Answer}
     → r ≡ answerWith map W code L S before content → valueOf r ≤ largestWeightedCost
 unfolding weightOf
 weighted-largest map W K = value-most map W K 255 (omega arith) (K .bytes)

@@ -61,7 +61,8 @@ module _ (g : Option Refusal) (J : Job) {p q : List ℕ} (s : SameLevels p q) (I
   promised-alike (refused e x) (refused f y) = (cc, rw (x, y) s)
 
 -- TWO WRITES of the same data with any map and weights, in any two orders, on pages of one length with equal levels
-pub write-alike : (start start′ : ℕ → ℕ) (map : Option (List ℕ)) (W : List ℕ) (code L S : ℕ) {p q : List ℕ} (content : List ℕ) → Octets content → SameLevels p q
+pub write-alike : (start start′ : ℕ → ℕ) (map : Option (List ℕ)) (W : List ℕ) (code L S : ℕ) {p q : List ℕ} (content : List ℕ)
+    → Octets content → SameLevels p q
     → (answerWith map W code L S p content ≡ answerWith map W code L S q content)
     × SameLevels (pageWith map W code L S p content start) (pageWith map W code L S q content start′)
 write-alike start start′ map W code L S {p} {q} content b s =

@@ -57,7 +57,8 @@ module _ (G : Generators) (W : List ℕ) (K : Suits G W) (D : Dear (stepsOf W)) 
   strip-below k a e = write-below G W K D L (stripPart L k before) (stripMarks k) (part L k content) a e most
 
   -- a strip's write has a level for each cell
-  strip-levels : (k : ℕ) (b : Solution) → stripWrite (oneBitJob marks G W L S before content) k ≡ some b → length (b .levels) ≡ cellCount oneBit L
+  strip-levels : (k : ℕ) (b : Solution) → stripWrite (oneBitJob marks G W L S before content) k ≡ some b
+      → length (b .levels) ≡ cellCount oneBit L
   unfolding stripWrite stripBytes
   strip-levels k b e =
       strip-width oneBit L (stripPart L k before) (stripMarks k) G (suits-sound K) W (part L k content) .width _ _
@@ -139,4 +140,6 @@ module _ (G : Generators) (W : List ℕ) (K : Suits G W) (D : Dear (stepsOf W)) 
           level-is : (i : ℕ) → i < n → carriedTo G (stripPart L k before) (part L k content) (digitIn (part L k digits)) i
               ≡ levelAt (a .levels) (n * k + i)
           level-is i l =
-              p .planned a e k h .leads (own G W K D L S most before (marksIn map) content a e k h .own) (write-same k long ∙ own G W K D L S most before (marksIn map) content a e k h .is) i (rw long l) ∙ own-level G W K D L S most before (marksIn map) content a e k h i l
+              p .planned a e k h .leads (own G W K D L S most before (marksIn map) content a e k h .own)
+              (write-same k long ∙ own G W K D L S most before (marksIn map) content a e k h .is) i (rw long l)
+              ∙ own-level G W K D L S most before (marksIn map) content a e k h i l

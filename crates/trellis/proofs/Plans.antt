@@ -131,7 +131,8 @@ record Onward (G : Generators) (W strip : List ℕ) (marks : ℕ → Bool) (cont
   rest : Solution
   further : onward G W strip marks content L (suc t) ≡ some rest
   carried : a .levels
-      ≡ carriedTo G strip content (pathDigit G W strip marks content L) (2 * t) ∷ carriedTo G strip content (pathDigit G W strip marks content L)
+      ≡ carriedTo G strip content (pathDigit G W strip marks content L) (2 * t) ∷ carriedTo G strip content
+      (pathDigit G W strip marks content L)
       (2 * t + 1)
       ∷ rest .levels
 
@@ -159,7 +160,8 @@ module _ (G : Generators) (W : List ℕ) (K : Suits G W) (strip : List ℕ) (mar
         rest = b .second;
         further = b .right;
         carried = rw (c, g) (b .append ∙ ap (λ (l : List ℕ). l ++ b .second .levels)
-            (oneBit-held (G .memory) G (K .both) (stepsOf W) (cellFor strip marks (2 * t)) (cellFor strip marks (2 * t + 1)) (labelFor G content t) s d
+            (oneBit-held (G .memory) G (K .both) (stepsOf W) (cellFor strip marks (2 * t)) (cellFor strip marks (2 * t + 1))
+            (labelFor G content t) s d
             (b .first) (b .left)));
       }
 
@@ -258,7 +260,8 @@ module _ (G : Generators) (W : List ℕ) (K : Suits G W) (strip : List ℕ) (mar
         ∙ sym (window-parts m miss-less 1 k (suc t)) ∙ ap (λ (n : ℕ). windowOf n m (suc t + k)) (let n : 1 + k ≡ suc k = omega arith in n))
 
 -- THE PATH IS FOLLOWED: the trail that the history keeps and the bits of the first cells give the first code bits of each block
-path-followed : (G : Generators) (W : List ℕ) → Suits G W → Dear (stepsOf W) → (strip : List ℕ) (marks : ℕ → Bool) (content : List ℕ) {lows history : List ℕ}
+path-followed : (G : Generators) (W : List ℕ) → Suits G W → Dear (stepsOf W)
+    → (strip : List ℕ) (marks : ℕ → Bool) (content : List ℕ) {lows history : List ℕ}
     → Traced G W strip marks content history → Lows strip (length content) lows → (a : Solution) → writeOf G W strip marks content ≡ some a
     → Followed G lows history (length content) (pathDigit G W strip marks content (length content))
 path-followed G W K D strip marks content {lows} {history} T B a e = record {
@@ -358,11 +361,14 @@ costs-below G W K strip marks content zero t s = at-most {c = 0} (omega arith)
 costs-below G W K strip marks content (suc k) t s =
     let e : suc k * 510 ≡ 510 + k * 510 = omega arith in
     rw e (below-lesser
-    (below-add (price-below G W K strip marks content t (branchWord (wordsOf G) s false)) (costs-below G W K strip marks content k (suc t) _))
-    (below-add (price-below G W K strip marks content t (branchWord (wordsOf G) s true)) (costs-below G W K strip marks content k (suc t) _)))
+    (below-add (price-below G W K strip marks content t (branchWord (wordsOf G) s false))
+    (costs-below G W K strip marks content k (suc t) _))
+    (below-add (price-below G W K strip marks content t (branchWord (wordsOf G) s true))
+    (costs-below G W K strip marks content k (suc t) _)))
 
 -- WHAT A WRITE CANNOT DO: raise a cell by more than one
-module _ (G : Generators) (W : List ℕ) (K : Suits G W) (D : Dear (stepsOf W)) (L : ℕ) (strip : List ℕ) (marks : ℕ → Bool) (content : List ℕ) (a : Solution)
+module _ (G : Generators) (W : List ℕ) (K : Suits G W) (D : Dear (stepsOf W)) (L : ℕ) (strip : List ℕ) (marks : ℕ → Bool)
+    (content : List ℕ) (a : Solution)
     (e : rewriteOf oneBit G W L strip marks content ≡ some a) where
   pub strip-near : (c : ℕ) → c < cellCount oneBit L → levelAt (a .levels) c ≤ suc (level strip c)
   unfolding carriedTo

@@ -305,7 +305,8 @@ module _ (map : List ℕ) (bytes : (i : ℕ) → getD map i 0 < 256) (q : ℕ) w
   cell-mark j h = marks-bit j h ∙ mark-bit map (16 * q + j)
 
 -- A STAGE'S CELLS in its row
-module _ (strip map : List ℕ) (strip-bytes : (k : ℕ) → getD strip k 0 < 256) (map-bytes : (k : ℕ) → getD map k 0 < 256) (q i : ℕ) (h : i < 8)
+module _ (strip map : List ℕ) (strip-bytes : (k : ℕ) → getD strip k 0 < 256) (map-bytes : (k : ℕ) → getD map k 0 < 256) (q i : ℕ)
+    (h : i < 8)
   where
     -- the kind of the first
     pub first-kind : cellKind (bitsAt strip q) (marksAt map q) (2 * i)
@@ -422,7 +423,8 @@ module _ (W : List ℕ) (three : length W ≡ 3) (bytes : (i : ℕ) → getD W i
       let f : (v + r / 32) % 2 ≡ ((v + one-if a) % 2 + 1 + l) % 2 =
       ap (λ (i : ℕ). (v + i) % 2) (turned k ((1 + l) % 2) (one-if a) r k-le (omega arith) n e) ∙ asked v l (one-if a) in
       let g : (v + one-if a) % 2 ≡ one-if (odd v +₂ a) = ap (λ (i : ℕ). (i + one-if a) % 2) (sym (one-if-odd v h)) ∙ sum-bits (odd v) a in
-      rw (d, f, as-full W three l ((v + one-if a) % 2) l-le (mod-lt _ (zero-lt-suc 1)), g) (price-told W three bytes l true (odd v +₂ a) l-le)
+      rw (d, f, as-full W three l ((v + one-if a) % 2) l-le (mod-lt _ (zero-lt-suc 1)), g)
+      (price-told W three bytes l true (odd v +₂ a) l-le)
 
 module _ (W rows : List ℕ) (P : Priced W rows) (x y : Cell) (r : ℕ) (a : Bool) (x-le : x .level ≤ 3) (y-le : y .level ≤ 3)
     (e : r ≡ (x .level + 4 * one-if (x .mark) + 8 * secondIn (y .level) (one-if (y .mark)) + one-if a * 32) % 64) where
@@ -471,4 +473,5 @@ row-quoted W rows P strip map strip-bytes map-bytes G content q i labels picks h
     cells-quoted W rows P (cellFor strip (marksIn map) c) (cellFor strip (marksIn map) (c + 1)) (pickAt picks i)
     (labelFor G content (8 * q + i)) (level-bound strip c) (level-bound strip (c + 1))
     (e ∙ ap (λ (n : ℕ). n % 64) (ap₂ (λ (m n : ℕ). m + n * 32)
-    (ap₂ (λ (m n : ℕ). m + 8 * n) (first-kind strip map strip-bytes map-bytes q i h) (second-kind strip map strip-bytes map-bytes q i h)) f))
+    (ap₂ (λ (m n : ℕ). m + 8 * n) (first-kind strip map strip-bytes map-bytes q i h)
+    (second-kind strip map strip-bytes map-bytes q i h)) f))

@@ -174,7 +174,8 @@ module _ (G : Generators) (strip : List ℕ) (marks : ℕ → Bool) (content : L
         ∙ stages-from 0 (8 * L))
 
 -- THE COST of state 0 before the first stage of L blocks is the write's
-pub cost-start : (G : Generators) (W : List ℕ) → Suits G W → Dear (stepsOf W) → (L : ℕ) (strip : List ℕ) (marks : ℕ → Bool) (content : List ℕ)
+pub cost-start : (G : Generators) (W : List ℕ) → Suits G W → Dear (stepsOf W)
+    → (L : ℕ) (strip : List ℕ) (marks : ℕ → Bool) (content : List ℕ)
     → costsFor G W (stagesFor G strip marks content 0 (8 * L)) 0 ≡ solutionCost (rewriteOf oneBit G W L strip marks content)
 unfolding stagesOf
 cost-start G W K D L strip marks content =
@@ -187,7 +188,8 @@ cost-start G W K D L strip marks content =
 
 -- A LOOP over the blocks from the last to the first holds, before block q, the eight labels before it and numbers that tell what the states
 -- cost from there on, for all weights whose table it has
-pub record BlocksTold (G : Generators) (rows strip : List ℕ) (marks : ℕ → Bool) (content : List ℕ) (q before : ℕ) (numbers : List ℕ) : Type 0 where
+pub record BlocksTold (G : Generators) (rows strip : List ℕ) (marks : ℕ → Bool) (content : List ℕ) (q before : ℕ)
+    (numbers : List ℕ) : Type 0 where
   pub within : q ≤ length content
   pub labels-are : before ≡ windowOf 8 (labelAt G content) (8 * q)
   pub long : length numbers ≡ 64
@@ -260,7 +262,8 @@ outcome-told m v none l (shut h) = rw (le-ltb v closed h)
 outcome-told m v (some a) l (open-at h) = rw (lt-ltb v closed (omega arith))
 
 -- before the first block the number of state 0 tells the strip's outcome
-pub blocks-first : {G : Generators} {rows strip : List ℕ} {marks : ℕ → Bool} {content : List ℕ} {before : ℕ} {numbers : List ℕ} → length content ≤ 64
+pub blocks-first : {G : Generators} {rows strip : List ℕ} {marks : ℕ → Bool} {content : List ℕ} {before : ℕ} {numbers : List ℕ}
+    → length content ≤ 64
     → BlocksTold G rows strip marks content 0 before numbers → (W : List ℕ) → Suits G W → Priced W rows
     → toldOutcome (getD numbers 0 0 / 256) ≡ solutionOutcome (writeOf G W strip marks content)
 blocks-first {G} {rows} {strip} {marks} {content} {before} {numbers} most h W K P =

@@ -34,6 +34,7 @@ fn row_prices(steps: [u32; 8], r: usize) -> [u32; 4]
 {
     let first = 256 * steps[r % 8];
     let second = 256 * steps[r / 8 % 4];
+    // Words 0 and 1 ask the label of the second cell, words 2 and 3 the other bit; `other` is 1 where it shows that one.
     let other = ((r / 8 + r / 32) % 2) as u8;
     let a = pick(other, 0, second);
     let b = pick(other, second, 0);

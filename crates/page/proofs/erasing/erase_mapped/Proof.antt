@@ -37,7 +37,8 @@ returns c =
     let t = c .before .before .before .before in
     let j = t .before .before in
     let a = j .before .before .before .args in
-    let e = done-none (erasingGround (some (length (a .map .now))) (a .bytes) (a .strips) (length (a .page .now)) (a .tenths)) (sym (judged j)
+    let e = done-none (erasingGround (some (length (a .map .now))) (a .bytes) (a .strips) (length (a .page .now)) (a .tenths))
+    (sym (judged j)
     ∙ t .enum-told .given .1) in
     (judged j, rw e (c .before .before .empty-unmarked .ensures))
 
@@ -45,7 +46,8 @@ returns-2 : tie.Need-returns-2
 returns-2 c =
     let j = c .before .before in
     let a = j .before .before .before .args in
-    let e = refused-some (erasingGround (some (length (a .map .now))) (a .bytes) (a .strips) (length (a .page .now)) (a .tenths)) (sym (judged j)
+    let e = refused-some (erasingGround (some (length (a .map .now))) (a .bytes) (a .strips) (length (a .page .now)) (a .tenths))
+    (sym (judged j)
     ∙ c .enum-told2 .given .1) in
     (judged j, rw e)
 

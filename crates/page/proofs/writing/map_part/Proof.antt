@@ -39,7 +39,8 @@ part-result-end c = search needs
 returns : tie.Need-returns
 returns c =
     let a = c .before .before .before .before .args in
-    rw (c .before .lesser2 .ensures, c .before .before .lesser .ensures, oneBit-map (a .bytes)) (part-cut (2 * a .bytes) (a .k) (a .map .now))
+    rw (c .before .lesser2 .ensures, c .before .before .lesser .ensures, oneBit-map (a .bytes))
+    (part-cut (2 * a .bytes) (a .k) (a .map .now))
 
 pub map-part-spec : {M : Type 1} → statement M
 map-part-spec =

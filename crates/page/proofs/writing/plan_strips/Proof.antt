@@ -51,10 +51,12 @@ fit-digits c =
     omega (arith, fit c, c .before .loop .inv .0, c .before .before .before .before .before .before .before .before .pre .0 .data-is)
 
 -- after a turn the total has one more strip
-one-more : (c : tie.After-add Inv-loop μ-loop) → let l = c .before .before .before .before .before .before .before .before .before .before in
+one-more : (c : tie.After-add Inv-loop μ-loop)
+    → let l = c .before .before .before .before .before .before .before .before .before .before in
     let r = l .before .before in let a = r .before .before .before .before .before .args in
     (W : List ℕ) → Priced W (r .rows-of .result)
-    → Reached (oneBitJob (marksIn (a .map .now)) (generatorsOf (a .code)) W (a .bytes) (a .strips) (a .page .now) (a .«data» .now)) (c .add .result)
+    → Reached (oneBitJob (marksIn (a .map .now)) (generatorsOf (a .code)) W (a .bytes) (a .strips) (a .page .now) (a .«data» .now))
+    (c .add .result)
     (l .loop .k + 1)
 one-more c W P =
     let t = c .before .before .before .before .before .before .before .before .before in
@@ -139,7 +141,9 @@ same-length c =
     let s = t .before .before .before .before .before .before .before .before in
     let p = c .before .before .before .before .before .plan-strip .ensures in
     let P = priced (t .before .before .before) in
-    planned-more (s .args .map .now) (s .pre .0) (t .loop-test .taken) (c .before .before .before .before .before .before .before .before .before .strip .ensures .0) (c .before .before .before .before .before .before .before .before .map-part .ensures)
+    planned-more (s .args .map .now) (s .pre .0) (t .loop-test .taken)
+    (c .before .before .before .before .before .before .before .before .before .strip .ensures .0)
+    (c .before .before .before .before .before .before .before .before .map-part .ensures)
     (t .before .loop .inv .2 _ P) (p .1 .0 .long, p .1 .1 _ P) .size
     ∙ sym (s .pre .1 .1)
 
@@ -166,9 +170,11 @@ loop-again c =
     let marked = c .before .before .before .before .before .before .before .map-part .ensures in
     let p = c .before .before .before .before .plan-strip .ensures in
     let P = priced (t .before .before .before) in (
-      planned-more (s .args .map .now) (s .pre .0) (t .loop-test .taken) is marked (t .before .loop .inv .2 _ P) (p .1 .0 .long, p .1 .1 _ P) .size,
+      planned-more (s .args .map .now) (s .pre .0) (t .loop-test .taken) is marked (t .before .loop .inv .2 _ P)
+          (p .1 .0 .long, p .1 .1 _ P) .size,
       one-more (c .before),
-      λ W Q. planned-more (s .args .map .now) (s .pre .0) (t .loop-test .taken) is marked (t .before .loop .inv .2 W Q) (p .1 .0 .long, p .1 .1 W Q),
+      λ W Q. planned-more (s .args .map .now) (s .pre .0) (t .loop-test .taken) is marked (t .before .loop .inv .2 W Q)
+          (p .1 .0 .long, p .1 .1 W Q),
     )
 
 answer-requires-2 : tie.Need-answer-requires-2 Inv-loop μ-loop

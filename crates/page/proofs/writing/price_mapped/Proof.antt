@@ -13,7 +13,8 @@ use Rattle.page.proofs.writing.price_mapped.Tie as tie
 -- what was judged
 judged : (c : tie.After-judge-mapped)
     → let a = c .before .before .before .before .args in
-    Judged (some (a .map .now)) (a .w1 ∷ a .w2 ∷ a .w3 ∷ []) (a .code) (a .bytes) (a .strips) (a .page .now) (a .«data» .now) (c .judge-mapped .result)
+    Judged (some (a .map .now)) (a .w1 ∷ a .w2 ∷ a .w3 ∷ []) (a .code) (a .bytes) (a .strips) (a .page .now) (a .«data» .now)
+    (c .judge-mapped .result)
 judged c = record { by = c .judge-mapped .ensures }
 
 -- the data is bytes

@@ -23,7 +23,8 @@ abbrev μ-loop : tie.MeasureT-loop
 μ-loop code bytes strips page map «data» rows total₀ k₀ total k = strips - k
 
 -- the table is that of the weights
-priced : (c : tie.After-rows-of Inv-loop μ-loop) → let s = c .before .before .before .before in Priced (s .args .weights) (c .rows-of .result)
+priced : (c : tie.After-rows-of Inv-loop μ-loop)
+    → let s = c .before .before .before .before in Priced (s .args .weights) (c .rows-of .result)
 priced c =
     let s = c .before .before .before .before in
     let W = s .args .weights in
@@ -40,16 +41,19 @@ fit c = part-fits (c .before .before .before .before .before .before .before .pr
 
 -- after a turn the total has one more strip
 one-more : (c : tie.After-add Inv-loop μ-loop)
-    → let l = c .before .before .before .before .before .before .before in let r = l .before .before in let a = r .before .before .before .before .args in
+    → let l = c .before .before .before .before .before .before .before in
+    let r = l .before .before in let a = r .before .before .before .before .args in
     (W : List ℕ) → Priced W (r .rows-of .result)
-    → Reached (oneBitJob (marksIn (a .map .now)) (generatorsOf (a .code)) W (a .bytes) (a .strips) (a .page .now) (a .«data» .now)) (c .add .result)
+    → Reached (oneBitJob (marksIn (a .map .now)) (generatorsOf (a .code)) W (a .bytes) (a .strips) (a .page .now) (a .«data» .now))
+    (c .add .result)
     (l .loop .k + 1)
 one-more c W P =
     let t = c .before .before .before .before .before .before in
     let s = t .before .before .before .before .before .before .before in
     reached-more (t .before .loop .inv W P) (t .loop-test .taken)
     (turn-outcome (s .args .map .now) (s .pre .0) (t .loop-test .taken) (c .before .before .before .before .strip .ensures .0)
-    (c .before .before .before .map-part .ensures) (suits (s .args .code) W (P .three) (P .bytes)) (P .dear) (c .before .price-strip .ensures W P)) (c .add .ensures)
+    (c .before .before .before .map-part .ensures) (suits (s .args .code) W (P .three) (P .bytes)) (P .dear)
+    (c .before .price-strip .ensures W P)) (c .add .ensures)
 
 rows-of-requires : tie.Need-rows-of-requires Inv-loop μ-loop
 rows-of-requires c κs = search needs

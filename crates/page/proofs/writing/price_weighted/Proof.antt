@@ -56,7 +56,8 @@ returns : tie.Need-returns
 returns c =
     let n = c .before .before .before in
     let j = n .before .before in
-    let e = in-order-answer none (judged j) (n .enum-told .given .1) (c .before .before .code-of .ensures) no-map (c .price-strips .ensures) in
+    let e = in-order-answer none (judged j) (n .enum-told .given .1) (c .before .before .code-of .ensures) no-map
+    (c .price-strips .ensures) in
     let b = octets (j .before) in
     (e, (kept-by none _ _ _ _ _ _ b refl e, weighted-largest none _ (weights (j .before .before .before)) _ _ _ _ _ b e))
 

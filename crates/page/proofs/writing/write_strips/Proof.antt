@@ -39,12 +39,16 @@ digits-length c =
 spent-kept : (c : tie.After-enum-told3) →
     let p = c .before .before .before in
     let a = p .before .before .before .before .before .before .args in
-    let J = oneBitJob (marksIn (a .map .now)) (generatorsOf (a .code)) (a .weights) (a .bytes) (a .strips) (a .page .now) (a .«data» .now) in
+    let J = oneBitJob (marksIn (a .map .now)) (generatorsOf (a .code)) (a .weights) (a .bytes) (a .strips) (a .page .now)
+    (a .«data» .now) in
     (p .plan-strips .result ≡ jobAnswer none J) × (a .page .now ≡ jobPage none J startOf)
 spent-kept c =
     let p = c .before .before .before in
-    let s = p .before .before .before .before .before .before in
-    (p .plan-strips .ensures .0, spent-page (suited s) (s .pre .1) (s .args .map .now) (s .pre .0) (p .plan-strips .ensures .0) (c .enum-told3 .given .1))
+    let s = p .before .before .before .before .before .before in (
+      p .plan-strips .ensures .0,
+      spent-page (suited s) (s .pre .1) (s .args .map .now) (s .pre .0) (p .plan-strips .ensures .0)
+          (c .enum-told3 .given .1),
+    )
 
 mul-whole : tie.Need-mul-whole
 mul-whole c = search needs
@@ -110,7 +114,8 @@ returns-2 c =
     let e = p .plan-strips .ensures .0 in
     let carried = rw (front-back _ (planned p) (behind p) (digits-length p)) at (c .before .before .carry-strips .ensures) in (
       e,
-      done-page (suited s) (s .pre .1) (s .args .map .now) (s .pre .0) e (c .before .before .before .before .before .before .enum-told2 .given .1)
+      done-page (suited s) (s .pre .1) (s .args .map .now) (s .pre .0) e
+          (c .before .before .before .before .before .before .enum-told2 .given .1)
           (p .plan-strips .ensures .1 .0) carried,
     )
 

@@ -40,7 +40,8 @@ loop-holds : tie.Need-loop-holds Inv-loop μ-loop
 loop-holds c =
     let s = c .before .before .before .before .before in
     let a = s .args in (
-      blocks-last (generatorsOf (a .code)) (a .rows .now) (a .strip .now) (marksIn (a .map .now)) (a .«data» .now) (c .last-labels .ensures .0),
+      blocks-last (generatorsOf (a .code)) (a .rows .now) (a .strip .now) (marksIn (a .map .now)) (a .«data» .now)
+          (c .last-labels .ensures .0),
       record { long = s .pre .1 .0; kept = λ W P k h l. absurd (let z : ⊥ = omega arith in z) },
       s .pre .1 .1,
       (λ k h l. absurd (let z : ⊥ = omega arith in z)),

@@ -29,7 +29,8 @@ last-labels-requires c κs = search needs
 loop-holds : tie.Need-loop-holds Inv-loop μ-loop
 loop-holds c =
     let a = c .before .before .before .before .before .args in
-    blocks-last (generatorsOf (a .code)) (a .rows .now) (a .strip .now) (marksIn (a .map .now)) (a .«data» .now) (c .last-labels .ensures .0)
+    blocks-last (generatorsOf (a .code)) (a .rows .now) (a .strip .now) (marksIn (a .map .now)) (a .«data» .now)
+    (c .last-labels .ensures .0)
 
 sub-q : tie.Need-sub-q Inv-loop μ-loop
 sub-q c = search needs

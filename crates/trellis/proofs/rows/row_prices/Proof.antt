@@ -15,7 +15,12 @@ label-price : (c : tie.After-pick) → let a = c .before .args in c .pick .resul
 label-price c = c .pick .ensures ∙ second-label (c .before .args .t1) (c .before .args .r) (c .before .pre .0)
 
 label-most : (c : tie.After-pick) → c .pick .result ≤ top
-label-most c = omega (arith, label-price c, price-most (c .before .args .t1) (c .before .pre .1) (c .before .args .r / 8 % 4) (c .before .args .r / 32))
+label-most c = omega (
+  arith,
+  label-price c,
+  price-most (c .before .args .t1) (c .before .pre .1) (c .before .args .r / 8 % 4)
+      (c .before .args .r / 32),
+)
 
 -- and where the other bit is
 other-price : (c : tie.After-pick2) → let a = c .before .before .args in c .pick2 .result
@@ -91,7 +96,8 @@ least-requires-2 c κs =
 returns : tie.Need-returns
 returns c zero h =
     let s = c .before .before .before .before .before in
-    row-shown _ (s .pre .1) (s .args .r) 0 _ (s .pre .0) (omega arith) (omega (arith, c .if1 .taken)) (asked _ (s .args .r) 0 (s .args .r / 32) _ (omega (arith, s .pre .0)) (label-price (c .before .before .before .before)))
+    row-shown _ (s .pre .1) (s .args .r) 0 _ (s .pre .0) (omega arith) (omega (arith, c .if1 .taken))
+    (asked _ (s .args .r) 0 (s .args .r / 32) _ (omega (arith, s .pre .0)) (label-price (c .before .before .before .before)))
 returns c (suc zero) h =
     let s = c .before .before .before .before .before in
     c .before .before .least .ensures
@@ -99,7 +105,8 @@ returns c (suc zero) h =
     (asked _ (s .args .r) 1 (s .args .r / 32) _ (omega (arith, s .pre .0)) (label-price (c .before .before .before .before)))
 returns c (suc (suc zero)) h =
     let s = c .before .before .before .before .before in
-    row-shown _ (s .pre .1) (s .args .r) 2 _ (s .pre .0) (omega arith) (omega (arith, c .if1 .taken)) (asked _ (s .args .r) 2 (1 - s .args .r / 32) _ (omega (arith, s .pre .0)) (other-price (c .before .before .before)))
+    row-shown _ (s .pre .1) (s .args .r) 2 _ (s .pre .0) (omega arith) (omega (arith, c .if1 .taken))
+    (asked _ (s .args .r) 2 (1 - s .args .r / 32) _ (omega (arith, s .pre .0)) (other-price (c .before .before .before)))
 returns c (suc (suc (suc zero))) h =
     let s = c .before .before .before .before .before in
     c .before .least2 .ensures
@@ -115,7 +122,8 @@ returns-2 c zero h =
     (asked _ (s .args .r) 0 (s .args .r / 32) _ (omega (arith, s .pre .0)) (label-price (c .before .before .before .before)))
 returns-2 c (suc zero) h =
     let s = c .before .before .before .before .before in
-    row-shown _ (s .pre .1) (s .args .r) 1 _ (s .pre .0) (omega arith) (omega (arith, c .if1 .left)) (asked _ (s .args .r) 1 (s .args .r / 32) _ (omega (arith, s .pre .0)) (label-price (c .before .before .before .before)))
+    row-shown _ (s .pre .1) (s .args .r) 1 _ (s .pre .0) (omega arith) (omega (arith, c .if1 .left))
+    (asked _ (s .args .r) 1 (s .args .r / 32) _ (omega (arith, s .pre .0)) (label-price (c .before .before .before .before)))
 returns-2 c (suc (suc zero)) h =
     let s = c .before .before .before .before .before in
     c .before .least2 .ensures
@@ -123,7 +131,8 @@ returns-2 c (suc (suc zero)) h =
     (asked _ (s .args .r) 2 (1 - s .args .r / 32) _ (omega (arith, s .pre .0)) (other-price (c .before .before .before)))
 returns-2 c (suc (suc (suc zero))) h =
     let s = c .before .before .before .before .before in
-    row-shown _ (s .pre .1) (s .args .r) 3 _ (s .pre .0) (omega arith) (omega (arith, c .if1 .left)) (asked _ (s .args .r) 3 (1 - s .args .r / 32) _ (omega (arith, s .pre .0)) (other-price (c .before .before .before)))
+    row-shown _ (s .pre .1) (s .args .r) 3 _ (s .pre .0) (omega arith) (omega (arith, c .if1 .left))
+    (asked _ (s .args .r) 3 (1 - s .args .r / 32) _ (omega (arith, s .pre .0)) (other-price (c .before .before .before)))
 returns-2 c (suc (suc (suc (suc j)))) h = absurd (let z : ⊥ = omega arith in z)
 
 pub row-prices-spec : {M : Type 1} → statement M
