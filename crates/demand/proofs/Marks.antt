@@ -6,9 +6,7 @@
 --   cheapest-fewer          nor is the cheapest page cheaper
 --   spent-more              a page that is spent stays so, at the same strip or a lower one (spent-lower)
 --   SameMarks               marks that are the same on the page
---   could-marks             then the same pages could be, the same is the cheapest (cheapest-marks), and it is spent at the same strip
---                           (spent-marks)
---   write-marks             and the same is computed: the write of a strip, of the page (page-marks), and the spent strip (strip-marks)
+--   write-marks             then the same is computed: the write of a strip, of the page (page-marks), and the spent strip (strip-marks)
 --   stay-could              a page that reads as the data could stay as it is
 --   free-stay, stay-page    and then it does, at no cost
 --   all-marked              with every cell marked a page takes only what it reads as
@@ -26,16 +24,16 @@ use Rattle.cells.specs.Places.{listOf}
 use Rattle.cells.specs.Bytes.{Octets}
 use Rattle.cells.specs.Levels.{level, SameLevels}
 use Rattle.cells.specs.Climbs.{costOf, weightOf}
-use Rattle.cells.proofs.Places.{same?, sumOf-zero, listOf-same}
+use Rattle.cells.proofs.Places.{same?, sumOf-zero}
 use Rattle.cells.proofs.Levels.{levels-at}
 use Rattle.cells.proofs.Raising.{raisedTo-same, raisedTo-none}
 use Rattle.cells.proofs.Climbs.{climb-stay}
 use Rattle.cells.proofs.Parts.{place-inside}
+use Rattle.codes.specs.Layouts.{byteCount}
 use Rattle.search.specs.Best.{Solution}
-use Rattle.search.specs.Strip.{Cell, cellsOf}
 use Rattle.search.specs.Trellis.{joined, all, first-none}
-use Rattle.search.specs.Layouts.{stripCells, rewriteOf}
-use Rattle.demand.specs.Jobs.{Job, width, pageCells, stripJob, InOrder}
+use Rattle.search.proofs.Layouts.{rewrite-marks}
+use Rattle.demand.specs.Jobs.{part, Job, width, pageCells, stripJob, InOrder}
 use Rattle.demand.specs.Reading.{readBy}
 use Rattle.demand.specs.Demand.{Could, jobCost, Cheapest, SpentAt}
 use Rattle.demand.specs.Computed.{stripBytes, stripWrite, pageWrite, spentStrip}
@@ -100,56 +98,7 @@ spent-lower J f {k} {j} s t = go (ltb k j) refl
 pub record SameMarks (J : Job) (a b : ℕ → Bool) : Type 0 where
   pub same : (c : ℕ) → c < pageCells J → a c ≡ b c
 
--- each of the one is among the others
-same-fewer : {J : Job} {a b : ℕ → Bool} → SameMarks J a b → Fewer J a b
-same-fewer s = record { also = λ c h m. sym (s .same c h) ∙ m }
-
--- and the other way round
-pub marks-sym : {J : Job} {a b : ℕ → Bool} → SameMarks J a b → SameMarks J b a
-marks-sym s = record { same = λ c h. sym (s .same c h) }
-
--- the marks of strip k
-strip-same : (J : Job) {a b : ℕ → Bool} → SameMarks J a b → (k : ℕ) → k < J .strips
-    → SameMarks (stripJob J k) (λ c. a (width J * k + c)) (λ c. b (width J * k + c))
-unfolding stripJob
-strip-same J s k h = record { same = λ c l. s .same _ (place-inside (width J) k c (omega arith) (J .strips) h) }
-
--- the same pages could be
-pub could-marks : (J : Job) {a b : ℕ → Bool} → SameMarks J a b → {other : List ℕ} → Could (remarked a J) other → Could (remarked b J) other
-could-marks J s = could-fewer J (same-fewer (marks-sym s))
-
-module _ (J : Job) {a b : ℕ → Bool} (s : SameMarks J a b) where
-  -- the same page is the cheapest
-  pub cheapest-marks : {start : ℕ → ℕ} {after : List ℕ} {cost : ℕ}
-      → Cheapest start (remarked a J) after cost → Cheapest start (remarked b J) after cost
-  unfolding jobCost
-  cheapest-marks p = record {
-    could = could-marks J s (p .could);
-    raised = p .raised;
-    paid = p .paid;
-    least = λ other q. p .least other (could-marks J (marks-sym s) q);
-    among-equals = λ other q. p .among-equals other (could-marks J (marks-sym s) q);
-  }
-
-  -- and the page is spent at the same strip
-  pub spent-marks : {k : ℕ} → SpentAt (remarked a J) k → SpentAt (remarked b J) k
-  unfolding stripJob
-  spent-marks {k} p = record {
-    inside = p .inside;
-    no-page = λ other q. p .no-page other (could-marks J (marks-sym s) q);
-    no-pattern = λ other q. p .no-pattern other (could-marks (stripJob J k) (marks-sym (strip-same J s k (p .inside))) q);
-    lowest = λ j h.
-        let f = p .lowest j h in
-        let t = strip-same J s j (omega (arith, p .inside)) in
-        record { pattern = f .pattern; could = could-marks (stripJob J j) t (f .could) };
-  }
-
--- AS COMPUTED. The cells of a strip depend on their own marks alone
-cells-marks : (n : ℕ) (v : ℕ → ℕ) (a b : ℕ → Bool) → ((c : ℕ) → c < n → a c ≡ b c) → cellsOf n v a ≡ cellsOf n v b
-unfolding cellsOf
-cells-marks n v a b e = listOf-same {A = Cell} n _ _ (λ c h. rw (e c h))
-
--- and all parts on each of them
+-- AS COMPUTED. All parts depend on each of them
 module _ (f g : ℕ → Option Solution) where
   all-same : (n : ℕ) (h : ℕ → ℕ) → ((i : ℕ) → i < n → f (h i) ≡ g (h i)) → all f (listOf n h) ≡ all g (listOf n h)
   unfolding all listOf
@@ -167,10 +116,11 @@ module _ (f g : ℕ → Option Solution) where
 module _ (J : Job) {a b : ℕ → Bool} (s : SameMarks J a b) where
   -- the same write of strip k
   pub write-marks : (k : ℕ) → k < J .strips → stripWrite (remarked a J) k ≡ stripWrite (remarked b J) k
-  unfolding stripWrite stripBytes rewriteOf stripCells
+  unfolding stripWrite stripBytes
   write-marks k h =
-      rw (cells-marks (width J) _ (λ c. a (width J * k + c)) (λ c. b (width J * k + c))
-      (λ c l. s .same (width J * k + c) (place-inside (width J) k c l (J .strips) h)))
+      rewrite-marks (J .layout) (J .code) (J .weights) (J .bytes) (part (byteCount (J .layout) (J .bytes)) k (J .page))
+      (λ c. a (width J * k + c)) (λ c. b (width J * k + c)) (part (J .bytes) k (J .content))
+      (λ c l. s .same (width J * k + c) (place-inside (width J) k c l (J .strips) h))
 
   -- the same write of the page
   pub page-marks : pageWrite (remarked a J) ≡ pageWrite (remarked b J)
