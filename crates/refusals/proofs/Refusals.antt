@@ -3,10 +3,11 @@
 --   limits-in-order, limits-most, sizes-limits   L and S where the limits have no ground
 --   shape-limits, shape-in-order, in-order       a call without a ground
 --   weights-dear                                 no step is free where the weights have no ground
---   no-free-step, same-weights                   a price or write with weights that are permitted
+--   none-of-six, no-free-step, same-weights      a price or write, of one data or a list, with weights that are permitted
 --   permitted-ground                             is refused as a read is
 --   house-ground                                 with the house's weights it is refused as a read is
 --   weighted-in-order, map-in-order              a price or write without a ground, with a map or without
+--   count-in-order, single-ground                a list without a ground: its count, and each of its writes
 --   erasing-in-order                             an erase without a ground, with a map
 --   same-ground, same-erasing                    a map of the right length refuses nothing more
 --   sizes-number                                 the code, L and S are refused by 1 to 3
@@ -24,7 +25,7 @@ use borrow.Author.Tests.{eq-eqb, eqb-true, eqb-false, le-leb, lt-leb, leb-true}
 use Rattle.cells.specs.Climbs.{house, weightOf}
 use Rattle.cells.proofs.Places.{and-both}
 use Rattle.codes.specs.Layouts.{oneBit, byteCount, mapCount}
-use Rattle.refusals.specs.Refusals.{oneTo64, isCode, freeStep, first-of, codeGround, bytesGround, stripsGround, weightsGround, pageGround, mapGround, dataGround, lengthsGround, limitsGround, sizesGround, shapeGround, ground, callGround, writeGround, eraseGround, erasingGround, completionOf, refusalNumber}
+use Rattle.refusals.specs.Refusals.{oneTo64, isCode, freeStep, first-of, codeGround, bytesGround, stripsGround, weightsGround, countGround, pageGround, mapGround, dataCount, datasGround, dataGround, lengthsGround, limitsGround, sizesGround, shapeGround, ground, listGround, callGround, writeGround, eraseGround, erasingGround, completionOf, refusalNumber}
 use Rattle.refusals.specs.declared.Refusal.{Refusal}
 use Rattle.refusals.specs.declared.Refusal.the-variants.{CodeUnknown, BytesOutside, StripsOutside, WeightZero}
 use Rattle.refusals.specs.declared.Completion.{Completion}
@@ -98,7 +99,7 @@ sizes-limits code L S e = neither (codeGround code) (limitsGround L S) e .1
 -- L, S and both lengths where a call has no ground
 pub in-order : (code L S page content : ℕ) → ground code L S page content ≡ none
     → (oneTo64 L ≡ true) × (oneTo64 S ≡ true) × (page ≡ byteCount oneBit L * S) × (content ≡ L * S)
-unfolding ground lengthsGround pageGround dataGround
+unfolding ground lengthsGround pageGround datasGround
 in-order code L S page content e =
     let p = neither (sizesGround code L S) (lengthsGround L S page content) e in
     let q = neither (pageGround oneBit L S page) (dataGround L S content) (p .1) in
@@ -127,55 +128,71 @@ weights-dear W e l h = go l h (weights-told (eqb (weightOf W 0) 0) (eqb (weightO
     go (suc (suc zero)) h p = above _ (p .2)
     go (suc (suc (suc l))) h p = absurd (let z : ⊥ = omega arith in z)
 
--- A PRICE OR A WRITE without a ground has none of the five
-none-of-five : (map : Option ℕ) (W : List ℕ) (code L S page content : ℕ) → callGround map W code L S page content ≡ none
+-- A PRICE OR A WRITE, of one data or a list, without a ground has none of the six
+none-of-six : (count map : Option ℕ) (W : List ℕ) (code L S page content : ℕ) → listGround count map W code L S page content ≡ none
     → (sizesGround code L S ≡ none)
     × (weightsGround W ≡ none)
+    × (countGround count ≡ none)
     × (pageGround oneBit L S page ≡ none)
     × (mapGround oneBit L S map ≡ none)
-    × (dataGround L S content ≡ none)
-unfolding callGround
-none-of-five map W code L S page content e =
+    × (datasGround count L S content ≡ none)
+unfolding listGround
+none-of-six count map W code L S page content e =
     let p = neither (sizesGround code L S) _ e in
     let q = neither (weightsGround W) _ (p .1) in
-    let r = neither (pageGround oneBit L S page) _ (q .1) in
-    let s = neither (mapGround oneBit L S map) (dataGround L S content) (r .1) in
-    (p .0, q .0, r .0, s .0, s .1)
+    let r = neither (countGround count) _ (q .1) in
+    let s = neither (pageGround oneBit L S page) _ (r .1) in
+    let t = neither (mapGround oneBit L S map) (datasGround count L S content) (s .1) in
+    (p .0, q .0, r .0, s .0, t .0, t .1)
 
 -- so no step is free
-pub no-free-step : (map : Option ℕ) (W : List ℕ) (code L S page content : ℕ) → callGround map W code L S page content ≡ none
+pub no-free-step : (count map : Option ℕ) (W : List ℕ) (code L S page content : ℕ) → listGround count map W code L S page content ≡ none
     → weightsGround W ≡ none
-no-free-step map W code L S page content e = none-of-five map W code L S page content e .1
+no-free-step count map W code L S page content e = none-of-six count map W code L S page content e .1
 
 -- with other weights that are permitted it has no ground either
 pub same-weights : (map : Option ℕ) (U W : List ℕ) (code L S page content : ℕ) → weightsGround W ≡ none
     → callGround map U code L S page content ≡ none → callGround map U code L S page content ≡ callGround map W code L S page content
-unfolding callGround
-same-weights map U W code L S page content w e = rw (no-free-step map U code L S page content e, w)
+unfolding listGround
+same-weights map U W code L S page content w e = rw (no-free-step none map U code L S page content e, w)
 
 -- L, S and both lengths are in order
-pub weighted-in-order : (map : Option ℕ) (W : List ℕ) (code L S page content : ℕ) → callGround map W code L S page content ≡ none
-    → (oneTo64 L ≡ true) × (oneTo64 S ≡ true) × (page ≡ byteCount oneBit L * S) × (content ≡ L * S)
-unfolding pageGround dataGround
-weighted-in-order map W code L S page content e =
-    let p = none-of-five map W code L S page content e in
+pub weighted-in-order : (count map : Option ℕ) (W : List ℕ) (code L S page content : ℕ)
+    → listGround count map W code L S page content ≡ none
+    → (oneTo64 L ≡ true) × (oneTo64 S ≡ true) × (page ≡ byteCount oneBit L * S) × (content ≡ dataCount count L S)
+unfolding pageGround datasGround
+weighted-in-order count map W code L S page content e =
+    let p = none-of-six count map W code L S page content e in
     let l = limits-in-order L S (sizes-limits code L S (p .0)) in
-    (l .0, l .1, same-length page (byteCount oneBit L * S) _ (p .2), same-length content (L * S) _ (p .4))
+    (l .0, l .1, same-length page (byteCount oneBit L * S) _ (p .3), same-length content (dataCount count L S) _ (p .5))
 
 -- and the map's length, where there is a map
 pub map-in-order : (map : ℕ) (W : List ℕ) (code L S page content : ℕ) → callGround (some map) W code L S page content ≡ none
     → map ≡ mapCount oneBit L * S
 map-in-order map W code L S page content e =
-    same-length map (mapCount oneBit L * S) _ (none-of-five (some map) W code L S page content e .3)
+    same-length map (mapCount oneBit L * S) _ (none-of-six none (some map) W code L S page content e .4)
+
+-- A LIST without a ground: its count
+pub count-in-order : (count : ℕ) (map : Option ℕ) (W : List ℕ) (code L S page content : ℕ)
+    → listGround (some count) map W code L S page content ≡ none → oneTo64 count ≡ true
+count-in-order count map W code L S page content e = no-ground (oneTo64 count) _ (none-of-six (some count) map W code L S page content e .2)
+
+-- and each of its writes has none, on a page of the same length with L·S bytes of data
+pub single-ground : (count : ℕ) (map : Option ℕ) (W : List ℕ) (code L S page content : ℕ)
+    → listGround (some count) map W code L S page content ≡ none → callGround map W code L S page (L * S) ≡ none
+unfolding listGround datasGround
+single-ground count map W code L S page content e =
+    let p = none-of-six (some count) map W code L S page content e in
+    rw (p .0, p .1, p .3, p .4, eq-eqb (L * S) (L * S) refl)
 
 -- a map of the right length refuses nothing more
 right-map : (L S : ℕ) → mapGround oneBit L S (some (mapCount oneBit L * S)) ≡ none
 right-map L S = rw (eq-eqb (mapCount oneBit L * S) (mapCount oneBit L * S) refl)
 
-pub same-ground : (W : List ℕ) (code L S page content : ℕ)
-    → callGround (some (mapCount oneBit L * S)) W code L S page content ≡ callGround none W code L S page content
-unfolding callGround
-same-ground W code L S page content = rw (right-map L S)
+pub same-ground : (count : Option ℕ) (W : List ℕ) (code L S page content : ℕ)
+    → listGround count (some (mapCount oneBit L * S)) W code L S page content ≡ listGround count none W code L S page content
+unfolding listGround
+same-ground count W code L S page content = rw (right-map L S)
 
 -- AN ERASE without a ground: the lengths of its page and of its map
 pub erasing-in-order : (map L S page : ℕ) (tenths : ℤ) → erasingGround (some map) L S page tenths ≡ none
@@ -195,7 +212,7 @@ same-erasing L S page tenths = rw (right-map L S)
 -- WITHOUT A MAP a price or a write is refused as a read is, where no step is free
 pub permitted-ground : (W : List ℕ) (code L S page content : ℕ) → weightsGround W ≡ none
     → writeGround W code L S page content ≡ ground code L S page content
-unfolding callGround ground lengthsGround
+unfolding listGround ground lengthsGround
 permitted-ground W code L S page content e = rw e
 
 -- as with the house's weights, none of which is 0

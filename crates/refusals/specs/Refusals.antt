@@ -5,9 +5,11 @@
 --   freeStep, weightsGround     whether a weight is 0, and the ground of that
 --   shapeGround, lengthsGround  the grounds of erase and census; of both lengths
 --   mapGround                   the ground of a map's length, where there is a map
+--   countGround                 the ground of a list's count, where there is a list
+--   dataCount                   the bytes of data: of one write, or of a list of so many
 --   ground                      the grounds of read
---   callGround                  the grounds of price and write, with a map or without
---   writeGround                 those without
+--   listGround                  the grounds of price and write, of one data or a list, with a map or without
+--   callGround, writeGround     those of one data; and without a map
 --   tooCold, tooWarm            an erase outside 50 to 400
 --   eraseGround                 from the state: such an erase
 --   erasingGround               the grounds of erase, with a map or without
@@ -25,7 +27,7 @@ use Rattle.cells.specs.Climbs.{weightOf}
 use Rattle.codes.specs.Generators.{Generators, short, long}
 use Rattle.codes.specs.Layouts.{Layout, oneBit, byteCount, mapCount}
 use Rattle.refusals.specs.declared.Refusal.{Refusal}
-use Rattle.refusals.specs.declared.Refusal.the-variants.{CodeUnknown, BytesOutside, StripsOutside, WeightZero, PageLength, MapLength, DataLength, EraseTemperature}
+use Rattle.refusals.specs.declared.Refusal.the-variants.{CodeUnknown, BytesOutside, StripsOutside, WeightZero, CountOutside, PageLength, MapLength, DataLength, EraseTemperature}
 use Rattle.refusals.specs.declared.Completion.{Completion}
 use Rattle.refusals.specs.declared.Completion.the-variants as C
 
@@ -63,9 +65,23 @@ abbrev pub mapGround : Layout → ℕ → ℕ → Option ℕ → Option Refusal
 mapGround lay L S none = none
 mapGround lay L S (some size) = cond (eqb size (mapCount lay L * S)) none (some MapLength)
 
--- '5: the data, or the buffer for it, is not L·S bytes long'
-unfoldable pub dataGround : ℕ → ℕ → ℕ → Option Refusal
-dataGround L S size = cond (eqb size (L * S)) none (some DataLength)
+-- '10, a count outside 1 to 64', of a list; a single write has no count
+abbrev pub countGround : Option ℕ → Option Refusal
+countGround none = none
+countGround (some count) = cond (oneTo64 count) none (some CountOutside)
+
+-- the data of a single write has L·S bytes; of a list 'its length must be the count times L·S'
+abbrev pub dataCount : Option ℕ → ℕ → ℕ → ℕ
+dataCount none L S = L * S
+dataCount (some count) L S = count * (L * S)
+
+-- '5: the data, or the buffer for it, is not L·S bytes long'; for a list, not the count times that
+unfoldable pub datasGround : Option ℕ → ℕ → ℕ → ℕ → Option Refusal
+datasGround count L S size = cond (eqb size (dataCount count L S)) none (some DataLength)
+
+-- that of one data
+abbrev pub dataGround : ℕ → ℕ → ℕ → Option Refusal
+dataGround L S size = datasGround none L S size
 
 -- whether one of three weights is 0, so that a step is free
 unfoldable pub freeStep : List ℕ → Bool
@@ -95,12 +111,18 @@ lengthsGround L S page content = first-of (pageGround oneBit L S page) (dataGrou
 unfoldable pub ground : ℕ → ℕ → ℕ → ℕ → ℕ → Option Refusal
 ground code L S page content = first-of (sizesGround code L S) (lengthsGround L S page content)
 
--- for price and write, with the weights W and perhaps a map: 9 is 'tested after 3 and before 4', 11 'after 4 and before 5'
-unfoldable pub callGround : Option ℕ → List ℕ → ℕ → ℕ → ℕ → ℕ → ℕ → Option Refusal
-callGround map W code L S page content =
+-- for price and write, with the weights W, perhaps a list's count and perhaps a map: 9 is 'tested after 3 and before 4', 10 'after 3 and 9
+-- and before 4', 11 'after 4 and before 5'
+unfoldable pub listGround : (count map : Option ℕ) → List ℕ → ℕ → ℕ → ℕ → ℕ → ℕ → Option Refusal
+listGround count map W code L S page content =
     first-of (sizesGround code L S)
     (first-of (weightsGround W)
-    (first-of (pageGround oneBit L S page) (first-of (mapGround oneBit L S map) (dataGround L S content))))
+    (first-of (countGround count)
+    (first-of (pageGround oneBit L S page) (first-of (mapGround oneBit L S map) (datasGround count L S content)))))
+
+-- of one data
+abbrev pub callGround : Option ℕ → List ℕ → ℕ → ℕ → ℕ → ℕ → ℕ → Option Refusal
+callGround map W code L S page content = listGround none map W code L S page content
 
 -- 'calls without one': those without a map
 abbrev pub writeGround : List ℕ → ℕ → ℕ → ℕ → ℕ → ℕ → Option Refusal
@@ -130,6 +152,7 @@ refusalNumber PageLength = 4
 refusalNumber DataLength = 5
 refusalNumber EraseTemperature = 8
 refusalNumber WeightZero = 9
+refusalNumber CountOutside = 10
 refusalNumber MapLength = 11
 
 -- '6: text of the program is not in its form': the run program's own, so no member of the enum, which a call could answer

@@ -4,14 +4,15 @@ ghost use mathlib.Core.Path.{_≡_};
 ghost use mathlib.Core.Option.{Option, none, some};
 ghost use Rattle.codes.specs.Layouts.{oneBit};
 ghost use Rattle.codes.specs.Codes.{generatorsOf};
-ghost use Rattle.refusals.specs.Refusals.{oneTo64, isCode, tooCold, tooWarm, freeStep, limitsGround, sizesGround, weightsGround, pageGround, mapGround, dataGround, lengthsGround, shapeGround, ground, callGround, writeGround, eraseGround, erasingGround, first-of, numbered, refusalNumber, completionOf, completionNumber};
+ghost use Rattle.refusals.specs.Refusals.{oneTo64, isCode, tooCold, tooWarm, freeStep, limitsGround, sizesGround, weightsGround, countGround, pageGround, mapGround, datasGround, dataGround, lengthsGround, shapeGround, ground, listGround, callGround, writeGround, eraseGround, erasingGround, first-of, numbered, refusalNumber, completionOf, completionNumber};
 
-// Why a call is refused, in the order of the tests; the paper's numbers are 1, 2, 3, 9, 4, 11, 5 and 8.
+// Why a call is refused, in the order of the tests; the paper's numbers are 1, 2, 3, 9, 10, 4, 11, 5 and 8.
 pub enum Refusal {
     CodeUnknown,
     BytesOutside,
     StripsOutside,
     WeightZero,
+    CountOutside,
     PageLength,
     MapLength,
     DataLength,
@@ -165,23 +166,46 @@ fn judge_weights(weights: [u8; 3]) -> Completion
     Completion::Done
 }
 
-// Judges the weights, then the lengths of page, map and data. The map's is judged already: done where there is no map.
+// Judges the count of a list.
+fn judge_count(count: u32) -> Completion
+    ensures { λ r. ⌜ r ≡ completionOf (countGround (some count)) ⌝ }
+{
+    if !one_to_64(count) {
+        return Completion::Refused(Refusal::CountOutside);
+    }
+    Completion::Done
+}
+
+// Judges the length of the datas of a list.
+fn judge_datas(count: u32, bytes: u32, strips: u32, data: usize) -> Completion
+    requires { ⌜ limitsGround bytes strips ≡ none ⌝ }
+    ensures { λ r. ⌜ r ≡ completionOf (datasGround (some count) bytes strips «data») ⌝ }
+{
+    if data != (count as usize) * ((bytes as usize) * (strips as usize)) {
+        return Completion::Refused(Refusal::DataLength);
+    }
+    Completion::Done
+}
+
+// Judges the weights, the count, then the lengths of page, map and data. The count and the lengths of map and data are judged already: done
+// where there is no list, and no map.
 fn judge_weighted(
     bytes: u32,
     strips: u32,
     weights: [u8; 3],
+    counted: Completion,
     page: usize,
-    judged: Completion,
-    data: usize,
+    mapped: Completion,
+    sized: Completion,
 ) -> Completion
     requires { ⌜ limitsGround bytes strips ≡ none ⌝ }
-    ensures { λ r. ⌜ ((g : Option Refusal) → judged ≡ completionOf g → r ≡ completionOf (first-of (weightsGround weights)
-        (first-of (pageGround oneBit bytes strips page) (first-of g (dataGround bytes strips «data»))))) ⌝ }
+    ensures { λ r. ⌜ ((g h i : Option Refusal) → counted ≡ completionOf g → mapped ≡ completionOf h → sized ≡ completionOf i
+        → r ≡ completionOf (first-of (weightsGround weights) (first-of g (first-of (pageGround oneBit bytes strips page) (first-of h i))))) ⌝ }
 {
     let steps = judge_weights(weights);
     let of_page = judge_page(bytes, strips, page);
-    let of_data = judge_data(bytes, strips, data);
-    earlier(steps, earlier(of_page, earlier(judged, of_data)))
+    let lengths = earlier(of_page, earlier(mapped, sized));
+    earlier(steps, earlier(counted, lengths))
 }
 
 // Judges what a price or a write is given: the code, L and S, then the weights, then both lengths.
@@ -199,7 +223,16 @@ pub fn judge_write(
     let Completion::Done = sizes else {
         return sizes;
     };
-    judge_weighted(bytes, strips, weights, page, Completion::Done, data)
+    let of_data = judge_data(bytes, strips, data);
+    judge_weighted(
+        bytes,
+        strips,
+        weights,
+        Completion::Done,
+        page,
+        Completion::Done,
+        of_data,
+    )
 }
 
 // And with a map, whose length is judged between the page's and the data's.
@@ -219,7 +252,68 @@ pub fn judge_mapped(
         return sizes;
     };
     let of_map = judge_map(bytes, strips, map);
-    judge_weighted(bytes, strips, weights, page, of_map, data)
+    let of_data = judge_data(bytes, strips, data);
+    judge_weighted(
+        bytes,
+        strips,
+        weights,
+        Completion::Done,
+        page,
+        of_map,
+        of_data,
+    )
+}
+
+// Judges what a list of writes is given: its count is judged between the weights and the page's length.
+pub fn judge_list(
+    code: u32,
+    bytes: u32,
+    strips: u32,
+    weights: [u8; 3],
+    count: u32,
+    page: usize,
+    data: usize,
+) -> Completion
+    ensures { λ r. ⌜ r ≡ completionOf (listGround (some count) none weights code bytes strips page «data») ⌝ }
+{
+    let sizes = judge_sizes(code, bytes, strips);
+    let Completion::Done = sizes else {
+        return sizes;
+    };
+    let of_count = judge_count(count);
+    let of_data = judge_datas(count, bytes, strips, data);
+    judge_weighted(
+        bytes,
+        strips,
+        weights,
+        of_count,
+        page,
+        Completion::Done,
+        of_data,
+    )
+}
+
+// And with a map.
+pub fn judge_list_mapped(
+    code: u32,
+    bytes: u32,
+    strips: u32,
+    weights: [u8; 3],
+    count: u32,
+    page: usize,
+    map: usize,
+    data: usize,
+) -> Completion
+    ensures { λ r. ⌜ r ≡ completionOf (listGround (some count) (some map) weights code bytes strips page «data») ⌝ }
+{
+    let sizes = judge_sizes(code, bytes, strips);
+    let Completion::Done = sizes else {
+        return sizes;
+    };
+    let of_count = judge_count(count);
+    let of_map = judge_map(bytes, strips, map);
+    let of_data = judge_datas(count, bytes, strips, data);
+    judge_weighted(bytes, strips, weights, of_count, page, of_map, of_data)
 }
 
 // The code of a number that is 3 or 7.
@@ -302,6 +396,7 @@ pub fn refusal_number(refusal: Refusal) -> u32
         Refusal::DataLength => 5,
         Refusal::EraseTemperature => 8,
         Refusal::WeightZero => 9,
+        Refusal::CountOutside => 10,
         Refusal::MapLength => 11,
     }
 }

@@ -3,7 +3,7 @@ use Prim.Native.Nat.{_*_}
 use native.Mathlib.Omega.{arith}
 use native.Mathlib.Nat.{mul-le-mul}
 use borrow.Author.Tests.{eq-eqb, ne-eqb}
-use Rattle.refusals.specs.Refusals.{dataGround}
+use Rattle.refusals.specs.Refusals.{datasGround}
 use Rattle.refusals.proofs.Refusals.{limits-most}
 use Rattle.refusals.proofs.judge_data.Statement.{statement}
 use Rattle.refusals.proofs.judge_data.Tie as tie
@@ -15,13 +15,13 @@ mul-if1 c =
     omega (arith, mul-le-mul {n₁ = a .bytes} {m₁ = a .strips} {n₂ = 64} {m₂ = 64} (l .0) (l .1))
 
 returns : tie.Need-returns
-unfolding dataGround
+unfolding datasGround
 returns c =
     let a = c .before .args in
     simp (ne-eqb (a .«data») (a .bytes * a .strips) (λ e. let z : ⊥ = omega arith in z))
 
 returns-2 : tie.Need-returns-2
-unfolding dataGround
+unfolding datasGround
 returns-2 c = simp (eq-eqb _ _ (c .if1 .left))
 
 pub judge-data-spec : {M : Type 1} → statement M

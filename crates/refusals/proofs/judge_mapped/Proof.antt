@@ -1,12 +1,19 @@
--- The sizes, then the weights and the three lengths: the grounds in the same order.
-use mathlib.Core.Path.{sym, _∙_}
-use mathlib.Core.Option.{some}
+-- The sizes, then the weights and the three lengths: the grounds in the same order, of which no list has none.
+use mathlib.Core.Path.{_≡_, refl, sym, _∙_}
+use mathlib.Core.Option.{none, some}
 use borrow.Author.Needs.{needs}
 use Rattle.codes.specs.Layouts.{oneBit}
-use Rattle.refusals.specs.Refusals.{callGround, sizesGround, mapGround}
+use Rattle.refusals.specs.Refusals.{limitsGround, sizesGround, mapGround, dataGround, listGround}
 use Rattle.refusals.proofs.Refusals.{done-none, done-next, refused-first, sizes-limits}
 use Rattle.refusals.proofs.judge_mapped.Statement.{statement}
 use Rattle.refusals.proofs.judge_mapped.Tie as tie
+
+-- L and S are within their limits
+limits : (c : tie.After-enum-told) → limitsGround (c .before .before .before .args .bytes) (c .before .before .before .args .strips) ≡ none
+limits c =
+    let j = c .before .before in
+    let a = j .before .args in
+    sizes-limits (a .code) (a .bytes) (a .strips) (done-none _ (sym (j .judge-sizes .ensures) ∙ c .enum-told .given .1))
 
 judge-sizes-requires : tie.Need-judge-sizes-requires
 judge-sizes-requires c κs = search needs
@@ -18,7 +25,7 @@ enum-told-2 : tie.Need-enum-told-2
 enum-told-2 c = search needs
 
 returns : tie.Need-returns
-unfolding callGround
+unfolding listGround
 returns c =
     let j = c .before .before in
     let a = j .before .args in
@@ -26,25 +33,23 @@ returns c =
     (c .enum-told2 .given .1)
 
 judge-map-requires : tie.Need-judge-map-requires
-judge-map-requires c κs =
-    let j = c .before .before in
-    let a = j .before .args in
-    sizes-limits (a .code) (a .bytes) (a .strips) (done-none _ (sym (j .judge-sizes .ensures) ∙ c .enum-told .given .1))
+judge-map-requires c κs = limits c
+
+judge-data-requires : tie.Need-judge-data-requires
+judge-data-requires c κs = limits (c .before)
 
 judge-weighted-requires : tie.Need-judge-weighted-requires
-judge-weighted-requires c κs =
-    let j = c .before .before .before in
-    let a = j .before .args in
-    sizes-limits (a .code) (a .bytes) (a .strips) (done-none _ (sym (j .judge-sizes .ensures) ∙ c .before .enum-told .given .1))
+judge-weighted-requires c κs = limits (c .before .before)
 
 returns-2 : tie.Need-returns-2
-unfolding callGround
+unfolding listGround
 returns-2 c =
-    let t = c .before .before in
+    let t = c .before .before .before in
     let j = t .before .before in
     let a = j .before .args in
     done-next (sizesGround (a .code) (a .bytes) (a .strips)) _ (j .judge-sizes .ensures) (t .enum-told .given .1)
-    (c .judge-weighted .ensures (mapGround oneBit (a .bytes) (a .strips) (some (a .map))) (c .before .judge-map .ensures))
+    (c .judge-weighted .ensures none (mapGround oneBit (a .bytes) (a .strips) (some (a .map))) (dataGround (a .bytes) (a .strips) (a .«data»))
+    refl (c .before .before .judge-map .ensures) (c .before .judge-data .ensures))
 
 pub judge-mapped-spec : {M : Type 1} → statement M
 judge-mapped-spec =
@@ -55,5 +60,6 @@ judge-mapped-spec =
     enum-told-2
     returns
     judge-map-requires
+    judge-data-requires
     judge-weighted-requires
     returns-2)

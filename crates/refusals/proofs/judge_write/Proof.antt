@@ -1,11 +1,18 @@
--- The sizes, then the weights and both lengths: the grounds in the same order, of which no map has none.
-use mathlib.Core.Path.{refl, sym, _∙_}
+-- The sizes, then the weights and both lengths: the grounds in the same order, of which no list and no map have none.
+use mathlib.Core.Path.{_≡_, refl, sym, _∙_}
 use mathlib.Core.Option.{none}
 use borrow.Author.Needs.{needs}
-use Rattle.refusals.specs.Refusals.{callGround, sizesGround}
+use Rattle.refusals.specs.Refusals.{limitsGround, sizesGround, dataGround, listGround}
 use Rattle.refusals.proofs.Refusals.{done-none, done-next, refused-first, sizes-limits}
 use Rattle.refusals.proofs.judge_write.Statement.{statement}
 use Rattle.refusals.proofs.judge_write.Tie as tie
+
+-- L and S are within their limits
+limits : (c : tie.After-enum-told) → limitsGround (c .before .before .before .args .bytes) (c .before .before .before .args .strips) ≡ none
+limits c =
+    let j = c .before .before in
+    let a = j .before .args in
+    sizes-limits (a .code) (a .bytes) (a .strips) (done-none _ (sym (j .judge-sizes .ensures) ∙ c .enum-told .given .1))
 
 judge-sizes-requires : tie.Need-judge-sizes-requires
 judge-sizes-requires c κs = search needs
@@ -17,28 +24,37 @@ enum-told-2 : tie.Need-enum-told-2
 enum-told-2 c = search needs
 
 returns : tie.Need-returns
-unfolding callGround
+unfolding listGround
 returns c =
     let j = c .before .before in
     let a = j .before .args in
     refused-first (sizesGround (a .code) (a .bytes) (a .strips)) _ (j .judge-sizes .result) (j .judge-sizes .ensures)
     (c .enum-told2 .given .1)
 
+judge-data-requires : tie.Need-judge-data-requires
+judge-data-requires c κs = limits c
+
 judge-weighted-requires : tie.Need-judge-weighted-requires
-judge-weighted-requires c κs =
-    let j = c .before .before in
-    let a = j .before .args in
-    sizes-limits (a .code) (a .bytes) (a .strips) (done-none _ (sym (j .judge-sizes .ensures) ∙ c .enum-told .given .1))
+judge-weighted-requires c κs = limits (c .before)
 
 returns-2 : tie.Need-returns-2
-unfolding callGround
+unfolding listGround
 returns-2 c =
-    let j = c .before .before .before in
+    let t = c .before .before in
+    let j = t .before .before in
     let a = j .before .args in
-    done-next (sizesGround (a .code) (a .bytes) (a .strips)) _ (j .judge-sizes .ensures) (c .before .enum-told .given .1)
-    (c .judge-weighted .ensures none refl)
+    done-next (sizesGround (a .code) (a .bytes) (a .strips)) _ (j .judge-sizes .ensures) (t .enum-told .given .1)
+    (c .judge-weighted .ensures none none (dataGround (a .bytes) (a .strips) (a .«data»))
+    refl refl (c .before .judge-data .ensures))
 
 pub judge-write-spec : {M : Type 1} → statement M
 judge-write-spec =
     tie.close
-    (tie.spec judge-sizes-requires enum-told enum-told-2 returns judge-weighted-requires returns-2)
+    (tie.spec
+    judge-sizes-requires
+    enum-told
+    enum-told-2
+    returns
+    judge-data-requires
+    judge-weighted-requires
+    returns-2)
