@@ -75,7 +75,7 @@ module _ (map : Option (List ℕ)) (W : List ℕ) (K : Weights W) (code L S : �
           rw (solution-raised startOf (jobWith map W code L S before content) (job-in-order map W code L S before content b e) a f c h)
           (page-near (numbered code) W (numbered-suits code W (K .three) (K .bytes))
           (dear-by (mapSize map) W code L S (length before) (length content) e) L S
-          (one-to-64 L (weighted-in-order (mapSize map) W code L S (length before) (length content) e .0) .1) before
+          (one-to-64 L (weighted-in-order none (mapSize map) W code L S (length before) (length content) e .0) .1) before
           (markedBy map) content a f c h)
 
   -- THE COST of a write is at most w for each cell, where no step costs more
@@ -103,7 +103,7 @@ module _ (map : Option (List ℕ)) (W : List ℕ) (K : Weights W) (code L S : �
       where
         go : WroteWith map W code L S before content (pageWith map W code L S before content startOf) (A.Done cost) → cost ≤ 65536 * w
         go (done g p) =
-            let i = weighted-in-order (mapSize map) W code L S (length before) (length content) g in
+            let i = weighted-in-order none (mapSize map) W code L S (length before) (length content) g in
             let m : L * S ≤ 64 * 64 = mul-le-mul (one-to-64 L (i .0) .1) (one-to-64 S (i .1) .1) in
             let n : 16 * L * S ≤ 65536 = omega arith in
             let q : 16 * L * S * w ≤ 65536 * w = mul-le-mul {n₁ = 16 * L * S} {m₁ = w} {n₂ = 65536} {m₂ = w} n (omega arith) in
@@ -120,7 +120,7 @@ value-most map W K w p most code L S before content b {r} e = go r (sym e) (rw (
         → WroteWith map W code L S before content (pageWith map W code L S before content startOf) a → valueOf a ≤ 65536 * w
     go (A.Done cost) f q = write-largest map W K code L S before content b w most cost f
     go (A.Spent k) f (spent g q h) =
-        omega (arith, q .inside, one-to-64 S (weighted-in-order (mapSize map) W code L S (length before) (length content) g .1) .1)
+        omega (arith, q .inside, one-to-64 S (weighted-in-order none (mapSize map) W code L S (length before) (length content) g .1) .1)
     go (A.Refused r) f q = omega arith
 
 -- THE HOUSE'S WEIGHTS: a step costs at most 28

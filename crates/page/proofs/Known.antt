@@ -40,7 +40,7 @@ use Rattle.demand.specs.Reading.{stripLevels, readBy}
 use Rattle.demand.specs.Demand.{jobCost}
 use Rattle.demand.specs.Computed.{stripBytes, stripWrite, pageWrite, spentStrip}
 use Rattle.refusals.specs.Refusals.{oneTo64, isCode, codeGround, bytesGround, stripsGround, limitsGround, sizesGround, pageGround}
-use Rattle.refusals.specs.Refusals.{dataGround, freeStep, weightsGround, callGround, writeGround, numbered}
+use Rattle.refusals.specs.Refusals.{datasGround, freeStep, weightsGround, listGround, writeGround, numbered}
 use Rattle.page.specs.Reading.{readPage}
 use Rattle.page.specs.Answers.{callAnswer, callPage, jobAnswer, jobPage, jobOf, answerWith, pageWith, answerOf, pageOf}
 use Rattle.page.specs.Known.{Case, Expected, reads, done, also, spent, Expects, Says, cases}
@@ -167,8 +167,8 @@ all-say (c ∷ cs) e = let p = and-both _ _ e in and-each (says c (c .expected) 
 table-passes : allPass cases ≡ true
 unfolding allPass passes isDone isSpent sameList answerTabled pageTabled stripTabled write-table table step look grow stages labels
     quotient register push dot branch next wanted sums joined better beats before lexltb parity-choice keep-or-raise odd weightOf
-    cellsOf encoderOf digit listOf bitOf level dataBits stripCells stageCount cellCount byteCount part all first-none numbered callGround
-    weightsGround freeStep isCode codeGround limitsGround sizesGround bytesGround stripsGround pageGround dataGround oneTo64
+    cellsOf encoderOf digit listOf bitOf level dataBits stripCells stageCount cellCount byteCount part all first-none numbered listGround
+    weightsGround freeStep isCode codeGround limitsGround sizesGround bytesGround stripsGround pageGround datasGround oneTo64
     startIn startOf raisedTo bytesOf
     number raisedTimes raise zeroFrom triple levelAt readPage readBy stripLevels dataBit sumBit codeBit sumOf ago costOf climb
 table-passes = refl

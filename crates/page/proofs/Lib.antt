@@ -4,6 +4,7 @@ pub mod Strips
 pub mod Counts
 pub mod Totals
 pub mod Promise
+pub mod Lists
 pub mod Plans
 pub mod Loops
 pub mod Ledger

@@ -313,7 +313,7 @@ module _ (map : Option (List ℕ)) {W : List ℕ} {code L S : ℕ} {before conte
   -- so the call is in order
   pub sized-by : j ≡ C.Done → Sized oneBit L S before content
   sized-by e =
-      let i = weighted-in-order (mapSize map) W code L S (length before) (length content) (no-ground e) in
+      let i = weighted-in-order none (mapSize map) W code L S (length before) (length content) (no-ground e) in
       record { bytes-in = i .0; strips-in = i .1; page-is = i .2; data-is = i .3 }
 
   -- no step is free

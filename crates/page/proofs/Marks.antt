@@ -61,7 +61,7 @@ pub data RightMap (L S : ℕ) : Option (List ℕ) → Type 0 where
 pub right-ground : {map : Option (List ℕ)} (W : List ℕ) (code L S : ℕ) (before content : List ℕ) → RightMap L S map
     → groundWith map W code L S before content ≡ groundWith none W code L S before content
 right-ground W code L S before content no-map = refl
-right-ground W code L S before content (right-map e) = rw e (same-ground W code L S (length before) (length content))
+right-ground W code L S before content (right-map e) = rw e (same-ground none W code L S (length before) (length content))
 
 -- and so is an erase
 pub right-erasing : {map : Option (List ℕ)} (L S : ℕ) (tenths : ℤ) (page : List ℕ) → RightMap L S map
@@ -187,7 +187,7 @@ module _ (start : ℕ → ℕ) (map : Option (List ℕ)) (W : List ℕ) (code L 
         where
           whole : 3 * c + 2 < 8 * length before
           whole =
-              let s = weighted-in-order (mapSize map) W code L S (length before) (length content) e .2 in
+              let s = weighted-in-order none (mapSize map) W code L S (length before) (length content) e .2 in
               let l : length before ≡ 6 * L * S = rw (oneBit-bytes L) at s in
               let k : c < 16 * L * S = rw (oneBit-cells L) at h in
               omega arith

@@ -92,12 +92,12 @@ numbered-suits code W three bytes =
 pub job-in-order : (map : Option (List ℕ)) (W : List ℕ) (code L S : ℕ) (before content : List ℕ) → Octets content
     → groundWith map W code L S before content ≡ none → InOrder (jobWith map W code L S before content)
 job-in-order map W code L S before content b e =
-    let i = weighted-in-order (mapSize map) W code L S (length before) (length content) e in
+    let i = weighted-in-order none (mapSize map) W code L S (length before) (length content) e in
     record { sound = numbered-sound code; whole = oneBit-whole L; page-is = i .2; data-is = i .3; octets = b }
 
 -- and none of its steps is free
 pub dear-by : (map : Option ℕ) (W : List ℕ) (code L S page content : ℕ) → callGround map W code L S page content ≡ none → Dear (stepsOf W)
-dear-by map W code L S page content e = record { dear = weights-dear W (no-free-step map W code L S page content e) }
+dear-by map W code L S page content e = record { dear = weights-dear W (no-free-step none map W code L S page content e) }
 
 -- so the computed answer and page keep the promise, with any map and weights, and wherever the raises start
 pub wrote-by : (start : ℕ → ℕ) (map : Option (List ℕ)) (W : List ℕ) (code L S : ℕ) (before content : List ℕ) → Octets content

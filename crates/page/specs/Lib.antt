@@ -4,6 +4,7 @@ pub mod Reading
 pub mod Totals
 pub mod Answers
 pub mod Promise
+pub mod Lists
 pub mod Plans
 pub mod Counting
 pub mod Ledger

@@ -1,6 +1,7 @@
 -- WHAT A WRITE PROMISES, on every input: for each case of its answer, what holds of the page before and after.
 --   Promised start g J after r                        of a job, by the ground of a refusal; `start` says where the raises of a cell start
---   WroteWith map W code L S before content after r   of a write with a map, or without one
+--   WroteBy start map W .. after r                    of a write with a map, or without one
+--   WroteWith map W code L S before content after r   of such a write of this release
 --   Wrote W code L S before content after r           of a write without
 use mathlib.Core.Path.{_≡_}
 use mathlib.Core.List.{List}
@@ -23,9 +24,14 @@ pub data Promised (start : ℕ → ℕ) (g : Option Refusal) (J : Job) (after : 
   refused : {r : Refusal} → g ≡ some r → after ≡ J .page → Promised start g J after (A.Refused r)
 
 -- of a write with the weights W, and perhaps a map
+abbrev pub WroteBy : (start : ℕ → ℕ) (map : Option (List ℕ)) (W : List ℕ) (code L S : ℕ) (before content after : List ℕ) → Answer
+    → Type 0
+WroteBy start map W code L S before content after r =
+    Promised start (groundWith map W code L S before content) (jobWith map W code L S before content) after r
+
+-- whose raises start where those of this release do
 abbrev pub WroteWith : (map : Option (List ℕ)) (W : List ℕ) (code L S : ℕ) (before content after : List ℕ) → Answer → Type 0
-WroteWith map W code L S before content after r =
-    Promised startOf (groundWith map W code L S before content) (jobWith map W code L S before content) after r
+WroteWith map W code L S before content after r = WroteBy startOf map W code L S before content after r
 
 -- without a map
 abbrev pub Wrote : (W : List ℕ) (code L S : ℕ) (before content after : List ℕ) → Answer → Type 0

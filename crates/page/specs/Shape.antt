@@ -4,6 +4,7 @@
 --   Lies      where the strip's part lies in the page's memory
 --   Found     where the program finds the strip
 --   Sized     a page and data of S strips of L bytes
+--   Listed    a page and a list of datas for it
 use mathlib.Core.Path.{_≡_}
 use mathlib.Core.Bool.{Bool, true, cond, _&&_}
 use mathlib.Core.List.{List, []}
@@ -43,3 +44,11 @@ pub record Sized (lay : Layout) (L S : ℕ) (page content : List ℕ) : Type 0 w
   pub strips-in : oneTo64 S ≡ true
   pub page-is : length page ≡ byteCount lay L * S
   pub data-is : length content ≡ L * S
+
+-- a page and a list of so many datas in order
+pub record Listed (lay : Layout) (L S count : ℕ) (page content : List ℕ) : Type 0 where
+  pub bytes-in : oneTo64 L ≡ true
+  pub strips-in : oneTo64 S ≡ true
+  pub page-is : length page ≡ byteCount lay L * S
+  pub count-in : oneTo64 count ≡ true
+  pub datas-are : length content ≡ count * (L * S)

@@ -20,6 +20,20 @@ pub enum Answer {
     Refused(Refusal),
 }
 
+// How a list of writes ended: every data is written, the page is spent for the next one, with the strip's number, or it is refused.
+pub enum End {
+    Done,
+    Spent(u32),
+    Refused(Refusal),
+}
+
+// The answer of a list of writes: how many of its datas are written, what they cost together, and how it ended.
+pub struct ListAnswer {
+    pub written: u32,
+    pub cost: u32,
+    pub end: End,
+}
+
 // The running total of a page: the cost and the number of the strips so far, and whether one was spent.
 pub struct Total {
     pub cost: u64,

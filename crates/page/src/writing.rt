@@ -1,9 +1,12 @@
-// Pricing and writing a page. A write plans every strip before it touches one.
+// Pricing and writing a page, one data or a list of them. A write plans every strip before it touches one.
 use crate::Answer;
+use crate::End;
+use crate::ListAnswer;
 use crate::Total;
 use crate::shape;
 use codes::Code;
 use refusals::Completion;
+use refusals::Refusal;
 use trellis::backward::price_strip;
 use trellis::carrying::carry_strip;
 use trellis::forward::plan_strip;
@@ -20,9 +23,10 @@ ghost use Rattle.cells.specs.Climbs.{house};
 ghost use Rattle.codes.specs.Codes.{generatorsOf};
 ghost use Rattle.codes.specs.Layouts.{oneBit};
 ghost use Rattle.search.specs.Strip.{Dear, stepsOf};
-ghost use Rattle.page.specs.Shape.{Sized};
+ghost use Rattle.page.specs.Shape.{Sized, Listed};
 ghost use Rattle.page.specs.Answers.{oneBitJob, jobAnswer, jobPage, answerWith, pageWith, answerOf, pageOf, valueOf, largestCost, largestWeightedCost};
 ghost use Rattle.page.specs.Promise.{WroteWith, Wrote};
+ghost use Rattle.page.specs.Lists.{endOf, refusedList, jobCourse, listAnswer, listPage, ListBounds, WroteList};
 ghost use Rattle.page.specs.Plans.{mapPart, Planned, Carried};
 
 // The lesser of two.
@@ -351,4 +355,160 @@ pub fn write(code: u32, bytes: u32, strips: u32, page: &mut [u8], data: &[u8]) -
 {
     let w = cells::house_weights();
     write_weighted(code, bytes, strips, w[0], w[1], w[2], page, data)
+}
+
+// How a single write ended.
+fn end_of(answer: Answer) -> End
+    ensures { λ r. ⌜ r ≡ endOf answer ⌝ }
+{
+    match answer {
+        Answer::Done(_) => End::Done,
+        Answer::Spent(strip) => End::Spent(strip),
+        Answer::Refused(refusal) => End::Refused(refusal),
+    }
+}
+
+// Nothing written, as the call is refused.
+fn none_written(refusal: Refusal) -> ListAnswer
+    ensures { λ r. ⌜ r ≡ refusedList refusal ⌝ }
+{
+    ListAnswer {
+        written: 0,
+        cost: 0,
+        end: End::Refused(refusal),
+    }
+}
+
+// Writes one data after another, and stops before the first for which the page is spent.
+fn write_datas(
+    code: Code,
+    weights: [u8; 3],
+    bytes: usize,
+    strips: usize,
+    count: usize,
+    page: &mut [u8],
+    map: &[u8],
+    data: &[u8],
+) -> ListAnswer
+    requires { ⌜ Listed oneBit bytes strips count (now page) (now «data») ⌝ }
+    requires { ⌜ Dear (stepsOf weights) ⌝ }
+    ensures { λ r. ⌜ r ≡ (jobCourse (marksIn (now (map .entry))) (generatorsOf code) weights bytes strips count (now (page .entry)) (now («data» .entry))) .answer ⌝ }
+    ensures { λ _. ⌜ now (page .exit)
+        ≡ (jobCourse (marksIn (now (map .entry))) (generatorsOf code) weights bytes strips count (now (page .entry)) (now («data» .entry))) .page ⌝ }
+{
+    let whole = bytes * strips;
+    let mut cost: u32 = 0;
+    let mut k: usize = 0;
+    while k < count {
+        let a = whole * k;
+        let answer = write_strips(
+            code,
+            weights,
+            bytes,
+            strips,
+            page,
+            map,
+            &data[a..a + whole],
+        );
+        let Answer::Done(one) = answer else {
+            return ListAnswer {
+                written: k as u32,
+                cost,
+                end: end_of(answer),
+            };
+        };
+        cost += one;
+        k += 1;
+    }
+    ListAnswer {
+        written: k as u32,
+        cost,
+        end: End::Done,
+    }
+}
+
+// Writes the datas one after another, each at the least cost in these weights, and raises no cell that the map marks.
+pub fn write_list_mapped(
+    code: u32,
+    bytes: u32,
+    strips: u32,
+    w1: u8,
+    w2: u8,
+    w3: u8,
+    count: u32,
+    page: &mut [u8],
+    map: &[u8],
+    data: &[u8],
+) -> ListAnswer
+    ensures { λ r. ⌜ r ≡ listAnswer (some (now (map .entry))) (w1 ∷ w2 ∷ w3 ∷ []) code bytes strips count (now (page .entry)) (now («data» .entry)) ⌝ }
+    ensures { λ _. ⌜ now (page .exit) ≡ listPage (some (now (map .entry))) (w1 ∷ w2 ∷ w3 ∷ []) code bytes strips count (now (page .entry)) (now («data» .entry)) ⌝ }
+    ensures { λ r. ⌜ WroteList (some (now (map .entry))) (w1 ∷ w2 ∷ w3 ∷ []) code bytes strips count (now (page .entry)) (now («data» .entry)) (now (page .exit)) r ⌝ }
+    ensures { λ r. ⌜ ListBounds r ⌝ }
+{
+    let weights = [w1, w2, w3];
+    let judged = refusals::judge_list_mapped(
+        code,
+        bytes,
+        strips,
+        weights,
+        count,
+        page.len(),
+        map.len(),
+        data.len(),
+    );
+    match judged {
+        Completion::Done => write_datas(
+            refusals::code_of(code),
+            weights,
+            bytes as usize,
+            strips as usize,
+            count as usize,
+            page,
+            map,
+            data,
+        ),
+        Completion::Refused(r) => none_written(r),
+    }
+}
+
+// The same without a map.
+pub fn write_list(
+    code: u32,
+    bytes: u32,
+    strips: u32,
+    w1: u8,
+    w2: u8,
+    w3: u8,
+    count: u32,
+    page: &mut [u8],
+    data: &[u8],
+) -> ListAnswer
+    ensures { λ r. ⌜ r ≡ listAnswer none (w1 ∷ w2 ∷ w3 ∷ []) code bytes strips count (now (page .entry)) (now («data» .entry)) ⌝ }
+    ensures { λ _. ⌜ now (page .exit) ≡ listPage none (w1 ∷ w2 ∷ w3 ∷ []) code bytes strips count (now (page .entry)) (now («data» .entry)) ⌝ }
+    ensures { λ r. ⌜ WroteList none (w1 ∷ w2 ∷ w3 ∷ []) code bytes strips count (now (page .entry)) (now («data» .entry)) (now (page .exit)) r ⌝ }
+    ensures { λ r. ⌜ ListBounds r ⌝ }
+{
+    let weights = [w1, w2, w3];
+    let judged = refusals::judge_list(
+        code,
+        bytes,
+        strips,
+        weights,
+        count,
+        page.len(),
+        data.len(),
+    );
+    match judged {
+        Completion::Done => write_datas(
+            refusals::code_of(code),
+            weights,
+            bytes as usize,
+            strips as usize,
+            count as usize,
+            page,
+            &data[0..0],
+            data,
+        ),
+        Completion::Refused(r) => none_written(r),
+    }
 }

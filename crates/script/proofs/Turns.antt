@@ -19,7 +19,7 @@ use Rattle.search.specs.Best.{Solution}
 use Rattle.refusals.specs.declared.Refusal.{Refusal}
 use Rattle.refusals.specs.declared.Completion.{Completion}
 use Rattle.refusals.specs.declared.Completion.the-variants.{Done, Refused}
-use Rattle.refusals.specs.Refusals.{sizesGround, pageGround, dataGround, lengthsGround, ground, writeGround, refusalNumber, textNumber, completionOf}
+use Rattle.refusals.specs.Refusals.{sizesGround, pageGround, datasGround, lengthsGround, ground, writeGround, refusalNumber, textNumber, completionOf}
 use Rattle.codes.proofs.Layouts.{oneBit-bytes}
 use Rattle.demand.specs.Computed.{pageWrite, spentStrip}
 use Rattle.page.specs.Answers.{callAnswer, jobAnswer, jobOf, answerWith, numberOf}
@@ -74,7 +74,7 @@ form-goes p v (some w) e = let j = judged-goes p w v (sizesGround (w .code) (w .
 -- A WRITE OF DATA IN FORM HAS ITS INPUT IN ORDER
 write-in-order : (v : Values) (page content : ℕ) → sizesGround (v .code) (v .bytes) (v .strips) ≡ none
     → page ≡ byteCount oneBit (sizeOf v) → content ≡ sizeOf v → writeGround house (v .code) (v .bytes) (v .strips) page content ≡ none
-unfolding ground lengthsGround pageGround dataGround
+unfolding ground lengthsGround pageGround datasGround
 write-in-order v page content e p c =
     let s = size-given v e in
     let ep : page ≡ 6 * v .bytes * v .strips = p ∙ oneBit-bytes (sizeOf v) ∙ rw (s, mul-assoc) in
