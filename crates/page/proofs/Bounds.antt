@@ -74,7 +74,7 @@ module _ (map : Option (List ℕ)) (W : List ℕ) (K : Weights W) (code L S : �
       go none e (some a) f =
           rw (solution-raised startOf (jobWith map W code L S before content) (job-in-order map W code L S before content b e) a f c h)
           (page-near (numbered code) W (numbered-suits code W (K .three) (K .bytes))
-          (dear-by (mapSize map) W code L S (length before) (length content) e) L S
+          (dear-by none (mapSize map) W code L S (length before) (length content) e) L S
           (one-to-64 L (weighted-in-order none (mapSize map) W code L S (length before) (length content) e .0) .1) before
           (markedBy map) content a f c h)
 

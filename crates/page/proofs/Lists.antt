@@ -10,12 +10,26 @@ use mathlib.Core.Option.{Option, none, some}
 use Prim.Native.Nat.{ℕ, zero, suc, _<_, _≤_, _+_, _*_, _-_}
 use native.Mathlib.Omega.{arith}
 use lib.ListN.{length}
-use Rattle.page.specs.Lists.{endOf, withWrite, noneWritten, Course, unlessEnded, onward, courseAfter}
+use native.Mathlib.Nat.{mul-comm}
+use Rattle.cells.specs.Bytes.{Octets}
+use Rattle.cells.specs.Raising.{startOf}
+use Rattle.codes.specs.Generators.{Generators}
+use Rattle.demand.proofs.Jobs.{part-length, part-octets}
+use Rattle.refusals.specs.Refusals.{numbered}
+use Rattle.page.specs.Answers.{oneBitJob, jobAnswer, jobPage, markedBy, mapSize, groundWith, answerWith, pageWith, valueOf, largestWeightedCost}
+use Rattle.page.specs.Promise.{WroteBy, done, spent, refused}
+use Rattle.page.specs.Lists.{dataOf, endOf, withWrite, Course, unlessEnded, onward, courseAfter, unlessRefused}
+use Rattle.page.specs.Lists.{refusedList, jobCourse, groundOf, listWith, listAnswer, listPage, largestListCost, ListBounds, WroteList}
+use Rattle.page.specs.Lists.{InTurn, none-yet, one-more, ListPromised, all-written, stopped-at, not-begun}
+use Rattle.refusals.specs.declared.Refusal.{Refusal}
 use Rattle.page.specs.declared.Answer.{Answer}
 use Rattle.page.specs.declared.Answer.the-variants as A
 use Rattle.page.specs.declared.End.{End}
 use Rattle.page.specs.declared.End.the-variants as E
 use Rattle.page.specs.declared.ListAnswer.{ListAnswer}
+use Rattle.refusals.proofs.Refusals.{one-to-64, weighted-in-order, count-in-order, single-ground}
+use Rattle.page.proofs.Promise.{in-order-job, wrote-by, page-length, one-ground}
+use Rattle.page.proofs.Bounds.{Weights, weighted-largest}
 
 -- a course of n datas written for so much, with this end
 abbrev pub courseAt : List ℕ → ℕ → ℕ → End → Course
@@ -35,7 +49,7 @@ module _ (answers : List ℕ → List ℕ → Answer) (pages : List ℕ → List
   -- A COURSE THAT GOES ON, with one more write that is done
   pub went-on : {page : List ℕ} {n cost c : ℕ} → courseAfter answers pages datas before n ≡ courseAt page n cost E.Done
       → answers page (datas n) ≡ A.Done c
-      → courseAfter answers pages datas before (suc n) ≡ courseAt (pages page (datas n)) (n + 1) (cost + c) E.Done
+      → courseAfter answers pages datas before (suc n) ≡ courseAt (pages page (datas n)) (suc n) (cost + c) E.Done
   unfolding courseAfter
   went-on e f = rw (e, f) refl
 
@@ -79,6 +93,25 @@ module _ (answers : List ℕ → List ℕ → Answer) (pages : List ℕ → List
       go (E.Spent strip) p q = p
       go (E.Refused r) p q = p
 
+  -- WHAT THE WRITES COST together, where none costs more than m
+  pub course-cost : (m count : ℕ) → ((n : ℕ) → n < count → (p : List ℕ) → valueOf (answers p (datas n)) ≤ m) → (n : ℕ) → n ≤ count
+      → courseAfter answers pages datas before n .answer .cost ≤ m * n
+  unfolding courseAfter
+  course-cost m count b zero h = omega arith
+  course-cost m count b (suc n) h =
+      go (courseAfter answers pages datas before n .answer .end) (course-cost m count b n (omega arith)) _ (b n (omega arith) _)
+    where
+      c : Course
+      c = courseAfter answers pages datas before n
+
+      go : (end : End) → c .answer .cost ≤ m * n → (r : Answer) → valueOf r ≤ m
+          → unlessEnded end c (record { page = pages (c .page) (datas n); answer = withWrite (c .answer) r }) .answer .cost ≤ m * suc n
+      go E.Done i (A.Done cost) v = omega arith
+      go E.Done i (A.Spent strip) v = omega arith
+      go E.Done i (A.Refused q) v = omega arith
+      go (E.Spent strip) i r v = omega arith
+      go (E.Refused q) i r v = omega arith
+
 -- TWO COURSES of single writes that answer alike, and leave pages that are again alike
 pub course-alike : (R : List ℕ → List ℕ → Type 0) (answers answers′ : List ℕ → List ℕ → Answer) (pages pages′ : List ℕ → List ℕ → List ℕ)
     (datas : ℕ → List ℕ) {before before′ : List ℕ} (count : ℕ)
@@ -110,3 +143,150 @@ course-alike R answers answers′ pages pages′ datas count k r (suc n) h =
         by-end E.Done = (ap (withWrite b) s, t)
         by-end (E.Spent strip) = (refl, r)
         by-end (E.Refused x) = (refl, r)
+
+-- A LIST IN ORDER, with a map or without one
+module _ (map : Option (List ℕ)) (W : List ℕ) (code L S count : ℕ) (before content : List ℕ) where
+  -- the bytes of its datas
+  datas-length : groundOf map W code L S count before content ≡ none → length content ≡ L * S * count
+  datas-length e =
+      weighted-in-order (some count) (mapSize map) W code L S (length before) (length content) e .3 ∙ mul-comm count (L * S)
+
+  -- each of its single writes is in order
+  pub single-in-order : groundOf map W code L S count before content ≡ none → (n : ℕ) → n < count → (page : List ℕ)
+      → length page ≡ length before → groundWith map W code L S page (dataOf L S content n) ≡ none
+  single-in-order e n h page l =
+      rw (l, part-length (L * S) count n content (datas-length e) h)
+      (single-ground count (mapSize map) W code L S (length before) (length content) e)
+
+  -- with data that is bytes
+  pub single-octets : groundOf map W code L S count before content ≡ none → Octets content → (n : ℕ) → n < count
+      → Octets (dataOf L S content n)
+  single-octets e b n h = part-octets (L * S) count n content (datas-length e) h b
+
+  module _ (start : ℕ → ℕ) where
+    -- it is the course of them all
+    pub list-course : groundOf map W code L S count before content ≡ none
+        → listWith map W code L S count before content start
+        ≡ courseAfter (answerWith map W code L S) (λ p one. pageWith map W code L S p one start) (dataOf L S content) before count
+    unfolding listWith
+    list-course e = rw e refl
+
+    -- a list that is refused writes nothing
+    pub list-refused : {r : Refusal} → groundOf map W code L S count before content ≡ some r
+        → listWith map W code L S count before content start ≡ record { page = before; answer = refusedList r }
+    unfolding listWith
+    list-refused e = rw e refl
+
+    -- its pages are as long as the first
+    turn-length : {n cost : ℕ} {page : List ℕ} → InTurn start map W code L S before content n cost page → length page ≡ length before
+    turn-length none-yet = refl
+    turn-length (one-more t (done e p)) = p .could .size ∙ turn-length t
+
+    -- ONE MORE DATA keeps the promise
+    turn-promised : groundOf map W code L S count before content ≡ none → Octets content → (n : ℕ) → n < count → (page : List ℕ)
+        (a : ListAnswer)
+        → ListPromised start (groundOf map W code L S count before content) map W code L S n before content page a
+        → let c = unlessEnded (a .end) (record { page = page; answer = a })
+        (onward (answerWith map W code L S) (λ p one. pageWith map W code L S p one start) (record { page = page; answer = a })
+        (dataOf L S content n)) in
+        ListPromised start (groundOf map W code L S count before content) map W code L S (suc n) before content (c .page) (c .answer)
+    turn-promised e b n h page a (all-written {cost} f t) =
+        go _ _ (wrote-by start map W code L S page (dataOf L S content n) (single-octets e b n h))
+      where
+        go : (after : List ℕ) (r : Answer) → WroteBy start map W code L S page (dataOf L S content n) after r
+            → ListPromised start (groundOf map W code L S count before content) map W code L S (suc n) before content after
+            (withWrite (record { written = n; cost = cost; end = E.Done }) r)
+        go after r (done g p) = all-written f (one-more t (done g p))
+        go after r (spent g p q) = rw q (stopped-at {n = n} f (omega arith) t (spent g p refl))
+        go after r (refused g q) = absurd (one-ground (single-in-order e n h page (turn-length t)) g)
+    turn-promised e b n h page a (stopped-at {n = m} f l t w) = stopped-at {n = m} f (omega arith) t w
+    turn-promised e b n h page a (not-begun f q) = absurd (one-ground e f)
+
+    -- so do the first n
+    course-promised : groundOf map W code L S count before content ≡ none → Octets content → (n : ℕ) → n ≤ count
+        → let c = courseAfter (answerWith map W code L S) (λ p one. pageWith map W code L S p one start) (dataOf L S content) before n in
+        ListPromised start (groundOf map W code L S count before content) map W code L S n before content (c .page) (c .answer)
+    unfolding courseAfter
+    course-promised e b zero h = all-written e none-yet
+    course-promised e b (suc n) h = turn-promised e b n (omega arith) _ _ (course-promised e b n (omega arith))
+
+    -- THE LIST KEEPS ITS PROMISE, wherever the raises start
+    pub list-promised : Octets content
+        → let c = listWith map W code L S count before content start in
+        ListPromised start (groundOf map W code L S count before content) map W code L S count before content (c .page) (c .answer)
+    unfolding listWith
+    list-promised b = go (groundOf map W code L S count before content) refl
+      where
+        c : Course
+        c = courseAfter (answerWith map W code L S) (λ p one. pageWith map W code L S p one start) (dataOf L S content) before count
+
+        go : (g : Option Refusal) → groundOf map W code L S count before content ≡ g
+            → ListPromised start (groundOf map W code L S count before content) map W code L S count before content
+            (unlessRefused g c before .page) (unlessRefused g c before .answer)
+        go none e = course-promised e b count (omega arith)
+        go (some r) e = not-begun e refl
+
+    -- its length is that of the page before
+    pub list-length : Octets content → length (listWith map W code L S count before content start .page) ≡ length before
+    list-length b = go (list-promised b)
+      where
+        go : {page : List ℕ} {a : ListAnswer}
+            → ListPromised start (groundOf map W code L S count before content) map W code L S count before content page a
+            → length page ≡ length before
+        go (all-written e t) = turn-length t
+        go (stopped-at e l t w) = turn-length t
+        go (not-begun e q) = ap length q
+
+  -- THE JOBS of a list in order make its course
+  pub in-order-list : groundOf map W code L S count before content ≡ none → {G : Generators} {marks : ℕ → Bool} → G ≡ numbered code
+      → marks ≡ markedBy map
+      → (jobCourse marks G W L S count before content .answer ≡ listAnswer map W code L S count before content)
+      × (jobCourse marks G W L S count before content .page ≡ listPage map W code L S count before content)
+  in-order-list e {G} {marks} g m =
+      let z = course-alike (λ p q. (p ≡ q) × (length q ≡ length before))
+      (λ p one. jobAnswer none (oneBitJob marks G W L S p one)) (answerWith map W code L S)
+      (λ p one. jobPage none (oneBitJob marks G W L S p one) startOf) (λ p one. pageWith map W code L S p one startOf)
+      (dataOf L S content) count turn (refl, refl) count (omega arith) in
+      let w = list-course startOf e in
+      (z .0 ∙ ap (λ (c : Course). c .answer) (sym w), z .1 .0 ∙ ap (λ (c : Course). c .page) (sym w))
+    where
+      turn : (n : ℕ) → n < count → (p q : List ℕ) → (p ≡ q) × (length q ≡ length before)
+          → (jobAnswer none (oneBitJob marks G W L S p (dataOf L S content n)) ≡ answerWith map W code L S q (dataOf L S content n))
+          × ((jobPage none (oneBitJob marks G W L S p (dataOf L S content n)) startOf
+          ≡ pageWith map W code L S q (dataOf L S content n) startOf)
+          × (length (pageWith map W code L S q (dataOf L S content n) startOf) ≡ length before))
+      turn n h p q r =
+          let z = in-order-job startOf map W code L S q (dataOf L S content n) (single-in-order e n h q (r .1)) g m in
+          (rw (r .0) (z .0), (rw (r .0) (z .1), page-length map W code L S q (dataOf L S content n) ∙ r .1))
+
+  -- HOW LARGE THE FIELDS of its answer are, with weights of three bytes
+  pub list-bounds : Weights W → Octets content → ListBounds (listAnswer map W code L S count before content)
+  list-bounds K b = go (list-promised startOf b) (summed (groundOf map W code L S count before content) refl)
+    where
+      -- at most 64 datas
+      most : groundOf map W code L S count before content ≡ none → count ≤ 64
+      most e = one-to-64 count (count-in-order count (mapSize map) W code L S (length before) (length content) e) .1
+
+      -- each for 16,711,680 or less
+      summed : (g : Option Refusal) → groundOf map W code L S count before content ≡ g
+          → listAnswer map W code L S count before content .cost ≤ largestListCost
+      summed none e =
+          let c = course-cost (answerWith map W code L S) (λ p one. pageWith map W code L S p one startOf) (dataOf L S content) before
+          largestWeightedCost count (λ n h p. weighted-largest map W K code L S p (dataOf L S content n) (single-octets e b n h) refl) count
+          (omega arith) in
+          let z = ap (λ (c : Course). c .answer .cost) (list-course startOf e) in
+          omega (arith, most e)
+      summed (some r) e = let z = ap (λ (c : Course). c .answer .cost) (list-refused startOf e) in omega arith
+
+      go : {page : List ℕ} {a : ListAnswer} → WroteList map W code L S count before content page a → a .cost ≤ largestListCost → ListBounds a
+      go (all-written e t) c = record { written-most = most e; cost-most = c; strip-most = omega arith }
+      go (stopped-at e l t (spent g p q)) c = record {
+        written-most = omega (arith, most e);
+        cost-most = c;
+        strip-most = omega (
+          arith,
+          p .inside,
+          one-to-64 S (weighted-in-order (some count) (mapSize map) W code L S (length before) (length content) e .1),
+        );
+      }
+      go (not-begun e q) c = record { written-most = omega arith; cost-most = c; strip-most = omega arith }

@@ -5,6 +5,7 @@
 --   Reached, reached-more, ..     the total after k strips
 --   CarriedUpTo, carried-more     the page with the digits of the strips before k carried out
 --   done-page, spent-page         the page that a write leaves
+--   turn-sized, turn-done, ..     one turn of the loop over a list's datas
 --   Judged, in-order-answer, ..   the calls
 use mathlib.Core.Path.{_≡_, refl, sym, _∙_, ap}
 use mathlib.Core.Bool.{Bool, true}
@@ -12,7 +13,7 @@ use mathlib.Core.List.{List, _++_}
 use mathlib.Core.Option.{Option, none, some}
 use Prim.Native.Nat.{ℕ, suc, _+_, _*_, _-_, _<_, _≤_}
 use native.Mathlib.Omega.{arith}
-use native.Mathlib.Nat.{not-suc-le-zero, add-sub-cancel-left, sub-zero, mul-le-mul}
+use native.Mathlib.Nat.{not-suc-le-zero, add-sub-cancel-left, sub-zero, mul-le-mul, mul-comm}
 use lib.ListN.{length, take, drop, length-append}
 use lib.Seq.{drop-drop, take-at, drop-at, length-take-le}
 use Rattle.cells.specs.Bytes.{Octets}
@@ -35,23 +36,28 @@ use Rattle.trellis.proofs.Ways.{Suits}
 use Rattle.demand.specs.Jobs.{part, Job}
 use Rattle.demand.specs.Computed.{stripWrite, pageWrite, spentStrip}
 use Rattle.demand.proofs.Jobs.{part-length}
-use Rattle.page.specs.Shape.{stripOf, Sized}
+use Rattle.page.specs.Shape.{stripOf, Sized, Listed}
 use Rattle.page.specs.Totals.{noTotal, added, totalFrom, answerFor}
 use Rattle.refusals.specs.Refusals.{numbered, completionOf}
 use Rattle.page.specs.Answers.{callAnswer, callPage, oneBitJob, jobAnswer, jobPage, markedBy, mapSize, groundWith, answerWith, pageWith}
 use Rattle.page.specs.Promise.{WroteWith}
+use Rattle.page.specs.Lists.{Course, dataOf, endOf, refusedList, jobCourse, groundOf, listAnswer, listPage, ListBounds, WroteList}
 use Rattle.page.specs.Plans.{mapPart, stripPart, Planned, Carried}
 use Rattle.refusals.specs.declared.Refusal.{Refusal}
 use Rattle.page.specs.declared.Total.{Total}
 use Rattle.page.specs.declared.Answer.{Answer}
 use Rattle.page.specs.declared.Answer.the-variants as A
+use Rattle.page.specs.declared.End.the-variants as E
+use Rattle.page.specs.declared.ListAnswer.{ListAnswer}
 use Rattle.refusals.specs.declared.Completion.{Completion}
 use Rattle.refusals.specs.declared.Completion.the-variants as C
 use Rattle.page.proofs.Strips.{strip-there, part-more, lent-length, stored-length}
-use Rattle.refusals.proofs.Refusals.{one-to-64, weighted-in-order, done-none, refused-some}
-use Rattle.page.proofs.Totals.{page-answers, total-spent, total-same}
+use Rattle.refusals.proofs.Refusals.{one-to-64, weighted-in-order, count-in-order, done-none, refused-some}
+use Rattle.page.proofs.Totals.{page-answers, page-below, total-spent, total-same}
+use Rattle.page.proofs.Bounds.{Weights}
+use Rattle.page.proofs.Lists.{courseAt, not-done, went-on, went-out, course-ended, list-refused, list-promised, list-bounds}
 use Rattle.page.proofs.Plans.{write-same, strip-below, carried-page}
-use Rattle.page.proofs.Promise.{dear-by, wrote}
+use Rattle.page.proofs.Promise.{dear-by, in-order-job, wrote}
 
 -- LENT PARTS. The part that a turn lends
 lent : (L k : ℕ) (x : List ℕ) → take (L * k + L - L * k) (drop (L * k) x) ≡ part L k x
@@ -300,6 +306,76 @@ module _ {G : Generators} {W : List ℕ} (K : Suits G W) (D : Dear (stepsOf W)) 
       go none h = let z : _≡_ {A = ℕ} 0 1 = cc in omega arith
       go (some a) h = let z : _≡_ {A = ℕ} 0 1 = cc in omega arith
 
+-- A LIST. In a turn of its loop data k ends within the slice
+module _ {L S count : ℕ} {page₀ content : List ℕ} (Z : Listed oneBit L S count page₀ content) where
+  datas-length : length content ≡ L * S * count
+  datas-length = Z .datas-are ∙ mul-comm count (L * S)
+
+  pub data-fits : {k : ℕ} → k < count → L * S * k + L * S ≤ length content
+  data-fits {k} h = omega (arith, datas-length, within (L * S) k count h)
+
+  -- at most 4,096 bytes for each of 64 datas
+  pub data-most : L * S ≤ 4096
+  data-most = mul-le-mul {n₁ = L} {m₁ = S} {n₂ = 64} {m₂ = 64} (one-to-64 L (Z .bytes-in) .1) (one-to-64 S (Z .strips-in) .1)
+
+  pub count-most : count ≤ 64
+  count-most = one-to-64 count (Z .count-in) .1
+
+  -- TURN k, on the page as it is
+  module _ {k : ℕ} (h : k < count) {page : List ℕ} (same : length page ≡ length page₀) where
+    -- the page and the data that it lends are in order
+    pub turn-sized : Sized oneBit L S page (take (L * S * k + L * S - L * S * k) (drop (L * S * k) content))
+    turn-sized = record {
+      bytes-in = Z .bytes-in;
+      strips-in = Z .strips-in;
+      page-is = same ∙ Z .page-is;
+      data-is = lent-length (L * S) k content (data-fits h);
+    }
+
+    module _ (G : Generators) (W map : List ℕ) {cost : ℕ} {r : Answer} {after : List ℕ}
+        (so-far : jobCourse (marksIn map) G W L S k page₀ content ≡ courseAt page k cost E.Done)
+        (answer : r ≡ jobAnswer none (oneBitJob (marksIn map) G W L S page (take (L * S * k + L * S - L * S * k) (drop (L * S * k) content))))
+        (left : after ≡ jobPage none
+        (oneBitJob (marksIn map) G W L S page (take (L * S * k + L * S - L * S * k) (drop (L * S * k) content))) startOf) where
+      -- what a single write answers and leaves
+      abbrev answers : List ℕ → List ℕ → Answer
+      answers p one = jobAnswer none (oneBitJob (marksIn map) G W L S p one)
+
+      abbrev pages : List ℕ → List ℕ → List ℕ
+      pages p one = jobPage none (oneBitJob (marksIn map) G W L S p one) startOf
+
+      -- the turn's data is data k of the list
+      own-answer : answers page (dataOf L S content k) ≡ r
+      own-answer = rw (← lent (L * S) k content) (sym answer)
+
+      own-page : pages page (dataOf L S content k) ≡ after
+      own-page = rw (← lent (L * S) k content) (sym left)
+
+      -- where it is done the list goes on
+      pub turn-done : {c : ℕ} → r ≡ A.Done c
+          → jobCourse (marksIn map) G W L S (k + 1) page₀ content ≡ courseAt after (k + 1) (cost + c) E.Done
+      turn-done {c} d =
+          let z : k + 1 ≡ suc k = omega arith in
+          rw (← own-page)
+          (ap (λ (m : ℕ). jobCourse (marksIn map) G W L S m page₀ content) z
+          ∙ went-on answers pages (dataOf L S content) page₀ so-far (own-answer ∙ d)
+          ∙ ap (λ (m : ℕ). courseAt (pages page (dataOf L S content k)) m (cost + c) E.Done) (sym z))
+
+      -- where it is not, it has ended, and stays so
+      pub turn-ended : ((c : ℕ) → r ≡ A.Done c → ⊥)
+          → jobCourse (marksIn map) G W L S count page₀ content ≡ courseAt after k cost (endOf r)
+      turn-ended n =
+          let e = went-out answers pages (dataOf L S content) page₀ so-far own-answer n in
+          let z : count ≡ suc k + (count - suc k) = omega arith in
+          let stays = course-ended answers pages (dataOf L S content) page₀ (suc k) (count - suc k) (rw e (not-done r n)) in
+          rw (← own-page) (ap (λ (m : ℕ). jobCourse (marksIn map) G W L S m page₀ content) z ∙ stays ∙ e)
+
+      -- what a data costs
+      pub turn-below : Suits G W → Dear (stepsOf W) → {c : ℕ} → r ≡ A.Done c → c ≤ 33554432
+      turn-below K D d =
+          omega (arith, page-below _ (one-to-64 S (Z .strips-in) .1)
+          (λ k h a. strip-below G W K D L S (one-to-64 L (Z .bytes-in) .1) page (marksIn map) _ k a) answer d)
+
 -- THE CALLS. What the judge of a call answered
 pub record Judged (map : Option (List ℕ)) (W : List ℕ) (code L S : ℕ) (before content : List ℕ) (j : Completion) : Type 0 where
   pub by : j ≡ completionOf (groundWith map W code L S before content)
@@ -318,19 +394,17 @@ module _ (map : Option (List ℕ)) {W : List ℕ} {code L S : ℕ} {before conte
 
   -- no step is free
   pub judged-dear : j ≡ C.Done → Dear (stepsOf W)
-  judged-dear e = dear-by (mapSize map) W code L S (length before) (length content) (no-ground e)
+  judged-dear e = dear-by none (mapSize map) W code L S (length before) (length content) (no-ground e)
 
   -- it answers as its strips do, whose cells are marked by the map
   pub in-order-answer : j ≡ C.Done → {G : Generators} {marks : ℕ → Bool} {r : Answer} → G ≡ numbered code → marks ≡ markedBy map
       → r ≡ jobAnswer none (oneBitJob marks G W L S before content) → r ≡ answerWith map W code L S before content
-  unfolding answerWith
-  in-order-answer e g m f = rw (no-ground e, ← g, ← m) f
+  in-order-answer e g m f = f ∙ in-order-job startOf map W code L S before content (no-ground e) g m .0
 
   -- and leaves the page that they do
   pub in-order-page : j ≡ C.Done → {G : Generators} {marks : ℕ → Bool} {after : List ℕ} → G ≡ numbered code → marks ≡ markedBy map
       → after ≡ jobPage none (oneBitJob marks G W L S before content) startOf → after ≡ pageWith map W code L S before content startOf
-  unfolding pageWith
-  in-order-page e g m f = rw (no-ground e, ← g, ← m) f
+  in-order-page e g m f = f ∙ in-order-job startOf map W code L S before content (no-ground e) g m .1
 
   -- where it is refused, that is the ground
   the-ground : {q : Refusal} → j ≡ C.Refused q → groundWith map W code L S before content ≡ some q
@@ -351,3 +425,46 @@ pub kept-by : (map : Option (List ℕ)) (W : List ℕ) (code L S : ℕ) (before 
     → after ≡ pageWith map W code L S before content startOf
     → r ≡ answerWith map W code L S before content → WroteWith map W code L S before content after r
 kept-by map W code L S before content b p e = rw (p, e) (wrote map W code L S before content b)
+
+-- THE CALLS OF A LIST. What the judge of one answered
+pub record JudgedList (map : Option (List ℕ)) (W : List ℕ) (code L S count : ℕ) (before content : List ℕ) (j : Completion) : Type 0 where
+  pub by : j ≡ completionOf (groundOf map W code L S count before content)
+
+module _ (map : Option (List ℕ)) {W : List ℕ} {code L S count : ℕ} {before content : List ℕ} {j : Completion}
+    (J : JudgedList map W code L S count before content j) where
+  -- where it is done there is no ground
+  pub list-no-ground : j ≡ C.Done → groundOf map W code L S count before content ≡ none
+  list-no-ground e = done-none _ (sym (J .by) ∙ e)
+
+  -- so the list is in order
+  pub listed-by : j ≡ C.Done → Listed oneBit L S count before content
+  listed-by e =
+      let g = list-no-ground e in
+      let i = weighted-in-order (some count) (mapSize map) W code L S (length before) (length content) g in
+      record {
+        bytes-in = i .0;
+        strips-in = i .1;
+        page-is = i .2;
+        count-in = count-in-order count (mapSize map) W code L S (length before) (length content) g;
+        datas-are = i .3;
+      }
+
+  -- no step is free
+  pub listed-dear : j ≡ C.Done → Dear (stepsOf W)
+  listed-dear e =
+      dear-by (some count) (mapSize map) W code L S (length before) (length content) (list-no-ground e)
+
+  -- where it is refused, nothing is written
+  pub refused-list : {q : Refusal} → j ≡ C.Refused q
+      → (refusedList q ≡ listAnswer map W code L S count before content) × (before ≡ listPage map W code L S count before content)
+  refused-list e =
+      let w = list-refused map W code L S count before content startOf (refused-some _ (sym (J .by) ∙ e)) in
+      (sym (ap (λ (c : Course). c .answer) w), sym (ap (λ (c : Course). c .page) w))
+
+-- such an answer and such a page keep the promise of a list, and the bounds
+pub list-kept : (map : Option (List ℕ)) (W : List ℕ) (code L S count : ℕ) (before content : List ℕ) {after : List ℕ} {r : ListAnswer}
+    → Weights W → Octets content → after ≡ listPage map W code L S count before content
+    → r ≡ listAnswer map W code L S count before content
+    → WroteList map W code L S count before content after r × ListBounds r
+list-kept map W code L S count before content K b p e =
+    rw (p, e) (list-promised map W code L S count before content startOf b, list-bounds map W code L S count before content K b)

@@ -2,6 +2,7 @@
 --   promise-kept                    of any job that is in order where it has no ground
 --   numbered-sound, oneBit-whole    both codes and every L go with one bit a cell
 --   job-in-order, dear-by           a call without a ground is in order, and none of its steps is free
+--   in-order-job                    it answers as its job does, and leaves that page
 --   wrote-by, wrote                 so the calls keep it, with any map and weights: wherever the raises start, and those of this release
 --   page-length                     a write keeps the page's length
 --   one-ground                      no ground and a ground exclude each other
@@ -19,7 +20,7 @@ use lib.ListN.{length, getD}
 use Rattle.cells.specs.Bytes.{Octets}
 use Rattle.cells.specs.Raising.{startOf, startIn, raisedTo}
 use Rattle.cells.proofs.Raising.{raisedTo-length}
-use Rattle.codes.specs.Generators.{short, long, digit}
+use Rattle.codes.specs.Generators.{Generators, short, long, digit}
 use Rattle.codes.specs.Layouts.{oneBit}
 use Rattle.codes.specs.Encoders.{Proper}
 use Rattle.codes.proofs.Codes.{short-proper, long-proper}
@@ -36,8 +37,8 @@ use Rattle.demand.specs.Demand.{Could}
 use Rattle.demand.specs.Computed.{pageWrite, spentStrip}
 use Rattle.demand.proofs.Demand.{cheapest, spent-at}
 use Rattle.demand.proofs.Weights.{could-any-weights, spent-any-strip, spent-once}
-use Rattle.refusals.specs.Refusals.{weightsGround, callGround, numbered}
-use Rattle.page.specs.Answers.{callAnswer, callPage, jobAnswer, jobPage, mapSize, groundWith, jobWith, answerWith, pageWith}
+use Rattle.refusals.specs.Refusals.{weightsGround, listGround, numbered}
+use Rattle.page.specs.Answers.{callAnswer, callPage, oneBitJob, jobAnswer, jobPage, markedBy, mapSize, groundWith, jobWith, answerWith, pageWith}
 use Rattle.page.specs.Promise.{Promised, WroteWith, done, spent, refused}
 use Rattle.refusals.specs.declared.Refusal.{Refusal}
 use Rattle.page.specs.declared.Answer.{Answer}
@@ -96,8 +97,17 @@ job-in-order map W code L S before content b e =
     record { sound = numbered-sound code; whole = oneBit-whole L; page-is = i .2; data-is = i .3; octets = b }
 
 -- and none of its steps is free
-pub dear-by : (map : Option ℕ) (W : List ℕ) (code L S page content : ℕ) → callGround map W code L S page content ≡ none → Dear (stepsOf W)
-dear-by map W code L S page content e = record { dear = weights-dear W (no-free-step none map W code L S page content e) }
+pub dear-by : (count map : Option ℕ) (W : List ℕ) (code L S page content : ℕ) → listGround count map W code L S page content ≡ none
+    → Dear (stepsOf W)
+dear-by count map W code L S page content e = record { dear = weights-dear W (no-free-step count map W code L S page content e) }
+
+-- it answers as its job does, and leaves that page
+pub in-order-job : (start : ℕ → ℕ) (map : Option (List ℕ)) (W : List ℕ) (code L S : ℕ) (before content : List ℕ) {G : Generators}
+    {marks : ℕ → Bool} → groundWith map W code L S before content ≡ none → G ≡ numbered code → marks ≡ markedBy map
+    → (jobAnswer none (oneBitJob marks G W L S before content) ≡ answerWith map W code L S before content)
+    × (jobPage none (oneBitJob marks G W L S before content) start ≡ pageWith map W code L S before content start)
+unfolding answerWith pageWith
+in-order-job start map W code L S before content e g m = (rw (e, g, m) refl, rw (e, g, m) refl)
 
 -- so the computed answer and page keep the promise, with any map and weights, and wherever the raises start
 pub wrote-by : (start : ℕ → ℕ) (map : Option (List ℕ)) (W : List ℕ) (code L S : ℕ) (before content : List ℕ) → Octets content

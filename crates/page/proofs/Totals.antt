@@ -3,7 +3,8 @@
 --   total-same      outcomes that agree make the same total
 --   total-answers   what a total answers after n more strips
 --   page-answers    the total over a page's strips answers as its write does
-use mathlib.Core.Path.{_≡_, refl, _∙_, ap, ap₂}
+--   page-below      a page's write costs at most 64 times closed
+use mathlib.Core.Path.{_≡_, refl, sym, _∙_, ap, ap₂}
 use mathlib.Core.Bool.{Bool, true, false}
 use mathlib.Core.Option.{Option, none, some}
 use Prim.Native.Nat.{ℕ, zero, suc, _<_, _≤_, _+_, _*_, _%_, _^_}
@@ -11,13 +12,13 @@ use native.Mathlib.Omega.{arith}
 use native.Mathlib.Nat.{mod-eq-of-lt}
 use Rattle.cells.specs.Places.{listOf}
 use Rattle.search.specs.Best.{Solution}
-use Rattle.search.specs.Trellis.{joined, all, first-none}
+use Rattle.search.specs.Trellis.{joined, free, all, first-none}
 use Rattle.stages.specs.Stage.{closed}
 use Rattle.trellis.specs.Outcomes.{solutionOutcome}
 use Rattle.trellis.specs.declared.Outcome.{Outcome}
 use Rattle.trellis.specs.declared.Outcome.the-variants as O
 use Rattle.page.specs.Totals.{noTotal, withOutcome, unlessSpent, added, totalFrom, spentOrDone, answerFor}
-use Rattle.page.specs.Answers.{callAnswer}
+use Rattle.page.specs.Answers.{callAnswer, jobAnswer}
 use Rattle.demand.specs.Jobs.{Job}
 use Rattle.demand.specs.Computed.{stripWrite, pageWrite, spentStrip}
 use Rattle.page.specs.declared.Total.{Total}
@@ -107,3 +108,29 @@ page-answers J h b =
         ≡ callAnswer none q (first-none (stripWrite J) (listOf (J .strips) (λ k. k)))
     ends none = ap A.Spent (omega arith)
     ends (some a) = ap A.Done (omega arith)
+
+-- each of n strips below closed, all of them at most n times that
+all-below : (w : ℕ → Option Solution) (n : ℕ) (g : ℕ → ℕ) → Bounded w g n → (a : Solution) → all w (listOf n g) ≡ some a
+    → a .cost ≤ n * closed
+unfolding all listOf joined Bounded
+all-below w zero g b a e = let z : free ≡ a = cc in rw (← z) (omega arith)
+all-below w (suc n) g b a e =
+    go (w (g 0)) refl (all w (listOf n (λ i. g (suc i)))) (all-below w n (λ i. g (suc i)) (λ j l. b (suc j) (omega arith))) e
+  where
+    go : (x : Option Solution) → w (g 0) ≡ x → (q : Option Solution) → ((d : Solution) → q ≡ some d → d .cost ≤ n * closed)
+        → joined x q ≡ some a → a .cost ≤ suc n * closed
+    go none f q h e = let z : _≡_ {A = ℕ} 0 1 = cc in absurd (omega arith)
+    go (some c) f none h e = let z : _≡_ {A = ℕ} 0 1 = cc in absurd (omega arith)
+    go (some c) f (some d) h e =
+        let z : c .cost + d .cost ≡ a .cost = cc in
+        omega (arith, b 0 (omega arith) c f, h d refl)
+
+-- A PAGE'S WRITE costs at most 64 times closed
+pub page-below : (J : Job) → J .strips ≤ 64 → ((k : ℕ) → k < J .strips → (a : Solution) → stripWrite J k ≡ some a → a .cost < closed)
+    → {r : Answer} {c : ℕ} → r ≡ jobAnswer none J → r ≡ A.Done c → c ≤ 64 * closed
+unfolding jobAnswer pageWrite Bounded
+page-below J h b {r} {c} e f = go (pageWrite J) refl (sym f ∙ e)
+  where
+    go : (w : Option Solution) → pageWrite J ≡ w → A.Done c ≡ callAnswer none w (spentStrip J) → c ≤ 64 * closed
+    go none q g = let z : _≡_ {A = ℕ} 0 1 = cc in absurd (omega arith)
+    go (some a) q g = let z : c ≡ a .cost = cc in omega (arith, all-below (stripWrite J) (J .strips) (λ k. k) b a q)

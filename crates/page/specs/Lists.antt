@@ -40,7 +40,7 @@ endOf (A.Refused r) = E.Refused r
 
 -- 'the number written and the summed cost', with one more single write
 abbrev pub withWrite : ListAnswer → Answer → ListAnswer
-withWrite a (A.Done cost) = record { written = a .written + 1; cost = a .cost + cost; end = E.Done }
+withWrite a (A.Done cost) = record { written = suc (a .written); cost = a .cost + cost; end = E.Done }
 withWrite a (A.Spent strip) = record { written = a .written; cost = a .cost; end = E.Spent strip }
 withWrite a (A.Refused r) = record { written = a .written; cost = a .cost; end = E.Refused r }
 
@@ -145,7 +145,7 @@ pub data InTurn (start : ℕ → ℕ) (map : Option (List ℕ)) (W : List ℕ) (
   none-yet : InTurn start map W code L S before content 0 0 before
   one-more : {n cost c : ℕ} {page after : List ℕ} → InTurn start map W code L S before content n cost page
       → WroteBy start map W code L S page (dataOf L S content n) after (A.Done c)
-      → InTurn start map W code L S before content (n + 1) (cost + c) after
+      → InTurn start map W code L S before content (suc n) (cost + c) after
 
 -- WHAT A LIST PROMISES. Done: every data is written. Spent: those before data number n are, and for that one the page is spent. Refused: by
 -- the first ground of the list, and nothing is changed; a call without a ground is not refused.
