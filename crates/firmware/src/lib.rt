@@ -2,10 +2,11 @@
 // include/segrunov.h.
 use page::Answer;
 use page::Completion;
+use page::ListAnswer;
 use page::answers;
 ghost use mathlib.Core.Path.{_≡_};
 ghost use mathlib.Core.List.{[], _∷_};
-ghost use mathlib.Core.Option.{some};
+ghost use mathlib.Core.Option.{none, some};
 ghost use Prim.Native.Nat.{_+_, _*_, _%_, _≤_};
 ghost use lib.ListN.{length, replicate};
 ghost use Rattle.cells.specs.Marks.{marksIn, emptied};
@@ -15,7 +16,8 @@ ghost use Rattle.page.specs.Reading.{readPage};
 ghost use Rattle.refusals.specs.Refusals.{shapeGround, eraseGround, erasingGround, first-of, ground, numbered, completionOf};
 ghost use Rattle.page.specs.Answers.{kept, answerWith, pageWith, answerOf, pageOf, largestCost, largestWeightedCost};
 ghost use Rattle.page.specs.Promise.{WroteWith, Wrote};
-ghost use Rattle.firmware.specs.Words.{answerWord, completionWord};
+ghost use Rattle.page.specs.Lists.{listAnswer, listPage, ListBounds, WroteList};
+ghost use Rattle.firmware.specs.Words.{answerWord, completionWord, listWord, Fields};
 
 // A number and a value in one word.
 fn packed(number: u32, value: u32) -> u64
@@ -29,6 +31,19 @@ fn answer_word(answer: Answer) -> u64
     ensures { λ r. ⌜ r ≡ answerWord answer ⌝ }
 {
     packed(answers::number(answer), answers::value(answer))
+}
+
+// A list's answer in one word.
+fn list_word(answer: ListAnswer) -> u64
+    requires { ⌜ ListBounds answer ⌝ }
+    ensures { λ r. ⌜ r ≡ listWord answer ⌝ }
+    ensures { λ r. ⌜ Fields r answer ⌝ }
+{
+    let cost = answer.cost;
+    let written = answer.written;
+    let number = answers::end_number(answer.end);
+    let strip = answers::end_strip(answer.end);
+    packed(number, cost) + written as u64 * 1099511627776 + strip as u64 * 281474976710656
 }
 
 // The answer of a call that has no cost, in one word.
@@ -168,6 +183,62 @@ pub extern "C" fn segrunov_write_mapped(
 {
     let answer = page::writing::write_mapped(code, bytes, strips, w1, w2, w3, page, map, data);
     answer_word(answer)
+}
+
+// Writes the datas one after another, each at the least cost in these weights, and stops before the first for which the page is spent.
+#[no_mangle]
+pub extern "C" fn segrunov_write_list(
+    code: u32,
+    bytes: u32,
+    strips: u32,
+    w1: u8,
+    w2: u8,
+    w3: u8,
+    count: u32,
+    page: &mut [u8],
+    data: &[u8],
+) -> u64
+    ensures { λ r. ⌜ r ≡ listWord (listAnswer none (w1 ∷ w2 ∷ w3 ∷ []) code bytes strips count (now (page .entry)) (now («data» .entry))) ⌝ }
+    ensures { λ _. ⌜ now (page .exit) ≡ listPage none (w1 ∷ w2 ∷ w3 ∷ []) code bytes strips count (now (page .entry)) (now («data» .entry)) ⌝ }
+    ensures { λ _. ⌜ WroteList none (w1 ∷ w2 ∷ w3 ∷ []) code bytes strips count (now (page .entry)) (now («data» .entry)) (now (page .exit)) (listAnswer none (w1 ∷ w2 ∷ w3 ∷ []) code bytes strips count (now (page .entry)) (now («data» .entry))) ⌝ }
+    ensures { λ r. ⌜ Fields r (listAnswer none (w1 ∷ w2 ∷ w3 ∷ []) code bytes strips count (now (page .entry)) (now («data» .entry))) ⌝ }
+{
+    let answer = page::writing::write_list(code, bytes, strips, w1, w2, w3, count, page, data);
+    list_word(answer)
+}
+
+// The same, and raises no cell that the map marks.
+#[no_mangle]
+pub extern "C" fn segrunov_write_list_mapped(
+    code: u32,
+    bytes: u32,
+    strips: u32,
+    w1: u8,
+    w2: u8,
+    w3: u8,
+    count: u32,
+    page: &mut [u8],
+    map: &[u8],
+    data: &[u8],
+) -> u64
+    ensures { λ r. ⌜ r ≡ listWord (listAnswer (some (now (map .entry))) (w1 ∷ w2 ∷ w3 ∷ []) code bytes strips count (now (page .entry)) (now («data» .entry))) ⌝ }
+    ensures { λ _. ⌜ now (page .exit) ≡ listPage (some (now (map .entry))) (w1 ∷ w2 ∷ w3 ∷ []) code bytes strips count (now (page .entry)) (now («data» .entry)) ⌝ }
+    ensures { λ _. ⌜ WroteList (some (now (map .entry))) (w1 ∷ w2 ∷ w3 ∷ []) code bytes strips count (now (page .entry)) (now («data» .entry)) (now (page .exit)) (listAnswer (some (now (map .entry))) (w1 ∷ w2 ∷ w3 ∷ []) code bytes strips count (now (page .entry)) (now («data» .entry))) ⌝ }
+    ensures { λ r. ⌜ Fields r (listAnswer (some (now (map .entry))) (w1 ∷ w2 ∷ w3 ∷ []) code bytes strips count (now (page .entry)) (now («data» .entry))) ⌝ }
+{
+    let answer = page::writing::write_list_mapped(
+        code,
+        bytes,
+        strips,
+        w1,
+        w2,
+        w3,
+        count,
+        page,
+        map,
+        data,
+    );
+    list_word(answer)
 }
 
 // Makes every byte of the page 0 at a temperature from 50 to 400 tenths of a degree.

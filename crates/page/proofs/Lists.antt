@@ -99,7 +99,9 @@ module _ (answers : List ℕ → List ℕ → Answer) (pages : List ℕ → List
   unfolding courseAfter
   course-cost m count b zero h = omega arith
   course-cost m count b (suc n) h =
-      go (courseAfter answers pages datas before n .answer .end) (course-cost m count b n (omega arith)) _ (b n (omega arith) _)
+      let p = courseAfter answers pages datas before n .page in
+      go (courseAfter answers pages datas before n .answer .end) (course-cost m count b n (omega arith)) (answers p (datas n))
+      (b n (omega arith) p)
     where
       c : Course
       c = courseAfter answers pages datas before n

@@ -373,8 +373,11 @@ module _ {L S count : ℕ} {page₀ content : List ℕ} (Z : Listed oneBit L S c
       -- what a data costs
       pub turn-below : Suits G W → Dear (stepsOf W) → {c : ℕ} → r ≡ A.Done c → c ≤ 33554432
       turn-below K D d =
-          omega (arith, page-below _ (one-to-64 S (Z .strips-in) .1)
-          (λ k h a. strip-below G W K D L S (one-to-64 L (Z .bytes-in) .1) page (marksIn map) _ k a) answer d)
+          omega (
+            arith,
+            page-below _ (one-to-64 S (Z .strips-in) .1)
+                (λ k h a. strip-below G W K D L S (one-to-64 L (Z .bytes-in) .1) page (marksIn map) _ k a) answer d,
+          )
 
 -- THE CALLS. What the judge of a call answered
 pub record Judged (map : Option (List ℕ)) (W : List ℕ) (code L S : ℕ) (before content : List ℕ) (j : Completion) : Type 0 where

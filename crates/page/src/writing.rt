@@ -401,15 +401,7 @@ fn write_datas(
     let mut k: usize = 0;
     while k < count {
         let a = whole * k;
-        let answer = write_strips(
-            code,
-            weights,
-            bytes,
-            strips,
-            page,
-            map,
-            &data[a..a + whole],
-        );
+        let answer = write_strips(code, weights, bytes, strips, page, map, &data[a..a + whole]);
         let Answer::Done(one) = answer else {
             return ListAnswer {
                 written: k as u32,
@@ -489,15 +481,7 @@ pub fn write_list(
     ensures { λ r. ⌜ ListBounds r ⌝ }
 {
     let weights = [w1, w2, w3];
-    let judged = refusals::judge_list(
-        code,
-        bytes,
-        strips,
-        weights,
-        count,
-        page.len(),
-        data.len(),
-    );
+    let judged = refusals::judge_list(code, bytes, strips, weights, count, page.len(), data.len());
     match judged {
         Completion::Done => write_datas(
             refusals::code_of(code),

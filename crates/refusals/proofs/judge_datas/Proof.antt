@@ -18,8 +18,11 @@ mul-if1-2 : tie.Need-mul-if1-2
 mul-if1-2 c =
     let a = c .args in
     let l = limits-most (a .bytes) (a .strips) (c .pre) in
-    omega (arith, mul-le-mul {n₁ = a .count} {m₁ = a .bytes * a .strips} {n₂ = 4294967295} {m₂ = 4096} (omega (arith, c .fits .count))
-    (mul-le-mul {n₁ = a .bytes} {m₁ = a .strips} {n₂ = 64} {m₂ = 64} (l .0) (l .1)))
+    omega (
+      arith,
+      mul-le-mul {n₁ = a .count} {m₁ = a .bytes * a .strips} {n₂ = 4294967295} {m₂ = 4096} (omega (arith, c .fits .count))
+          (mul-le-mul {n₁ = a .bytes} {m₁ = a .strips} {n₂ = 64} {m₂ = 64} (l .0) (l .1)),
+    )
 
 returns : tie.Need-returns
 unfolding datasGround
