@@ -39,11 +39,11 @@ fn list_word(answer: ListAnswer) -> u64
     ensures { λ r. ⌜ r ≡ listWord answer ⌝ }
     ensures { λ r. ⌜ Fields r answer ⌝ }
 {
-    let cost = answer.cost;
-    let written = answer.written;
-    let number = answers::end_number(answer.end);
-    let strip = answers::end_strip(answer.end);
-    packed(number, cost) + written as u64 * 1099511627776 + strip as u64 * 281474976710656
+    let end = answer.end;
+    let strip = answers::end_strip(end);
+    packed(answers::end_number(end), answer.cost)
+        + answer.written as u64 * 1099511627776
+        + strip as u64 * 281474976710656
 }
 
 // The answer of a call that has no cost, in one word.
