@@ -1,10 +1,16 @@
 -- A LIST OF WRITES, by single writes in turn.
---   Goes, goes-none, goes-more     a course that has not ended
---   course-ended                   one that has stays
---   course-same                    single writes that agree make the same course
---   page-below                     no page's write costs 64 strips' closed
+--   with-one, not-ended              one more write; an end that has not come
+--   course-more, course-ended        a course that goes on, and one that has ended
+--   course-keeps                     what each single write keeps the course keeps
+--   course-cost                      what the writes cost together
+--   course-alike                     single writes that answer alike make courses that do
+--   single-in-order, single-octets   the single writes of a list in order
+--   list-course, list-refused        a list in order, and one that is refused
+--   list-promised, list-length       the list keeps its promise, and the page's length
+--   in-order-list                    the jobs of a list in order make its course
+--   list-bounds                      how large the fields of its answer are
 use mathlib.Core.Path.{_≡_, refl, sym, _∙_, ap, ap₂}
-use mathlib.Core.Bool.{Bool}
+use mathlib.Core.Bool.{Bool, true, false}
 use mathlib.Core.List.{List}
 use mathlib.Core.Option.{Option, none, some}
 use Prim.Native.Nat.{ℕ, zero, suc, _<_, _≤_, _+_, _*_, _-_}
@@ -16,9 +22,9 @@ use Rattle.cells.specs.Raising.{startOf}
 use Rattle.codes.specs.Generators.{Generators}
 use Rattle.demand.proofs.Jobs.{part-length, part-octets}
 use Rattle.refusals.specs.Refusals.{numbered}
-use Rattle.page.specs.Answers.{oneBitJob, jobAnswer, jobPage, markedBy, mapSize, groundWith, answerWith, pageWith, valueOf, largestWeightedCost}
+use Rattle.page.specs.Answers.{oneBitJob, jobAnswer, jobPage, markedBy, mapSize, groundWith, answerWith, pageWith, valueOf, answerCost, largestWeightedCost}
 use Rattle.page.specs.Promise.{WroteBy, done, spent, refused}
-use Rattle.page.specs.Lists.{dataOf, endOf, withWrite, Course, unlessEnded, onward, courseAfter, unlessRefused}
+use Rattle.page.specs.Lists.{dataOf, withWrite, Course, hasEnded, unlessEnded, onward, courseAfter, unlessRefused}
 use Rattle.page.specs.Lists.{refusedList, jobCourse, groundOf, listWith, listAnswer, listPage, largestListCost, ListBounds, WroteList}
 use Rattle.page.specs.Lists.{InTurn, none-yet, one-more, ListPromised, all-written, stopped-at, not-begun}
 use Rattle.refusals.specs.declared.Refusal.{Refusal}
@@ -31,51 +37,35 @@ use Rattle.refusals.proofs.Refusals.{one-to-64, weighted-in-order, count-in-ord
 use Rattle.page.proofs.Promise.{in-order-job, wrote-by, page-length, one-ground}
 use Rattle.page.proofs.Bounds.{Weights, weighted-largest}
 
--- a course of n datas written for so much, with this end
-abbrev pub courseAt : List ℕ → ℕ → ℕ → End → Course
-courseAt page n cost end = record { page = page; answer = record { written = n; cost = cost; end = end } }
+-- one more write: at most one more is written, and its cost is added
+pub with-one : (a : ListAnswer) (r : Answer) → (withWrite a r .written ≤ suc (a .written)) × (withWrite a r .cost ≡ a .cost + answerCost r)
+with-one a (A.Done cost) = (omega arith, refl)
+with-one a (A.Spent strip) = (omega arith, omega arith)
+with-one a (A.Refused q) = (omega arith, omega arith)
 
--- an end after which nothing follows
-pub record Ended (end : End) : Type 0 where
-  pub stays : (so-far next : Course) → unlessEnded end so-far next ≡ so-far
-
--- that of a single write that is not done
-pub not-done : (r : Answer) → ((cost : ℕ) → r ≡ A.Done cost → ⊥) → Ended (endOf r)
-not-done (A.Done cost) h = absurd (h cost refl)
-not-done (A.Spent strip) h = record { stays = λ c d. refl }
-not-done (A.Refused q) h = record { stays = λ c d. refl }
+-- an end that has not come
+pub not-ended : (end : End) → hasEnded end ≡ false → end ≡ E.Done
+not-ended E.Done e = refl
+not-ended (E.Spent strip) e = let z : _≡_ {A = Bool} true false = e in absurd (let y : _≡_ {A = ℕ} 0 1 = cc in omega arith)
+not-ended (E.Refused r) e = let z : _≡_ {A = Bool} true false = e in absurd (let y : _≡_ {A = ℕ} 0 1 = cc in omega arith)
 
 module _ (answers : List ℕ → List ℕ → Answer) (pages : List ℕ → List ℕ → List ℕ) (datas : ℕ → List ℕ) (before : List ℕ) where
-  -- A COURSE THAT GOES ON, with one more write that is done
-  pub went-on : {page : List ℕ} {n cost c : ℕ} → courseAfter answers pages datas before n ≡ courseAt page n cost E.Done
-      → answers page (datas n) ≡ A.Done c
-      → courseAfter answers pages datas before (suc n) ≡ courseAt (pages page (datas n)) (suc n) (cost + c) E.Done
+  -- A COURSE THAT GOES ON, with one more write
+  pub course-more : {page : List ℕ} {a : ListAnswer} {n : ℕ} → courseAfter answers pages datas before n ≡ record { page = page; answer = a }
+      → a .end ≡ E.Done
+      → courseAfter answers pages datas before (suc n)
+      ≡ record { page = pages page (datas n); answer = withWrite a (answers page (datas n)) }
   unfolding courseAfter
-  went-on e f = rw (e, f) refl
-
-  -- one that ends with it
-  pub went-out : {page : List ℕ} {n cost : ℕ} {r : Answer} → courseAfter answers pages datas before n ≡ courseAt page n cost E.Done
-      → answers page (datas n) ≡ r → ((c : ℕ) → r ≡ A.Done c → ⊥)
-      → courseAfter answers pages datas before (suc n) ≡ courseAt (pages page (datas n)) n cost (endOf r)
-  unfolding courseAfter
-  went-out {page} {n} {cost} {r} e f h =
-      rw (e, f) (ap (λ (a : ListAnswer). record { page = pages page (datas n); answer = a }) (go r h))
-    where
-      go : (r : Answer) → ((c : ℕ) → r ≡ A.Done c → ⊥)
-          → _≡_ {A = ListAnswer} (withWrite (record { written = n; cost = cost; end = E.Done }) r)
-          (record { written = n; cost = cost; end = endOf r })
-      go (A.Done c) h = absurd (h c refl)
-      go (A.Spent k) h = refl
-      go (A.Refused q) h = refl
+  course-more e f = rw (e, f) refl
 
   -- A COURSE THAT HAS ENDED stays
-  pub course-ended : (n m : ℕ) → Ended (courseAfter answers pages datas before n .answer .end)
+  pub course-ended : (n m : ℕ) → hasEnded (courseAfter answers pages datas before n .answer .end) ≡ true
       → courseAfter answers pages datas before (n + m) ≡ courseAfter answers pages datas before n
   unfolding courseAfter
   course-ended n zero s = let z : n + 0 ≡ n = omega arith in ap (courseAfter answers pages datas before) z
   course-ended n (suc m) s =
       let z : n + suc m ≡ suc (n + m) = omega arith in
-      ap (courseAfter answers pages datas before) z ∙ rw (course-ended n m s) (s .stays _ _)
+      ap (courseAfter answers pages datas before) z ∙ rw (course-ended n m s, s) refl
 
   -- WHAT EACH WRITE KEEPS the course keeps
   pub course-keeps : (P : List ℕ → Type 0) (count : ℕ) → ((n : ℕ) → n < count → (p : List ℕ) → P p → P (pages p (datas n))) → P before

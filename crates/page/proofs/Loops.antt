@@ -39,9 +39,9 @@ use Rattle.demand.proofs.Jobs.{part-length}
 use Rattle.page.specs.Shape.{stripOf, Sized, Listed}
 use Rattle.page.specs.Totals.{noTotal, added, totalFrom, answerFor}
 use Rattle.refusals.specs.Refusals.{numbered, completionOf}
-use Rattle.page.specs.Answers.{callAnswer, callPage, oneBitJob, jobAnswer, jobPage, markedBy, mapSize, groundWith, answerWith, pageWith}
+use Rattle.page.specs.Answers.{callAnswer, callPage, oneBitJob, jobAnswer, jobPage, markedBy, mapSize, groundWith, answerWith, pageWith, answerCost}
 use Rattle.page.specs.Promise.{WroteWith}
-use Rattle.page.specs.Lists.{Course, dataOf, endOf, refusedList, jobCourse, groundOf, listAnswer, listPage, ListBounds, WroteList}
+use Rattle.page.specs.Lists.{Course, dataOf, withWrite, hasEnded, refusedList, jobCourse, groundOf, listAnswer, listPage, ListBounds, WroteList}
 use Rattle.page.specs.Plans.{mapPart, stripPart, Planned, Carried}
 use Rattle.refusals.specs.declared.Refusal.{Refusal}
 use Rattle.page.specs.declared.Total.{Total}
@@ -55,12 +55,12 @@ use Rattle.page.proofs.Strips.{strip-there, part-more, lent-length, sto
 use Rattle.refusals.proofs.Refusals.{one-to-64, weighted-in-order, count-in-order, done-none, refused-some}
 use Rattle.page.proofs.Totals.{page-answers, page-below, total-spent, total-same}
 use Rattle.page.proofs.Bounds.{Weights}
-use Rattle.page.proofs.Lists.{courseAt, not-done, went-on, went-out, course-ended, list-refused, list-promised, list-bounds}
+use Rattle.page.proofs.Lists.{course-more, course-ended, list-refused, list-promised, list-bounds}
 use Rattle.page.proofs.Plans.{write-same, strip-below, carried-page}
 use Rattle.page.proofs.Promise.{dear-by, in-order-job, wrote}
 
 -- LENT PARTS. The part that a turn lends
-lent : (L k : ℕ) (x : List ℕ) → take (L * k + L - L * k) (drop (L * k) x) ≡ part L k x
+pub lent : (L k : ℕ) (x : List ℕ) → take (L * k + L - L * k) (drop (L * k) x) ≡ part L k x
 unfolding part
 lent L k x = ap (λ (n : ℕ). take n (drop (L * k) x)) (add-sub-cancel-left (L * k) L)
 
@@ -324,60 +324,47 @@ module _ {L S count : ℕ} {page₀ content : List ℕ} (Z : Listed oneBit L S c
   -- TURN k, on the page as it is
   module _ {k : ℕ} (h : k < count) {page : List ℕ} (same : length page ≡ length page₀) where
     -- the page and the data that it lends are in order
-    pub turn-sized : Sized oneBit L S page (take (L * S * k + L * S - L * S * k) (drop (L * S * k) content))
+    pub turn-sized : Sized oneBit L S page (dataOf L S content k)
     turn-sized = record {
       bytes-in = Z .bytes-in;
       strips-in = Z .strips-in;
       page-is = same ∙ Z .page-is;
-      data-is = lent-length (L * S) k content (data-fits h);
+      data-is = part-length (L * S) count k content datas-length h;
     }
 
-    module _ (G : Generators) (W map : List ℕ) {cost : ℕ} {r : Answer} {after : List ℕ}
-        (so-far : jobCourse (marksIn map) G W L S k page₀ content ≡ courseAt page k cost E.Done)
-        (answer : r ≡ jobAnswer none (oneBitJob (marksIn map) G W L S page (take (L * S * k + L * S - L * S * k) (drop (L * S * k) content))))
-        (left : after ≡ jobPage none
-        (oneBitJob (marksIn map) G W L S page (take (L * S * k + L * S - L * S * k) (drop (L * S * k) content))) startOf) where
-      -- what a single write answers and leaves
-      abbrev answers : List ℕ → List ℕ → Answer
-      answers p one = jobAnswer none (oneBitJob (marksIn map) G W L S p one)
-
-      abbrev pages : List ℕ → List ℕ → List ℕ
-      pages p one = jobPage none (oneBitJob (marksIn map) G W L S p one) startOf
-
-      -- the turn's data is data k of the list
-      own-answer : answers page (dataOf L S content k) ≡ r
-      own-answer = rw (← lent (L * S) k content) (sym answer)
-
-      own-page : pages page (dataOf L S content k) ≡ after
-      own-page = rw (← lent (L * S) k content) (sym left)
-
-      -- where it is done the list goes on
-      pub turn-done : {c : ℕ} → r ≡ A.Done c
-          → jobCourse (marksIn map) G W L S (k + 1) page₀ content ≡ courseAt after (k + 1) (cost + c) E.Done
-      turn-done {c} d =
+    -- with the answer r of data k's write, and the page after it
+    module _ (G : Generators) (W map : List ℕ) {a : ListAnswer} {r : Answer} {after : List ℕ}
+        (so-far : jobCourse (marksIn map) G W L S k page₀ content ≡ record { page = page; answer = a }) (going : a .end ≡ E.Done)
+        (answer : r ≡ jobAnswer none (oneBitJob (marksIn map) G W L S page (dataOf L S content k)))
+        (left : after ≡ jobPage none (oneBitJob (marksIn map) G W L S page (dataOf L S content k)) startOf) where
+      -- the list has one more
+      pub turn-course : {b : ListAnswer} → b ≡ withWrite a r
+          → jobCourse (marksIn map) G W L S (k + 1) page₀ content ≡ record { page = after; answer = b }
+      turn-course e =
           let z : k + 1 ≡ suc k = omega arith in
-          rw (← own-page)
-          (ap (λ (m : ℕ). jobCourse (marksIn map) G W L S m page₀ content) z
-          ∙ went-on answers pages (dataOf L S content) page₀ so-far (own-answer ∙ d)
-          ∙ ap (λ (m : ℕ). courseAt (pages page (dataOf L S content k)) m (cost + c) E.Done) (sym z))
+          ap (λ (m : ℕ). jobCourse (marksIn map) G W L S m page₀ content) z
+          ∙ rw (e, answer, left) (course-more _ _ (dataOf L S content) page₀ so-far going)
 
-      -- where it is not, it has ended, and stays so
-      pub turn-ended : ((c : ℕ) → r ≡ A.Done c → ⊥)
-          → jobCourse (marksIn map) G W L S count page₀ content ≡ courseAt after k cost (endOf r)
-      turn-ended n =
-          let e = went-out answers pages (dataOf L S content) page₀ so-far own-answer n in
-          let z : count ≡ suc k + (count - suc k) = omega arith in
-          let stays = course-ended answers pages (dataOf L S content) page₀ (suc k) (count - suc k) (rw e (not-done r n)) in
-          rw (← own-page) (ap (λ (m : ℕ). jobCourse (marksIn map) G W L S m page₀ content) z ∙ stays ∙ e)
+      -- where it has ended, that is the whole list
+      pub turn-ended : {b : ListAnswer} → b ≡ withWrite a r → hasEnded (b .end) ≡ true
+          → jobCourse (marksIn map) G W L S count page₀ content ≡ record { page = after; answer = b }
+      turn-ended {b} e f =
+          let z : count ≡ (k + 1) + (count - (k + 1)) = omega arith in
+          let c = turn-course e in
+          ap (λ (m : ℕ). jobCourse (marksIn map) G W L S m page₀ content) z
+          ∙ course-ended (λ p one. jobAnswer none (oneBitJob (marksIn map) G W L S p one))
+          (λ p one. jobPage none (oneBitJob (marksIn map) G W L S p one) startOf) (dataOf L S content) page₀ (k + 1) (count - (k + 1)) (rw c f)
+          ∙ c
 
       -- what a data costs
-      pub turn-below : Suits G W → Dear (stepsOf W) → {c : ℕ} → r ≡ A.Done c → c ≤ 33554432
-      turn-below K D d =
-          omega (
+      pub turn-below : Suits G W → Dear (stepsOf W) → answerCost r ≤ 33554432
+      turn-below K D =
+          rw answer
+          (omega (
             arith,
-            page-below _ (one-to-64 S (Z .strips-in) .1)
-                (λ k h a. strip-below G W K D L S (one-to-64 L (Z .bytes-in) .1) page (marksIn map) _ k a) answer d,
-          )
+            page-below (oneBitJob (marksIn map) G W L S page (dataOf L S content k)) (one-to-64 S (Z .strips-in) .1)
+                (λ j l a. strip-below G W K D L S (one-to-64 L (Z .bytes-in) .1) page (marksIn map) (dataOf L S content k) j a),
+          ))
 
 -- THE CALLS. What the judge of a call answered
 pub record Judged (map : Option (List ℕ)) (W : List ℕ) (code L S : ℕ) (before content : List ℕ) (j : Completion) : Type 0 where
@@ -458,9 +445,9 @@ module _ (map : Option (List ℕ)) {W : List ℕ} {code L S count : ℕ} {before
       dear-by (some count) (mapSize map) W code L S (length before) (length content) (list-no-ground e)
 
   -- where it is refused, nothing is written
-  pub refused-list : {q : Refusal} → j ≡ C.Refused q
+  pub list-refusal : {q : Refusal} → j ≡ C.Refused q
       → (refusedList q ≡ listAnswer map W code L S count before content) × (before ≡ listPage map W code L S count before content)
-  refused-list e =
+  list-refusal e =
       let w = list-refused map W code L S count before content startOf (refused-some _ (sym (J .by) ∙ e)) in
       (sym (ap (λ (c : Course). c .answer) w), sym (ap (λ (c : Course). c .page) w))
 

@@ -4,7 +4,7 @@
 --   total-answers   what a total answers after n more strips
 --   page-answers    the total over a page's strips answers as its write does
 --   page-below      a page's write costs at most 64 times closed
-use mathlib.Core.Path.{_≡_, refl, sym, _∙_, ap, ap₂}
+use mathlib.Core.Path.{_≡_, refl, _∙_, ap, ap₂}
 use mathlib.Core.Bool.{Bool, true, false}
 use mathlib.Core.Option.{Option, none, some}
 use Prim.Native.Nat.{ℕ, zero, suc, _<_, _≤_, _+_, _*_, _%_, _^_}
@@ -18,7 +18,7 @@ use Rattle.trellis.specs.Outcomes.{solutionOutcome}
 use Rattle.trellis.specs.declared.Outcome.{Outcome}
 use Rattle.trellis.specs.declared.Outcome.the-variants as O
 use Rattle.page.specs.Totals.{noTotal, withOutcome, unlessSpent, added, totalFrom, spentOrDone, answerFor}
-use Rattle.page.specs.Answers.{callAnswer, jobAnswer}
+use Rattle.page.specs.Answers.{callAnswer, jobAnswer, answerCost}
 use Rattle.demand.specs.Jobs.{Job}
 use Rattle.demand.specs.Computed.{stripWrite, pageWrite, spentStrip}
 use Rattle.page.specs.declared.Total.{Total}
@@ -127,10 +127,10 @@ all-below w (suc n) g b a e =
 
 -- A PAGE'S WRITE costs at most 64 times closed
 pub page-below : (J : Job) → J .strips ≤ 64 → ((k : ℕ) → k < J .strips → (a : Solution) → stripWrite J k ≡ some a → a .cost < closed)
-    → {r : Answer} {c : ℕ} → r ≡ jobAnswer none J → r ≡ A.Done c → c ≤ 64 * closed
+    → answerCost (jobAnswer none J) ≤ 64 * closed
 unfolding jobAnswer pageWrite Bounded
-page-below J h b {r} {c} e f = go (pageWrite J) refl (sym f ∙ e)
+page-below J h b = go (pageWrite J) refl
   where
-    go : (w : Option Solution) → pageWrite J ≡ w → A.Done c ≡ callAnswer none w (spentStrip J) → c ≤ 64 * closed
-    go none q g = let z : _≡_ {A = ℕ} 0 1 = cc in absurd (omega arith)
-    go (some a) q g = let z : c ≡ a .cost = cc in omega (arith, all-below (stripWrite J) (J .strips) (λ k. k) b a q)
+    go : (w : Option Solution) → pageWrite J ≡ w → answerCost (callAnswer none w (spentStrip J)) ≤ 64 * closed
+    go none e = omega arith
+    go (some a) e = omega (arith, all-below (stripWrite J) (J .strips) (λ k. k) b a e)

@@ -10,7 +10,7 @@
 --   InTurn, ListPromised     what a list promises: the promise of each single write
 --   WroteList                the same of a call
 use mathlib.Core.Path.{_≡_}
-use mathlib.Core.Bool.{Bool}
+use mathlib.Core.Bool.{Bool, true, false, cond}
 use mathlib.Core.List.{List}
 use mathlib.Core.Option.{Option, none, some}
 use Prim.Native.Nat.{ℕ, zero, suc, _+_, _*_, _<_, _≤_}
@@ -32,12 +32,6 @@ use Rattle.page.specs.declared.ListAnswer.{ListAnswer}
 abbrev pub dataOf : ℕ → ℕ → List ℕ → ℕ → List ℕ
 dataOf L S content n = part (L * S) n content
 
--- how a single write ended
-abbrev pub endOf : Answer → End
-endOf (A.Done cost) = E.Done
-endOf (A.Spent strip) = E.Spent strip
-endOf (A.Refused r) = E.Refused r
-
 -- 'the number written and the summed cost', with one more single write
 abbrev pub withWrite : ListAnswer → Answer → ListAnswer
 withWrite a (A.Done cost) = record { written = suc (a .written); cost = a .cost + cost; end = E.Done }
@@ -57,11 +51,15 @@ pub record Course : Type 0 where
   pub page : List ℕ
   pub answer : ListAnswer
 
+-- whether a list has ended before its last data
+abbrev pub hasEnded : End → Bool
+hasEnded E.Done = false
+hasEnded (E.Spent strip) = true
+hasEnded (E.Refused r) = true
+
 -- what has not ended goes on
 abbrev pub unlessEnded : End → Course → Course → Course
-unlessEnded E.Done so-far next = next
-unlessEnded (E.Spent strip) so-far next = so-far
-unlessEnded (E.Refused r) so-far next = so-far
+unlessEnded end so-far next = cond (hasEnded end) so-far next
 
 -- 'equal those of single writes in that order': `answers` and `pages` are the answer of a single write and the page after it, by the page
 -- before it and its data

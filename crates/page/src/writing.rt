@@ -14,7 +14,7 @@ use trellis::rows::rows_of;
 ghost use mathlib.Core.Path.{_≡_};
 ghost use mathlib.Core.List.{[], _∷_};
 ghost use mathlib.Core.Option.{none, some};
-ghost use Prim.Native.Nat.{_*_, _<_, _≤_, min};
+ghost use Prim.Native.Nat.{_+_, _*_, _<_, _≤_, min};
 ghost use lib.ListN.{length};
 ghost use Rattle.cells.specs.Places.{Free};
 ghost use Rattle.cells.specs.Marks.{marksIn};
@@ -23,10 +23,11 @@ ghost use Rattle.cells.specs.Climbs.{house};
 ghost use Rattle.codes.specs.Codes.{generatorsOf};
 ghost use Rattle.codes.specs.Layouts.{oneBit};
 ghost use Rattle.search.specs.Strip.{Dear, stepsOf};
+ghost use Rattle.demand.specs.Jobs.{part};
 ghost use Rattle.page.specs.Shape.{Sized, Listed};
-ghost use Rattle.page.specs.Answers.{oneBitJob, jobAnswer, jobPage, answerWith, pageWith, answerOf, pageOf, valueOf, largestCost, largestWeightedCost};
+ghost use Rattle.page.specs.Answers.{oneBitJob, jobAnswer, jobPage, answerWith, pageWith, answerOf, pageOf, valueOf, answerCost, largestCost, largestWeightedCost};
 ghost use Rattle.page.specs.Promise.{WroteWith, Wrote};
-ghost use Rattle.page.specs.Lists.{endOf, refusedList, jobCourse, listAnswer, listPage, ListBounds, WroteList};
+ghost use Rattle.page.specs.Lists.{withWrite, hasEnded, noneWritten, refusedList, jobCourse, listAnswer, listPage, ListBounds, WroteList};
 ghost use Rattle.page.specs.Plans.{mapPart, Planned, Carried};
 
 // The lesser of two.
@@ -357,19 +358,65 @@ pub fn write(code: u32, bytes: u32, strips: u32, page: &mut [u8], data: &[u8]) -
     write_weighted(code, bytes, strips, w[0], w[1], w[2], page, data)
 }
 
-// How a single write ended.
-fn end_of(answer: Answer) -> End
-    ensures { λ r. ⌜ r ≡ endOf answer ⌝ }
+// Data number k of a list of datas of `whole` bytes each.
+fn data_part(data: &[u8], whole: usize, k: usize) -> &[u8]
+    requires { ⌜ whole * k + whole ≤ length (now «data») ⌝ }
+    ensures { λ r. ⌜ now r ≡ part whole k (now («data» .entry)) ⌝ }
 {
+    let a = whole * k;
+    &data[a..a + whole]
+}
+
+// The answer of a list with one more single write.
+fn with_write(so_far: ListAnswer, answer: Answer) -> ListAnswer
+    requires { ⌜ («so_far» .written < 64) × («so_far» .cost + answerCost answer < 4294967296) ⌝ }
+    ensures { λ r. ⌜ r ≡ withWrite «so_far» answer ⌝ }
+{
+    let written = so_far.written;
+    let cost = so_far.cost;
     match answer {
-        Answer::Done(_) => End::Done,
-        Answer::Spent(strip) => End::Spent(strip),
-        Answer::Refused(refusal) => End::Refused(refusal),
+        Answer::Done(one) => ListAnswer {
+            written: written + 1,
+            cost: cost + one,
+            end: End::Done,
+        },
+        Answer::Spent(strip) => ListAnswer {
+            written,
+            cost,
+            end: End::Spent(strip),
+        },
+        Answer::Refused(refusal) => ListAnswer {
+            written,
+            cost,
+            end: End::Refused(refusal),
+        },
+    }
+}
+
+// Whether a list has ended before its last data.
+fn has_ended(end: End) -> bool
+    ensures { λ r. ⌜ r ≡ hasEnded end ⌝ }
+{
+    match end {
+        End::Done => false,
+        End::Spent(_) => true,
+        End::Refused(_) => true,
+    }
+}
+
+// Nothing written yet.
+fn none_written() -> ListAnswer
+    ensures { λ r. ⌜ r ≡ noneWritten ⌝ }
+{
+    ListAnswer {
+        written: 0,
+        cost: 0,
+        end: End::Done,
     }
 }
 
 // Nothing written, as the call is refused.
-fn none_written(refusal: Refusal) -> ListAnswer
+fn refused_list(refusal: Refusal) -> ListAnswer
     ensures { λ r. ⌜ r ≡ refusedList refusal ⌝ }
 {
     ListAnswer {
@@ -397,26 +444,19 @@ fn write_datas(
         ≡ (jobCourse (marksIn (now (map .entry))) (generatorsOf code) weights bytes strips count (now (page .entry)) (now («data» .entry))) .page ⌝ }
 {
     let whole = bytes * strips;
-    let mut cost: u32 = 0;
+    let mut so_far = none_written();
     let mut k: usize = 0;
     while k < count {
-        let a = whole * k;
-        let answer = write_strips(code, weights, bytes, strips, page, map, &data[a..a + whole]);
-        let Answer::Done(one) = answer else {
-            return ListAnswer {
-                written: k as u32,
-                cost,
-                end: end_of(answer),
-            };
-        };
-        cost += one;
+        let one = data_part(data, whole, k);
+        let answer = write_strips(code, weights, bytes, strips, page, map, one);
+        so_far = with_write(so_far, answer);
+        let end = so_far.end;
+        if has_ended(end) {
+            return so_far;
+        }
         k += 1;
     }
-    ListAnswer {
-        written: k as u32,
-        cost,
-        end: End::Done,
-    }
+    so_far
 }
 
 // Writes the datas one after another, each at the least cost in these weights, and raises no cell that the map marks.
@@ -459,7 +499,7 @@ pub fn write_list_mapped(
             map,
             data,
         ),
-        Completion::Refused(r) => none_written(r),
+        Completion::Refused(r) => refused_list(r),
     }
 }
 
@@ -493,6 +533,6 @@ pub fn write_list(
             &data[0..0],
             data,
         ),
-        Completion::Refused(r) => none_written(r),
+        Completion::Refused(r) => refused_list(r),
     }
 }

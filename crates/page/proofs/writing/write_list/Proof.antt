@@ -8,7 +8,7 @@ use Rattle.cells.specs.Bytes.{Octets}
 use Rattle.cells.proofs.Marks.{no-map}
 use Rattle.page.proofs.Bounds.{Weights, three-weights}
 use Rattle.page.proofs.Lists.{in-order-list}
-use Rattle.page.proofs.Loops.{JudgedList, list-no-ground, listed-by, listed-dear, refused-list, list-kept}
+use Rattle.page.proofs.Loops.{JudgedList, list-no-ground, listed-by, listed-dear, list-refusal, list-kept}
 use Rattle.page.proofs.writing.write_list.Statement.{statement}
 use Rattle.page.proofs.writing.write_list.Tie as tie
 
@@ -54,8 +54,8 @@ write-datas-requires c κs =
 enum-known-judged : tie.Need-enum-known-judged
 enum-known-judged c = search needs
 
-none-written-requires : tie.Need-none-written-requires
-none-written-requires c κs = search needs
+refused-list-requires : tie.Need-refused-list-requires
+refused-list-requires c κs = search needs
 
 same-length : tie.Need-same-length
 same-length c = search needs
@@ -74,8 +74,8 @@ returns c =
 returns-2 : tie.Need-returns-2
 returns-2 c =
     let j = c .before .before .before .before in
-    let z = refused-list none (judged j) (c .before .before .judged .given .1) in
-    let e = c .none-written .ensures ∙ z .0 in
+    let z = list-refusal none (judged j) (c .before .before .judged .given .1) in
+    let e = c .refused-list .ensures ∙ z .0 in
     let k = list-kept none _ _ _ _ _ _ _ (weights (j .before .before .before)) (octets (j .before)) (z .1) e in
     (e, (z .1, (k .0, k .1)))
 
@@ -91,7 +91,7 @@ write-list-spec =
     part-write-datas-end
     write-datas-requires
     enum-known-judged
-    none-written-requires
+    refused-list-requires
     same-length
     returns
     returns-2)

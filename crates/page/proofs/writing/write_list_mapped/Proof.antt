@@ -7,7 +7,7 @@ use borrow.Author.Needs.{needs}
 use Rattle.cells.specs.Bytes.{Octets}
 use Rattle.page.proofs.Bounds.{Weights, three-weights}
 use Rattle.page.proofs.Lists.{in-order-list}
-use Rattle.page.proofs.Loops.{JudgedList, list-no-ground, listed-by, listed-dear, refused-list, list-kept}
+use Rattle.page.proofs.Loops.{JudgedList, list-no-ground, listed-by, listed-dear, list-refusal, list-kept}
 use Rattle.page.proofs.writing.write_list_mapped.Statement.{statement}
 use Rattle.page.proofs.writing.write_list_mapped.Tie as tie
 
@@ -44,8 +44,8 @@ write-datas-requires c κs =
 enum-known-judged : tie.Need-enum-known-judged
 enum-known-judged c = search needs
 
-none-written-requires : tie.Need-none-written-requires
-none-written-requires c κs = search needs
+refused-list-requires : tie.Need-refused-list-requires
+refused-list-requires c κs = search needs
 
 same-length : tie.Need-same-length
 same-length c = search needs
@@ -64,8 +64,8 @@ returns c =
 returns-2 : tie.Need-returns-2
 returns-2 c =
     let j = c .before .before .before .before in
-    let z = refused-list _ (judged j) (c .before .before .judged .given .1) in
-    let e = c .none-written .ensures ∙ z .0 in
+    let z = list-refusal _ (judged j) (c .before .before .judged .given .1) in
+    let e = c .refused-list .ensures ∙ z .0 in
     let k = list-kept _ _ _ _ _ _ _ _ (weights (j .before .before .before .before)) (octets (j .before)) (z .1) e in
     (e, (z .1, (k .0, k .1)))
 
@@ -78,7 +78,7 @@ write-list-mapped-spec =
     code-of-requires
     write-datas-requires
     enum-known-judged
-    none-written-requires
+    refused-list-requires
     same-length
     returns
     returns-2)
