@@ -4,6 +4,10 @@
 --   erased-level                  every level of an erased page is 0
 --   counts                        a fair event keeps the ledger
 --   Stays, stays-levels           a page whose marked cells stay at their level: the sum of these is the same
+--   fair-onward, raises-onward    a raise and another are a raise, of as many steps as both
+--   write-fair                    a write lowers no cell, whatever its answer
+--   data-octets                   each data of a list is bytes
+--   listCourse, list-keeps        the single writes of a list: what each of them keeps the list keeps
 --   call-fair, call-stays         every call under the marks is a fair event, after which the marked cells are at their level
 --   ledger-from                   any sequence of calls under the marks
 --   ledger-marked                 from a page whose unmarked cells are at level 0
@@ -14,7 +18,8 @@ use mathlib.Core.List.{List, [], _∷_}
 use mathlib.Core.Option.{Option, none, some}
 use Prim.Native.Nat.{ℕ, suc, _<_, _≤_, _+_, _*_, _-_, _/_}
 use native.Mathlib.Omega.{arith}
-use lib.ListN.{length, replicate}
+use lib.ListN.{length, replicate, drop, length-take, length-drop}
+use lib.Seq.{getD-take, getD-drop}
 use Rattle.cells.specs.Places.{sumOf, Each, and-each}
 use Rattle.cells.specs.Bytes.{Octets}
 use Rattle.cells.specs.Levels.{level, raisesOf}
@@ -22,16 +27,18 @@ use Rattle.cells.specs.Marks.{emptied}
 use Rattle.cells.proofs.Places.{sumOf-same, sumOf-add, sumOf-zero}
 use Rattle.cells.proofs.Marks.{zeros-bit, emptied-length, emptied-kept, emptied-raises}
 use Rattle.search.specs.Layouts.{unmarked}
-use Rattle.demand.specs.Jobs.{pageCells}
+use Rattle.demand.specs.Jobs.{part, pageCells}
 use Rattle.demand.proofs.Demand.{page-cell}
-use Rattle.page.specs.Answers.{kept, markedBy, groundWith, jobWith}
+use Rattle.page.specs.Answers.{kept, markedBy, groundWith, jobWith, answerWith, pageWith}
 use Rattle.page.specs.Promise.{Promised, done, spent, refused}
+use Rattle.page.specs.Lists.{dataOf, Course, courseAfter, unlessRefused, groundOf, listWith}
 use Rattle.page.specs.Ledger.{cellsOn, raisesMade, Event, raised, erased, looked, Fair, fair-raise, fair-erase, fair-look}
-use Rattle.page.specs.Ledger.{pageAfter, counted, Call, Marking, writes, erases, looks, erasing, markedLevels}
+use Rattle.page.specs.Ledger.{pageAfter, counted, Call, Marking, writes, lists, erases, looks, erasing, markedLevels}
 use Rattle.page.specs.Ledger.{eventOf, played, tallied}
 use Rattle.refusals.specs.declared.Refusal.{Refusal}
 use Rattle.page.specs.declared.Answer.{Answer}
 use Rattle.page.proofs.Promise.{job-in-order, wrote-by}
+use Rattle.page.proofs.Lists.{course-keeps}
 
 -- ERASED PAGES. Every level is 0
 pub erased-level : (n c : ℕ) → level (replicate n 0) c ≡ 0
@@ -75,6 +82,28 @@ stays-levels marks {before} {after} s =
     go c true e = e refl
     go c false e = refl
 
+-- RAISES IN TURN. A raise and another are a raise
+pub fair-onward : {base : ℕ} {before middle after : List ℕ} → Fair base before (raised middle) → Fair base middle (raised after)
+    → Fair base before (raised after)
+fair-onward {before = before} {middle} {after} (fair-raise s h) (fair-raise t k) =
+    fair-raise {after = after} (t ∙ s) (λ c l. omega (arith, h c l, k c (rw (same-cells middle before s) l)))
+
+-- of as many steps as both
+pub raises-onward : {base : ℕ} {before middle after : List ℕ} → Fair base before (raised middle) → Fair base middle (raised after)
+    → raisesMade before after ≡ raisesMade before middle + raisesMade middle after
+raises-onward {before = before} {middle} {after} (fair-raise s h) (fair-raise t k) =
+    let e = same-cells middle before s in
+    let g = rw e at (grows middle after k) in
+    omega (arith, grows before middle h, grows before after (λ c l. omega (arith, h c l, k c (rw e l))))
+
+-- and marked cells that stay twice stay
+stays-onward : {marks : ℕ → Bool} {before middle after : List ℕ} → Stays marks before middle → Stays marks middle after
+    → Stays marks before after
+stays-onward {before = before} {middle} s t = record {
+  size = t .size ∙ s .size;
+  same = λ c h m. t .same c (rw (same-cells middle before (s .size)) h) m ∙ s .same c h m;
+}
+
 -- an erase under the marks leaves a page whose levels are those of the marked cells
 erase-leaves : (marks : ℕ → Bool) (map : Option (List ℕ)) (page : List ℕ) → ((c : ℕ) → c < cellsOn page → markedBy map c ≡ marks c)
     → raisesOf (cellsOn (emptied (markedBy map) page)) (emptied (markedBy map) page) ≡ markedLevels marks page
@@ -92,7 +121,7 @@ module _ (map : Option (List ℕ)) (W : List ℕ) (code L S : ℕ) (before conte
   inside e c h = page-cell _ (job-in-order map W code L S before content b e) c (omega arith)
 
   -- a write lowers no cell and keeps the page's length, whatever its answer
-  write-fair : {start : ℕ → ℕ} {after : List ℕ} {r : Answer} (base : ℕ)
+  pub write-fair : {start : ℕ → ℕ} {after : List ℕ} {r : Answer} (base : ℕ)
       → Promised start (groundWith map W code L S before content) (jobWith map W code L S before content) after r
       → Fair base before (raised after)
   write-fair base (done e p) = fair-raise (p .could .size) (λ c h. p .could .no-lower c (inside e c h))
@@ -107,12 +136,56 @@ module _ (map : Option (List ℕ)) (W : List ℕ) (code L S : ℕ) (before conte
   write-stays (spent e p f) = record { size = ap length f; same = λ c h m. rw f }
   write-stays (refused e f) = record { size = ap length f; same = λ c h m. rw f }
 
+-- A LIST. Each data is bytes where the whole content is
+pub data-octets : (L S : ℕ) (content : List ℕ) → Octets content → (n : ℕ) → Octets (dataOf L S content n)
+unfolding part
+data-octets L S content b n = record {
+  below = λ q l.
+      let m = rw (length-take (L * S) (drop (L * S * n) content), length-drop (L * S * n) content) at l in
+      let h : q < L * S = omega arith in
+      rw (getD-take (L * S) (drop (L * S * n) content) q 0 h, getD-drop (L * S * n) content q 0) (b .below (L * S * n + q) (omega arith));
+}
+
+-- its single writes
+abbrev pub listCourse : (start : ℕ → ℕ) (map : Option (List ℕ)) (W : List ℕ) (code L S : ℕ) (before content : List ℕ) → ℕ → Course
+listCourse start map W code L S before content n =
+    courseAfter (answerWith map W code L S) (λ page one. pageWith map W code L S page one start) (dataOf L S content) before n
+
+-- what each of them keeps the list keeps, whatever its answer
+module _ (start : ℕ → ℕ) (map : Option (List ℕ)) (W : List ℕ) (code L S count : ℕ) (before content : List ℕ) (b : Octets content) where
+  pub list-keeps : (P : List ℕ → Type 0) → ((p one : List ℕ) → Octets one → P p → P (pageWith map W code L S p one start)) → P before
+      → P (listWith map W code L S count before content start .page)
+  unfolding listWith
+  list-keeps P k z = go (groundOf map W code L S count before content)
+    where
+      go : (g : Option Refusal) → P (unlessRefused g (listCourse start map W code L S before content count) before .page)
+      go none =
+          course-keeps _ _ (dataOf L S content) before P count
+          (λ n h p. k p (dataOf L S content n) (data-octets L S content b n)) z count (omega arith)
+      go (some r) = z
+
+  -- so it lowers no cell and keeps the page's length
+  list-fair : (base : ℕ) → Fair base before (raised (listWith map W code L S count before content start .page))
+  list-fair base =
+      list-keeps (λ p. Fair base before (raised p))
+      (λ p one o f. fair-onward f (write-fair map W code L S p one o base (wrote-by start map W code L S p one o)))
+      (fair-raise refl (λ c h. omega arith))
+
+  -- and leaves the marked cells at their level
+  list-stays : Stays (markedBy map) before (listWith map W code L S count before content start .page)
+  list-stays =
+      list-keeps (Stays (markedBy map) before)
+      (λ p one o s. stays-onward s (write-stays map W code L S p one o (wrote-by start map W code L S p one o)))
+      (record { size = refl; same = λ c h m. refl })
+
 -- so every call under the marks is a fair event
 pub call-fair : (start : ℕ → ℕ) (marks : ℕ → Bool) (page : List ℕ) {c : Call} → Marking (cellsOn page) marks c
     → Fair (markedLevels marks page) page (eventOf start c page)
 unfolding eventOf
 call-fair start marks page (writes {map} {W} {code} {L} {S} {content} {b} m) =
     write-fair map W code L S page content b (markedLevels marks page) (wrote-by start map W code L S page content b)
+call-fair start marks page (lists {map} {W} {code} {L} {S} {count} {content} {b} m) =
+    list-fair start map W code L S count page content b (markedLevels marks page)
 call-fair start marks page (erases {map} {L} {S} {tenths} m) = go (erasing map L S tenths page)
   where
     go : (g : Option Refusal) → Fair (markedLevels marks page) page (kept g (erased (emptied (markedBy map) page)) looked)
@@ -120,13 +193,19 @@ call-fair start marks page (erases {map} {L} {S} {tenths} m) = go (erasing map L
     go (some r) = fair-look
 call-fair start marks page looks = fair-look
 
+-- cells marked by a map that marks these
+stays-by : {marks other : ℕ → Bool} {before after : List ℕ} → ((c : ℕ) → c < cellsOn before → other c ≡ marks c)
+    → Stays other before after → Stays marks before after
+stays-by m s = record { size = s .size; same = λ c h k. s .same c h (m c h ∙ k) }
+
 -- after which the marked cells are at their level
 pub call-stays : (start : ℕ → ℕ) (marks : ℕ → Bool) (page : List ℕ) {c : Call} → Marking (cellsOn page) marks c
     → Stays marks page (pageAfter (eventOf start c page) page)
 unfolding eventOf
 call-stays start marks page (writes {map} {W} {code} {L} {S} {content} {b} m) =
-    let s = write-stays map W code L S page content b (wrote-by start map W code L S page content b) in
-    record { size = s .size; same = λ c h k. s .same c h (m c h ∙ k) }
+    stays-by m (write-stays map W code L S page content b (wrote-by start map W code L S page content b))
+call-stays start marks page (lists {map} {W} {code} {L} {S} {count} {content} {b} m) =
+    stays-by m (list-stays start map W code L S count page content b)
 call-stays start marks page (erases {map} {L} {S} {tenths} m) = go (erasing map L S tenths page)
   where
     go : (g : Option Refusal) → Stays marks page (pageAfter (kept g (erased (emptied (markedBy map) page)) looked) page)

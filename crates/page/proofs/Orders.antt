@@ -2,6 +2,7 @@
 -- leaves: releases that set the bits of a cell in different orders can take turns on a page.
 --   promised-alike        two calls that keep their promise, each in its own order, on pages with the same levels
 --   write-alike           two writes
+--   list-alike            two lists
 --   older-write           a write of the releases before K7 and one of this release
 --   census-alike          the census
 --   releases-alike        any sequence of calls, by any releases
@@ -37,14 +38,19 @@ use Rattle.page.specs.Reading.{readPage}
 use Rattle.page.specs.Answers.{kept, markedBy, groundWith, jobWith, answerWith, pageWith, answerOf, pageBy, pageOf}
 use Rattle.page.specs.Promise.{Promised, done, spent, refused}
 use Rattle.page.specs.Counting.{rowOf, zeroRow, rowAt, rowsOf, censusOf}
-use Rattle.page.specs.Ledger.{erased, looked, pageAfter, Call, write, erase, look, erasing, eventOf, answerTo, played, answered}
+use Rattle.page.specs.Lists.{dataOf, Course, unlessRefused, groundOf, listWith}
+use Rattle.page.specs.Ledger.{erased, looked, pageAfter, Call, write, list, erase, look, to-write, to-list, erasing}
+use Rattle.page.specs.Ledger.{eventOf, answerTo, played, answered}
 use Rattle.refusals.specs.declared.Refusal.{Refusal}
 use Rattle.page.specs.declared.Row.{Row}
 use Rattle.page.specs.declared.Answer.{Answer}
 use Rattle.page.specs.declared.Answer.the-variants as A
+use Rattle.page.specs.declared.ListAnswer.{ListAnswer}
 use Rattle.page.specs.Known.{six}
 use Rattle.page.proofs.Known.{cases-hold}
 use Rattle.page.proofs.Promise.{job-in-order, wrote-by, one-ground}
+use Rattle.page.proofs.Lists.{course-alike}
+use Rattle.page.proofs.Ledger.{data-octets, listCourse}
 
 -- ONE CALL. On pages with the same levels two calls that keep their promise, each in its own order, answer alike and leave the same levels
 module _ (g : Option Refusal) (J : Job) {p q : List ℕ} (s : SameLevels p q) (I : g ≡ none → InOrder (onPage p J)) where
@@ -70,6 +76,26 @@ write-alike start start′ map W code L S {p} {q} content b s =
     (wrote-by start map W code L S p content b)
     (rw (sym (s .size)) at (wrote-by start′ map W code L S q content b))
 
+-- TWO LISTS of the same datas
+pub list-alike : (start start′ : ℕ → ℕ) (map : Option (List ℕ)) (W : List ℕ) (code L S count : ℕ) {p q : List ℕ} (content : List ℕ)
+    → Octets content → SameLevels p q
+    → (listWith map W code L S count p content start .answer ≡ listWith map W code L S count q content start′ .answer)
+    × SameLevels (listWith map W code L S count p content start .page) (listWith map W code L S count q content start′ .page)
+unfolding listWith
+list-alike start start′ map W code L S count {p} {q} content b s = rw (s .size) (go (groundOf map W code L S count q content))
+  where
+    -- by single writes
+    course : (ℕ → ℕ) → List ℕ → Course
+    course start before = listCourse start map W code L S before content count
+
+    go : (g : Option Refusal) → (unlessRefused g (course start p) p .answer ≡ unlessRefused g (course start′ q) q .answer)
+        × SameLevels (unlessRefused g (course start p) p .page) (unlessRefused g (course start′ q) q .page)
+    go none =
+        course-alike SameLevels _ _ _ _ (dataOf L S content) count
+        (λ n h x y r. write-alike start start′ map W code L S (dataOf L S content n) (data-octets L S content b n) r)
+        s count (omega arith)
+    go (some r) = (refl, s)
+
 -- A WRITE OF THE RELEASES BEFORE K7, which raise from bit 0 on, and one of this release
 pub older-write : (W : List ℕ) (code L S : ℕ) {p q : List ℕ} (content : List ℕ) → Octets content → SameLevels p q
     → (answerOf W code L S p content ≡ answerOf W code L S q content)
@@ -93,11 +119,14 @@ census-alike L S {x} {y} s =
 
 -- ANY SEQUENCE OF CALLS. After a call the levels are the same
 call-alike : (start start′ : ℕ → ℕ) (c : Call) {p q : List ℕ} → SameLevels p q
-    → (answerTo c p ≡ answerTo c q) × SameLevels (pageAfter (eventOf start c p) p) (pageAfter (eventOf start′ c q) q)
+    → (answerTo start c p ≡ answerTo start′ c q) × SameLevels (pageAfter (eventOf start c p) p) (pageAfter (eventOf start′ c q) q)
 unfolding eventOf
 call-alike start start′ (write map W code L S content b) s =
     let z = write-alike start start′ map W code L S content b s in
-    (ap (λ (r : Answer). r ∷ []) (z .0), z .1)
+    (ap (λ (r : Answer). to-write r ∷ []) (z .0), z .1)
+call-alike start start′ (list map W code L S count content b) s =
+    let z = list-alike start start′ map W code L S count content b s in
+    (ap (λ (a : ListAnswer). to-list a ∷ []) (z .0), z .1)
 call-alike start start′ (erase map L S tenths) {p} {q} s = (refl, rw (s .size) (go (erasing map L S tenths q)))
   where
     go : (g : Option Refusal) → SameLevels (pageAfter (kept g (erased (emptied (markedBy map) p)) looked) p)

@@ -6,8 +6,10 @@
 --   Call, eventOf        a call on the page, and what it does
 --   Marking              a call under these marks
 --   markedLevels         the sum of the levels of the marked cells
+--   Reply, answerTo      what a write answers, or a list
 --   played, tallied      the page and the count after a sequence of calls
---   answered             what its writes answer
+--   answered             what its writes and lists answer
+--   writesOf             the first datas of a list as single writes
 use mathlib.Core.Path.{_≡_}
 use mathlib.Core.Bool.{Bool, cond}
 use mathlib.Core.List.{List, [], _∷_, _++_}
@@ -15,14 +17,16 @@ use mathlib.Core.Option.{Option}
 use Prim.Native.Nat.{ℕ, suc, _+_, _*_, _-_, _/_, _<_, _≤_}
 use lib.IntN.{ℤ}
 use lib.ListN.{length}
-use Rattle.cells.specs.Places.{sumOf}
+use Rattle.cells.specs.Places.{listOf, sumOf}
 use Rattle.cells.specs.Bytes.{Octets}
 use Rattle.cells.specs.Levels.{level, raisesOf}
 use Rattle.cells.specs.Marks.{emptied}
 use Rattle.refusals.specs.Refusals.{erasingGround}
 use Rattle.page.specs.Answers.{kept, markedBy, mapSize, answerWith, pageWith}
+use Rattle.page.specs.Lists.{dataOf, listWith}
 use Rattle.refusals.specs.declared.Refusal.{Refusal}
 use Rattle.page.specs.declared.Answer.{Answer}
+use Rattle.page.specs.declared.ListAnswer.{ListAnswer}
 
 -- every cell of a page of so many bytes
 unfoldable pub cellsOn : List ℕ → ℕ
@@ -58,10 +62,11 @@ counted (raised after) page n = n + raisesMade page after
 counted (erased after) page n = 0
 counted looked page n = n
 
--- 'any sequence of calls on that page alone', with any weights, each with a map or without one: the data of a write is bytes; read, price
--- and census change nothing
+-- 'any sequence of calls on that page alone', with any weights, each with a map or without one: the data of a write is bytes, and so are
+-- the datas of a list; read, price and census change nothing
 pub data Call : Type 0 where
   write : (map : Option (List ℕ)) (W : List ℕ) (code L S : ℕ) (content : List ℕ) → Octets content → Call
+  list : (map : Option (List ℕ)) (W : List ℕ) (code L S count : ℕ) (content : List ℕ) → Octets content → Call
   erase : (map : Option (List ℕ)) (L S : ℕ) (tenths : ℤ) → Call
   look : Call
 
@@ -69,6 +74,8 @@ pub data Call : Type 0 where
 pub data Marking (n : ℕ) (marks : ℕ → Bool) : Call → Type 0 where
   writes : {map : Option (List ℕ)} {W : List ℕ} {code L S : ℕ} {content : List ℕ} {b : Octets content}
       → ((c : ℕ) → c < n → markedBy map c ≡ marks c) → Marking n marks (write map W code L S content b)
+  lists : {map : Option (List ℕ)} {W : List ℕ} {code L S count : ℕ} {content : List ℕ} {b : Octets content}
+      → ((c : ℕ) → c < n → markedBy map c ≡ marks c) → Marking n marks (list map W code L S count content b)
   erases : {map : Option (List ℕ)} {L S : ℕ} {tenths : ℤ} → ((c : ℕ) → c < n → markedBy map c ≡ marks c)
       → Marking n marks (erase map L S tenths)
   looks : Marking n marks look
@@ -81,17 +88,25 @@ erasing map L S tenths page = erasingGround (mapSize map) L S (length page) tent
 unfoldable pub markedLevels : (ℕ → Bool) → List ℕ → ℕ
 markedLevels marks page = sumOf (cellsOn page) (λ c. cond (marks c) (level page c) 0)
 
--- what a call does to the page: a refused write leaves it, and so makes no raise. Its raises start where the release that makes it says
+-- what a call does to the page: a refused write leaves it, and so makes no raise; nor does a refused list. Its raises start where the
+-- release that makes it says
 unfoldable pub eventOf : (start : ℕ → ℕ) → Call → List ℕ → Event
 eventOf start (write map W code L S content b) page = raised (pageWith map W code L S page content start)
+eventOf start (list map W code L S count content b) page = raised (listWith map W code L S count page content start .page)
 eventOf start (erase map L S tenths) page = kept (erasing map L S tenths page) (erased (emptied (markedBy map) page)) looked
 eventOf start look page = looked
 
--- what it answers, if it is a write
-abbrev pub answerTo : Call → List ℕ → List Answer
-answerTo (write map W code L S content b) page = answerWith map W code L S page content ∷ []
-answerTo (erase map L S tenths) page = []
-answerTo look page = []
+-- the answer of a write, or of a list
+pub data Reply : Type 0 where
+  to-write : Answer → Reply
+  to-list : ListAnswer → Reply
+
+-- what a call answers, if it is a write or a list
+abbrev pub answerTo : (start : ℕ → ℕ) → Call → List ℕ → List Reply
+answerTo start (write map W code L S content b) page = to-write (answerWith map W code L S page content) ∷ []
+answerTo start (list map W code L S count content b) page = to-list (listWith map W code L S count page content start .answer) ∷ []
+answerTo start (erase map L S tenths) page = []
+answerTo start look page = []
 
 -- a sequence of calls, the first one first; `starts n` is where the raises of call n start, so that releases of any order can take turns
 unfoldable pub played : (starts : ℕ → ℕ → ℕ) → List Call → List ℕ → List ℕ
@@ -104,7 +119,13 @@ tallied starts [] page n = n
 tallied starts (c ∷ cs) page n =
     tallied (λ n. starts (suc n)) cs (pageAfter (eventOf (starts 0) c page) page) (counted (eventOf (starts 0) c page) page n)
 
--- and what its writes answer
-unfoldable pub answered : (starts : ℕ → ℕ → ℕ) → List Call → List ℕ → List Answer
+-- and what its writes and lists answer
+unfoldable pub answered : (starts : ℕ → ℕ → ℕ) → List Call → List ℕ → List Reply
 answered starts [] page = []
-answered starts (c ∷ cs) page = answerTo c page ++ answered (λ n. starts (suc n)) cs (pageAfter (eventOf (starts 0) c page) page)
+answered starts (c ∷ cs) page =
+    answerTo (starts 0) c page ++ answered (λ n. starts (suc n)) cs (pageAfter (eventOf (starts 0) c page) page)
+
+-- 'single writes in that order': the first n datas of a list, each of which is bytes
+unfoldable pub writesOf : (map : Option (List ℕ)) (W : List ℕ) (code L S : ℕ) (content : List ℕ)
+    → ((i : ℕ) → Octets (dataOf L S content i)) → (n : ℕ) → List Call
+writesOf map W code L S content octets n = listOf n (λ i. write map W code L S (dataOf L S content i) (octets i))
