@@ -1,17 +1,18 @@
 -- WHAT A MAP DOES to the calls. For any L, S and weights, and both codes.
 --   RightMap, right-ground   a map of the right length, or none, refuses nothing more of a write, and of an erase (right-erasing)
 --   unmarked-write           with a map that marks no cell of the page a write is the one without a map
+--   unmarked-list            and so is a list
 --   unmarked-erase           and an erase empties every cell
---   zeroMap, zero-map-write  so it is with a map of zeros, and so is an erase (zero-map-erase)
+--   zeroMap, zero-map-write  so it is with a map of zeros, and so are a list and an erase (zero-map-list, zero-map-erase)
 --   more-marks-cost          to mark more cells never makes a write cheaper
 --   more-marks-spent         nor lets a spent page take the data
---   marked-bits              a write leaves the three bits of a marked cell, whatever its answer
+--   marked-bits              a write leaves the three bits of a marked cell, whatever its answer, and so does a list (list-marked-bits)
 --   stays-free               a write of what the page reads as costs nothing and leaves it as it is, whatever is marked
 --   all-marked-done          with every cell marked a page takes only what it reads as
 --   all-marked-spent         and is spent for everything else
 --   erased-reads             an erased page reads as zeros
 --   all-marked-erased        so with every cell marked at level 0 it takes only zeros
-use mathlib.Core.Path.{_≡_, refl, sym, _∙_, ap, fun-ext}
+use mathlib.Core.Path.{_≡_, refl, sym, _∙_, ap, ap₂, fun-ext}
 use mathlib.Core.Bool.{Bool, true, false, cond}
 use mathlib.Core.List.{List}
 use mathlib.Core.Option.{Option, none, some}
@@ -39,29 +40,31 @@ use Rattle.demand.specs.Demand.{Could}
 use Rattle.demand.proofs.Reading.{reads-of}
 use Rattle.demand.proofs.Marks.{Fewer, SameMarks, could-fewer, cheapest-fewer, spent-more, spent-lower, page-marks, strip-marks}
 use Rattle.demand.proofs.Marks.{stay-could, free-stay, stay-page, all-marked}
-use Rattle.refusals.specs.Refusals.{numbered}
+use Rattle.refusals.specs.Refusals.{listGround, numbered}
 use Rattle.refusals.proofs.Refusals.{weighted-in-order, same-ground, erasing-in-order, same-erasing}
 use Rattle.page.specs.Reading.{readPage}
 use Rattle.page.specs.Answers.{kept, jobAnswer, jobPage, markedBy, mapSize, groundWith, jobWith}
 use Rattle.page.specs.Answers.{answerWith, pageWith, answerOf, pageBy}
 use Rattle.page.specs.Promise.{Promised, WroteWith, done, spent, refused}
+use Rattle.page.specs.Lists.{dataOf, courseAfter, unlessRefused, groundOf, listWith}
 use Rattle.page.specs.Ledger.{erasing}
 use Rattle.refusals.specs.declared.Refusal.{Refusal}
 use Rattle.page.specs.declared.Answer.{Answer}
 use Rattle.page.specs.declared.Answer.the-variants as A
 use Rattle.page.proofs.Promise.{job-in-order, wrote-by, wrote, one-ground, done-not-spent}
-use Rattle.page.proofs.Ledger.{erased-level}
+use Rattle.page.proofs.Ledger.{erased-level, list-keeps}
 
 -- THE LENGTH. A map of the right length, or none
 pub data RightMap (L S : ℕ) : Option (List ℕ) → Type 0 where
   no-map : RightMap L S none
   right-map : {map : List ℕ} → length map ≡ mapCount oneBit L * S → RightMap L S (some map)
 
--- a write with it is refused as one without a map
-pub right-ground : {map : Option (List ℕ)} (W : List ℕ) (code L S : ℕ) (before content : List ℕ) → RightMap L S map
-    → groundWith map W code L S before content ≡ groundWith none W code L S before content
-right-ground W code L S before content no-map = refl
-right-ground W code L S before content (right-map e) = rw e (same-ground none W code L S (length before) (length content))
+-- a write with it, or a list, is refused as one without a map
+pub right-ground : {map : Option (List ℕ)} (count : Option ℕ) (W : List ℕ) (code L S : ℕ) (before content : List ℕ) → RightMap L S map
+    → listGround count (mapSize map) W code L S (length before) (length content)
+    ≡ listGround count none W code L S (length before) (length content)
+right-ground count W code L S before content no-map = refl
+right-ground count W code L S before content (right-map e) = rw e (same-ground count W code L S (length before) (length content))
 
 -- and so is an erase
 pub right-erasing : {map : Option (List ℕ)} (L S : ℕ) (tenths : ℤ) (page : List ℕ) → RightMap L S map
@@ -78,7 +81,7 @@ module _ {map : Option (List ℕ)} (L S : ℕ) (right : RightMap L S map)
   unfolding answerWith pageWith jobAnswer jobPage
   unmarked-write W code before content start =
       rw (
-        right-ground W code L S before content right,
+        right-ground none W code L S before content right,
         page-marks (jobWith none W code L S before content) same,
         strip-marks (jobWith none W code L S before content) same,
       )
@@ -86,6 +89,17 @@ module _ {map : Option (List ℕ)} (L S : ℕ) (right : RightMap L S map)
     where
       same : SameMarks (jobWith none W code L S before content) (markedBy map) unmarked
       same = record { same = none-marked }
+
+  -- and so is a list, its answer and the page after it
+  pub unmarked-list : (W : List ℕ) (code count : ℕ) (before content : List ℕ) (start : ℕ → ℕ)
+      → listWith map W code L S count before content start ≡ listWith none W code L S count before content start
+  unfolding listWith
+  unmarked-list W code count before content start =
+      rw (right-ground (some count) W code L S before content right) (ap₂
+      (λ (answers : List ℕ → List ℕ → Answer) (pages : List ℕ → List ℕ → List ℕ).
+      unlessRefused (groundOf none W code L S count before content) (courseAfter answers pages (dataOf L S content) before count) before)
+      (fun-ext (λ page. fun-ext (λ one. unmarked-write W code page one start .0)))
+      (fun-ext (λ page. fun-ext (λ one. unmarked-write W code page one start .1))))
 
   -- and so is an erase: its ground, and the page after it
   pub unmarked-erase : (tenths : ℤ) (page : List ℕ)
@@ -124,6 +138,11 @@ module _ (L S : ℕ) where
       × (pageWith (zeroMap L S) W code L S before content start ≡ pageBy W code L S before content start)
   zero-map-write = unmarked-write L S zeros-right zeros-unmarked
 
+  -- and so is a list
+  pub zero-map-list : (W : List ℕ) (code count : ℕ) (before content : List ℕ) (start : ℕ → ℕ)
+      → listWith (zeroMap L S) W code L S count before content start ≡ listWith none W code L S count before content start
+  zero-map-list = unmarked-list L S zeros-right zeros-unmarked
+
   -- and so is an erase
   pub zero-map-erase : (tenths : ℤ) (page : List ℕ)
       → (erasing (zeroMap L S) L S tenths page ≡ erasing none L S tenths page)
@@ -137,7 +156,7 @@ module _ {few more : Option (List ℕ)} (W : List ℕ) (code L S : ℕ) (before 
     (also : (c : ℕ) → c < cellCount oneBit L * S → markedBy few c ≡ true → markedBy more c ≡ true) where
   -- the two are refused on the same ground
   one-for-both : groundWith few W code L S before content ≡ groundWith more W code L S before content
-  one-for-both = right-ground W code L S before content few-right ∙ sym (right-ground W code L S before content more-right)
+  one-for-both = right-ground none W code L S before content few-right ∙ sym (right-ground none W code L S before content more-right)
 
   -- and the job is the same but for the marks
   fewer : Fewer (jobWith none W code L S before content) (markedBy few) (markedBy more)
@@ -199,6 +218,14 @@ module _ (start : ℕ → ℕ) (map : Option (List ℕ)) (W : List ℕ) (code L 
               (omega (arith, p .could .marked-stay c h m))
       go (spent e p f) = rw f
       go (refused e f) = rw f
+
+-- and through a list
+pub list-marked-bits : (start : ℕ → ℕ) (map : Option (List ℕ)) (W : List ℕ) (code L S count : ℕ) (before content : List ℕ)
+    → Octets content → (c : ℕ) → c < cellCount oneBit L * S → markedBy map c ≡ true
+    → triple (listWith map W code L S count before content start .page) c ≡ triple before c
+list-marked-bits start map W code L S count before content b c h m =
+    list-keeps start map W code L S count before content b (λ p. triple p c ≡ triple before c)
+    (λ p one o e. marked-bits start map W code L S p one o c h m ∙ e) refl
 
 -- WHAT THE PAGE READS AS
 module _ (map : Option (List ℕ)) (W : List ℕ) (code L S : ℕ) (before content : List ℕ) (b : Octets content)
