@@ -205,7 +205,7 @@ module _ (start : ℕ → ℕ) (J : Job) (I : InOrder J) where
       v = solution-levels J I a e
 
 -- A STRIP ALONE is a job of one strip
-part-zero : (n : ℕ) (x : List ℕ) → length x ≡ n → part n 0 x ≡ x
+pub part-zero : (n : ℕ) (x : List ℕ) → length x ≡ n → part n 0 x ≡ x
 unfolding part
 part-zero n x e = let z : n * 0 ≡ 0 = omega arith in rw z (take-all n x (omega arith))
 
