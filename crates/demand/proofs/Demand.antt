@@ -219,7 +219,7 @@ module _ (J : Job) (I : InOrder J) where
       whole = I .whole;
       page-is = part-length _ (J .strips) k (J .page) (I .page-is) h ∙ omega arith;
       data-is = part-length _ (J .strips) k (J .content) (I .data-is) h ∙ omega arith;
-      octets = part-octets _ (J .strips) k (J .content) (I .data-is) h (I .octets);
+      octets = part-octets _ k (J .content) (I .octets);
     }
 
     -- its one strip is strip k

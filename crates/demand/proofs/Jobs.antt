@@ -12,7 +12,7 @@ use Prim.Native.Nat.{ℕ, _<_, _≤_, _+_, _*_, _-_, _/_, _%_}
 use native.Mathlib.Omega.{arith}
 use native.Mathlib.Nat.{mul-assoc, div-add-mod}
 use lib.Dec.{eqb}
-use lib.ListN.{length, getD, take, drop, length-drop}
+use lib.ListN.{length, getD, take, drop, length-take, length-drop}
 use lib.Seq.{ext-getD, getD-take, getD-drop, length-take-le}
 use Rattle.cells.specs.Bytes.{bitOf, bytesOf, Octets}
 use Rattle.cells.specs.Levels.{level}
@@ -30,12 +30,13 @@ unfolding part
 part-length n S k x e h = length-take-le n (drop (n * k) x) (omega (arith, length-drop (n * k) x, within n k S h))
 
 -- which are bytes where those of the whole are
-pub part-octets : (n S k : ℕ) (x : List ℕ) → length x ≡ n * S → k < S → Octets x → Octets (part n k x)
+pub part-octets : (n k : ℕ) (x : List ℕ) → Octets x → Octets (part n k x)
 unfolding part
-part-octets n S k x e h b = record {
+part-octets n k x b = record {
   below = λ q l.
-      let m : q < n = omega (arith, part-length n S k x e h) in
-      rw (getD-take n (drop (n * k) x) q 0 m, getD-drop (n * k) x q 0) (b .below (n * k + q) (omega (arith, within n k S h)));
+      let m = rw (length-take n (drop (n * k) x), length-drop (n * k) x) at l in
+      let h : q < n = omega arith in
+      rw (getD-take n (drop (n * k) x) q 0 h, getD-drop (n * k) x q 0) (b .below (n * k + q) (omega arith));
 }
 
 -- bit t of part k of the data is bit 8·L·k + t of the data

@@ -73,7 +73,7 @@ module _ (lay : Layout) (G : Generators) (L S : ℕ) (page : List ℕ) where
         l = part-length L S k _ readBy-length h
 
         o : Octets (part L k (readBy lay G L S page))
-        o = part-octets L S k _ readBy-length h (octets-bytesOf (L * S) _ (λ i. dataBit-bound lay G _ _))
+        o = part-octets L k _ (octets-bytesOf (L * S) _ (λ i. dataBit-bound lay G _ _))
 
         bit : (t : ℕ) → t < 8 * L → bitOf (part L k (readBy lay G L S page)) t ≡ dataBit lay G (level (part (byteCount lay L) k page)) t
         bit t m =

@@ -6,8 +6,7 @@
 --   Stays, stays-levels           a page whose marked cells stay at their level: the sum of these is the same
 --   fair-onward, raises-onward    a raise and another are a raise, of as many steps as both
 --   write-fair                    a write lowers no cell, whatever its answer
---   data-octets                   each data of a list is bytes
---   listCourse, list-keeps        the single writes of a list: what each of them keeps the list keeps
+--   list-keeps                    what each single write of a list keeps it keeps
 --   call-fair, call-stays         every call under the marks is a fair event, after which the marked cells are at their level
 --   ledger-from                   any sequence of calls under the marks
 --   ledger-marked                 from a page whose unmarked cells are at level 0
@@ -18,8 +17,7 @@ use mathlib.Core.List.{List, [], _∷_}
 use mathlib.Core.Option.{Option, none, some}
 use Prim.Native.Nat.{ℕ, suc, _<_, _≤_, _+_, _*_, _-_, _/_}
 use native.Mathlib.Omega.{arith}
-use lib.ListN.{length, replicate, drop, length-take, length-drop}
-use lib.Seq.{getD-take, getD-drop}
+use lib.ListN.{length, replicate}
 use Rattle.cells.specs.Places.{sumOf, Each, and-each}
 use Rattle.cells.specs.Bytes.{Octets}
 use Rattle.cells.specs.Levels.{level, raisesOf}
@@ -27,11 +25,12 @@ use Rattle.cells.specs.Marks.{emptied}
 use Rattle.cells.proofs.Places.{sumOf-same, sumOf-add, sumOf-zero}
 use Rattle.cells.proofs.Marks.{zeros-bit, emptied-length, emptied-kept, emptied-raises}
 use Rattle.search.specs.Layouts.{unmarked}
-use Rattle.demand.specs.Jobs.{part, pageCells}
+use Rattle.demand.specs.Jobs.{pageCells}
+use Rattle.demand.proofs.Jobs.{part-octets}
 use Rattle.demand.proofs.Demand.{page-cell}
-use Rattle.page.specs.Answers.{kept, markedBy, groundWith, jobWith, answerWith, pageWith}
+use Rattle.page.specs.Answers.{kept, markedBy, groundWith, jobWith, pageWith}
 use Rattle.page.specs.Promise.{Promised, done, spent, refused}
-use Rattle.page.specs.Lists.{dataOf, Course, courseAfter, unlessRefused, groundOf, listWith}
+use Rattle.page.specs.Lists.{dataOf, unlessRefused, groundOf, listCourse, listWith}
 use Rattle.page.specs.Ledger.{cellsOn, raisesMade, Event, raised, erased, looked, Fair, fair-raise, fair-erase, fair-look}
 use Rattle.page.specs.Ledger.{pageAfter, counted, Call, Marking, writes, lists, erases, looks, erasing, markedLevels}
 use Rattle.page.specs.Ledger.{eventOf, played, tallied}
@@ -136,32 +135,17 @@ module _ (map : Option (List ℕ)) (W : List ℕ) (code L S : ℕ) (before conte
   write-stays (spent e p f) = record { size = ap length f; same = λ c h m. rw f }
   write-stays (refused e f) = record { size = ap length f; same = λ c h m. rw f }
 
--- A LIST. Each data is bytes where the whole content is
-pub data-octets : (L S : ℕ) (content : List ℕ) → Octets content → (n : ℕ) → Octets (dataOf L S content n)
-unfolding part
-data-octets L S content b n = record {
-  below = λ q l.
-      let m = rw (length-take (L * S) (drop (L * S * n) content), length-drop (L * S * n) content) at l in
-      let h : q < L * S = omega arith in
-      rw (getD-take (L * S) (drop (L * S * n) content) q 0 h, getD-drop (L * S * n) content q 0) (b .below (L * S * n + q) (omega arith));
-}
-
--- its single writes
-abbrev pub listCourse : (start : ℕ → ℕ) (map : Option (List ℕ)) (W : List ℕ) (code L S : ℕ) (before content : List ℕ) → ℕ → Course
-listCourse start map W code L S before content n =
-    courseAfter (answerWith map W code L S) (λ page one. pageWith map W code L S page one start) (dataOf L S content) before n
-
--- what each of them keeps the list keeps, whatever its answer
+-- A LIST. What each of its single writes keeps it keeps, whatever its answer
 module _ (start : ℕ → ℕ) (map : Option (List ℕ)) (W : List ℕ) (code L S count : ℕ) (before content : List ℕ) (b : Octets content) where
   pub list-keeps : (P : List ℕ → Type 0) → ((p one : List ℕ) → Octets one → P p → P (pageWith map W code L S p one start)) → P before
       → P (listWith map W code L S count before content start .page)
   unfolding listWith
   list-keeps P k z = go (groundOf map W code L S count before content)
     where
-      go : (g : Option Refusal) → P (unlessRefused g (listCourse start map W code L S before content count) before .page)
+      go : (g : Option Refusal) → P (unlessRefused g (listCourse map W code L S before content start count) before .page)
       go none =
           course-keeps _ _ (dataOf L S content) before P count
-          (λ n h p. k p (dataOf L S content n) (data-octets L S content b n)) z count (omega arith)
+          (λ n h p. k p (dataOf L S content n) (part-octets (L * S) n content b)) z count (omega arith)
       go (some r) = z
 
   -- so it lowers no cell and keeps the page's length

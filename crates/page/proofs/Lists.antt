@@ -4,9 +4,9 @@
 --   course-keeps                     what each single write keeps the course keeps
 --   course-cost                      what the writes cost together
 --   course-alike                     single writes that answer alike make courses that do
---   single-in-order, single-octets   the single writes of a list in order
+--   single-in-order                  the single writes of a list in order are in order
 --   list-course, list-refused        a list in order, and one that is refused
---   list-promised, list-length       the list keeps its promise, and the page's length
+--   list-promised                    a list keeps its promise
 --   in-order-list                    the jobs of a list in order make its course
 --   list-bounds                      how large the fields of its answer are
 use mathlib.Core.Path.{_≡_, refl, sym, _∙_, ap, ap₂}
@@ -25,7 +25,7 @@ use Rattle.refusals.specs.Refusals.{numbered}
 use Rattle.page.specs.Answers.{oneBitJob, jobAnswer, jobPage, markedBy, mapSize, groundWith, answerWith, pageWith, valueOf, answerCost, largestWeightedCost}
 use Rattle.page.specs.Promise.{WroteBy, done, spent, refused}
 use Rattle.page.specs.Lists.{dataOf, withWrite, Course, hasEnded, unlessEnded, onward, courseAfter, unlessRefused}
-use Rattle.page.specs.Lists.{refusedList, jobCourse, groundOf, listWith, listAnswer, listPage, largestListCost, ListBounds, WroteList}
+use Rattle.page.specs.Lists.{refusedList, jobCourse, groundOf, listCourse, listWith, listAnswer, listPage, largestListCost, ListBounds, WroteList}
 use Rattle.page.specs.Lists.{InTurn, none-yet, one-more, ListPromised, all-written, stopped-at, not-begun}
 use Rattle.refusals.specs.declared.Refusal.{Refusal}
 use Rattle.page.specs.declared.Answer.{Answer}
@@ -150,16 +150,11 @@ module _ (map : Option (List ℕ)) (W : List ℕ) (code L S count : ℕ) (before
       rw (l, part-length (L * S) count n content (datas-length e) h)
       (single-ground count (mapSize map) W code L S (length before) (length content) e)
 
-  -- with data that is bytes
-  pub single-octets : groundOf map W code L S count before content ≡ none → Octets content → (n : ℕ) → n < count
-      → Octets (dataOf L S content n)
-  single-octets e b n h = part-octets (L * S) count n content (datas-length e) h b
-
   module _ (start : ℕ → ℕ) where
     -- it is the course of them all
     pub list-course : groundOf map W code L S count before content ≡ none
         → listWith map W code L S count before content start
-        ≡ courseAfter (answerWith map W code L S) (λ p one. pageWith map W code L S p one start) (dataOf L S content) before count
+        ≡ listCourse map W code L S before content start count
     unfolding listWith
     list-course e = rw e refl
 
@@ -183,7 +178,7 @@ module _ (map : Option (List ℕ)) (W : List ℕ) (code L S count : ℕ) (before
         (dataOf L S content n)) in
         ListPromised start (groundOf map W code L S count before content) map W code L S (suc n) before content (c .page) (c .answer)
     turn-promised e b n h page a (all-written {cost} f t) =
-        go _ _ (wrote-by start map W code L S page (dataOf L S content n) (single-octets e b n h))
+        go _ _ (wrote-by start map W code L S page (dataOf L S content n) (part-octets (L * S) n content b))
       where
         go : (after : List ℕ) (r : Answer) → WroteBy start map W code L S page (dataOf L S content n) after r
             → ListPromised start (groundOf map W code L S count before content) map W code L S (suc n) before content after
@@ -196,7 +191,7 @@ module _ (map : Option (List ℕ)) (W : List ℕ) (code L S count : ℕ) (before
 
     -- so do the first n
     course-promised : groundOf map W code L S count before content ≡ none → Octets content → (n : ℕ) → n ≤ count
-        → let c = courseAfter (answerWith map W code L S) (λ p one. pageWith map W code L S p one start) (dataOf L S content) before n in
+        → let c = listCourse map W code L S before content start n in
         ListPromised start (groundOf map W code L S count before content) map W code L S n before content (c .page) (c .answer)
     unfolding courseAfter
     course-promised e b zero h = all-written e none-yet
@@ -210,7 +205,7 @@ module _ (map : Option (List ℕ)) (W : List ℕ) (code L S count : ℕ) (before
     list-promised b = go (groundOf map W code L S count before content) refl
       where
         c : Course
-        c = courseAfter (answerWith map W code L S) (λ p one. pageWith map W code L S p one start) (dataOf L S content) before count
+        c = listCourse map W code L S before content start count
 
         go : (g : Option Refusal) → groundOf map W code L S count before content ≡ g
             → ListPromised start (groundOf map W code L S count before content) map W code L S count before content
@@ -218,29 +213,18 @@ module _ (map : Option (List ℕ)) (W : List ℕ) (code L S count : ℕ) (before
         go none e = course-promised e b count (omega arith)
         go (some r) e = not-begun e refl
 
-    -- its length is that of the page before
-    pub list-length : Octets content → length (listWith map W code L S count before content start .page) ≡ length before
-    list-length b = go (list-promised b)
-      where
-        go : {page : List ℕ} {a : ListAnswer}
-            → ListPromised start (groundOf map W code L S count before content) map W code L S count before content page a
-            → length page ≡ length before
-        go (all-written e t) = turn-length t
-        go (stopped-at e l t w) = turn-length t
-        go (not-begun e q) = ap length q
-
-  -- THE JOBS of a list in order make its course
+  -- WHERE ITS JOBS ANSWER SO, and leave this page, a list in order does
   pub in-order-list : groundOf map W code L S count before content ≡ none → {G : Generators} {marks : ℕ → Bool} → G ≡ numbered code
-      → marks ≡ markedBy map
-      → (jobCourse marks G W L S count before content .answer ≡ listAnswer map W code L S count before content)
-      × (jobCourse marks G W L S count before content .page ≡ listPage map W code L S count before content)
-  in-order-list e {G} {marks} g m =
+      → marks ≡ markedBy map → {r : ListAnswer} → r ≡ jobCourse marks G W L S count before content .answer
+      → {after : List ℕ} → after ≡ jobCourse marks G W L S count before content .page
+      → (r ≡ listAnswer map W code L S count before content) × (after ≡ listPage map W code L S count before content)
+  in-order-list e {G} {marks} g m f h =
       let z = course-alike (λ p q. (p ≡ q) × (length q ≡ length before))
       (λ p one. jobAnswer none (oneBitJob marks G W L S p one)) (answerWith map W code L S)
       (λ p one. jobPage none (oneBitJob marks G W L S p one) startOf) (λ p one. pageWith map W code L S p one startOf)
       (dataOf L S content) count turn (refl, refl) count (omega arith) in
       let w = list-course startOf e in
-      (z .0 ∙ ap (λ (c : Course). c .answer) (sym w), z .1 .0 ∙ ap (λ (c : Course). c .page) (sym w))
+      (f ∙ z .0 ∙ ap (λ (c : Course). c .answer) (sym w), h ∙ z .1 .0 ∙ ap (λ (c : Course). c .page) (sym w))
     where
       turn : (n : ℕ) → n < count → (p q : List ℕ) → (p ≡ q) × (length q ≡ length before)
           → (jobAnswer none (oneBitJob marks G W L S p (dataOf L S content n)) ≡ answerWith map W code L S q (dataOf L S content n))
@@ -264,7 +248,7 @@ module _ (map : Option (List ℕ)) (W : List ℕ) (code L S count : ℕ) (before
           → listAnswer map W code L S count before content .cost ≤ largestListCost
       summed none e =
           let c = course-cost (answerWith map W code L S) (λ p one. pageWith map W code L S p one startOf) (dataOf L S content) before
-          largestWeightedCost count (λ n h p. weighted-largest map W K code L S p (dataOf L S content n) (single-octets e b n h) refl) count
+          largestWeightedCost count (λ n h p. weighted-largest map W K code L S p (dataOf L S content n) (part-octets (L * S) n content b) refl) count
           (omega arith) in
           let z = ap (λ (c : Course). c .answer .cost) (list-course startOf e) in
           omega (arith, most e)

@@ -31,6 +31,7 @@ use Rattle.codes.specs.Generators.{Generators}
 use Rattle.codes.specs.Layouts.{oneBit, stageCount, cellCount}
 use Rattle.demand.specs.Jobs.{Job, width, InOrder}
 use Rattle.demand.specs.Reading.{stripLevels}
+use Rattle.demand.proofs.Jobs.{part-octets}
 use Rattle.demand.proofs.Weights.{spent-once}
 use Rattle.demand.proofs.Orders.{read-levels, onPage, could-levels, cheapest-levels, spent-levels}
 use Rattle.refusals.specs.Refusals.{shapeGround, completionOf}
@@ -38,7 +39,7 @@ use Rattle.page.specs.Reading.{readPage}
 use Rattle.page.specs.Answers.{kept, markedBy, groundWith, jobWith, answerWith, pageWith, answerOf, pageBy, pageOf}
 use Rattle.page.specs.Promise.{Promised, done, spent, refused}
 use Rattle.page.specs.Counting.{rowOf, zeroRow, rowAt, rowsOf, censusOf}
-use Rattle.page.specs.Lists.{dataOf, Course, unlessRefused, groundOf, listWith}
+use Rattle.page.specs.Lists.{dataOf, Course, unlessRefused, groundOf, listWith, listCourse}
 use Rattle.page.specs.Ledger.{erased, looked, pageAfter, Call, write, list, erase, look, to-write, to-list, erasing}
 use Rattle.page.specs.Ledger.{eventOf, answerTo, played, answered}
 use Rattle.refusals.specs.declared.Refusal.{Refusal}
@@ -50,7 +51,6 @@ use Rattle.page.specs.Known.{six}
 use Rattle.page.proofs.Known.{cases-hold}
 use Rattle.page.proofs.Promise.{job-in-order, wrote-by, one-ground}
 use Rattle.page.proofs.Lists.{course-alike}
-use Rattle.page.proofs.Ledger.{data-octets, listCourse}
 
 -- ONE CALL. On pages with the same levels two calls that keep their promise, each in its own order, answer alike and leave the same levels
 module _ (g : Option Refusal) (J : Job) {p q : List ℕ} (s : SameLevels p q) (I : g ≡ none → InOrder (onPage p J)) where
@@ -86,13 +86,13 @@ list-alike start start′ map W code L S count {p} {q} content b s = rw (s .size
   where
     -- by single writes
     course : (ℕ → ℕ) → List ℕ → Course
-    course start before = listCourse start map W code L S before content count
+    course start before = listCourse map W code L S before content start count
 
     go : (g : Option Refusal) → (unlessRefused g (course start p) p .answer ≡ unlessRefused g (course start′ q) q .answer)
         × SameLevels (unlessRefused g (course start p) p .page) (unlessRefused g (course start′ q) q .page)
     go none =
         course-alike SameLevels _ _ _ _ (dataOf L S content) count
-        (λ n h x y r. write-alike start start′ map W code L S (dataOf L S content n) (data-octets L S content b n) r)
+        (λ n h x y r. write-alike start start′ map W code L S (dataOf L S content n) (part-octets (L * S) n content b) r)
         s count (omega arith)
     go (some r) = (refl, s)
 

@@ -15,12 +15,13 @@ use Rattle.cells.specs.Places.{listOf, sumOf}
 use Rattle.cells.specs.Bytes.{Octets}
 use Rattle.cells.specs.Levels.{level}
 use Rattle.cells.proofs.Places.{listOf-same, sumOf-more, sumOf-zero}
+use Rattle.demand.proofs.Jobs.{part-octets}
 use Rattle.demand.proofs.Demand.{part-zero}
 use Rattle.refusals.proofs.Refusals.{weighted-in-order}
 use Rattle.page.specs.Answers.{mapSize, groundWith, jobWith, answerWith, pageWith, answerCost}
 use Rattle.page.specs.Promise.{Promised, spent, refused}
 use Rattle.page.specs.Lists.{dataOf, withWrite, noneWritten, Course, unlessEnded, onward, courseAfter}
-use Rattle.page.specs.Lists.{unlessRefused, groundOf, listWith}
+use Rattle.page.specs.Lists.{unlessRefused, groundOf, listCourse, listWith}
 use Rattle.page.specs.Ledger.{cellsOn, raisesMade, raised, Fair, fair-raise, pageAfter, counted, Call, list, eventOf}
 use Rattle.page.specs.Ledger.{Reply, to-write, answerTo, played, tallied, answered, writesOf}
 use Rattle.refusals.specs.declared.Refusal.{Refusal}
@@ -29,7 +30,7 @@ use Rattle.page.specs.declared.Answer.the-variants as A
 use Rattle.page.specs.declared.End.{End}
 use Rattle.page.specs.declared.End.the-variants as E
 use Rattle.page.proofs.Promise.{wrote-by}
-use Rattle.page.proofs.Ledger.{fair-onward, raises-onward, write-fair, data-octets, listCourse}
+use Rattle.page.proofs.Ledger.{fair-onward, raises-onward, write-fair}
 
 -- SEQUENCES. The page after one more call
 played-last : (starts : ℕ → ℕ → ℕ) (f : ℕ → Call) (n : ℕ) (page : List ℕ)
@@ -64,7 +65,7 @@ courseWith page w cost end = record { page = page; answer = record { written = w
 module _ (start : ℕ → ℕ) (map : Option (List ℕ)) (W : List ℕ) (code L S : ℕ) (page content : List ℕ) (b : Octets content) where
   -- SINGLE WRITES: the first n datas
   abbrev pub singles : ℕ → List Call
-  singles n = writesOf map W code L S content (data-octets L S content b) n
+  singles n = writesOf map W code L S content (λ i. part-octets (L * S) i content b) n
 
   -- the page after them
   abbrev pageAt : ℕ → List ℕ
@@ -92,9 +93,9 @@ module _ (start : ℕ → ℕ) (map : Option (List ℕ)) (W : List ℕ) (code L 
   singles-counted zero k = rw page-first (fair-raise {after = page} refl (λ c h. omega arith), none-counted k)
   singles-counted (suc n) k =
       let i = singles-counted n k in
-      let o = data-octets L S content b n in
+      let o = part-octets (L * S) n content b in
       let f = write-fair map W code L S (pageAt n) (dataOf L S content n) o 0
-          (wrote-by start map W code L S (pageAt n) (dataOf L S content n) o) in
+      (wrote-by start map W code L S (pageAt n) (dataOf L S content n) o) in
       rw (page-next n)
       (fair-onward (i .0) f, tallied-last (λ n. start) _ n page k ∙ omega (arith, i .1, raises-onward (i .0) f))
 
@@ -117,7 +118,7 @@ module _ (start : ℕ → ℕ) (map : Option (List ℕ)) (W : List ℕ) (code L 
       → After (suc n) (unlessEnded end (courseWith p w cost end) (onward (answerWith map W code L S)
       (λ page one. pageWith map W code L S page one start) (courseWith p w cost end) (dataOf L S content n)))
   one-after n p w cost E.Done (g, s) =
-      more _ refl (wrote-by start map W code L S p (dataOf L S content n) (data-octets L S content b n))
+      more _ refl (wrote-by start map W code L S p (dataOf L S content n) (part-octets (L * S) n content b))
     where
       -- the page so far
       here : pageAt n ≡ p
@@ -127,13 +128,12 @@ module _ (start : ℕ → ℕ) (map : Option (List ℕ)) (W : List ℕ) (code L 
           → Promised start (groundWith map W code L S p (dataOf L S content n)) (jobWith map W code L S p (dataOf L S content n))
           (pageWith map W code L S p (dataOf L S content n) start) r
           → After (suc n) (record {
-        page = pageWith map W code L S p (dataOf L S content n) start;
-        answer = withWrite (courseWith p w cost E.Done .answer) r;
-      })
+            page = pageWith map W code L S p (dataOf L S content n) start;
+            answer = withWrite (courseWith p w cost E.Done .answer) r;
+          })
       more (A.Done c) f q =
           let z : suc w ≡ suc n = ap suc (g refl) in
-          let a = rw (sym here) at f in
-          (
+          let a = rw (sym here) at f in (
             λ e. z,
             record {
               left = ap pageAt z ∙ page-next n ∙ ap (λ (x : List ℕ). pageWith map W code L S x (dataOf L S content n) start) here;
@@ -153,7 +153,7 @@ module _ (start : ℕ → ℕ) (map : Option (List ℕ)) (W : List ℕ) (code L 
   none-after = record { left = page-first; each = λ i h. absurd (not-suc-le-zero h); sum = refl }
 
   -- so with any number
-  course-after : (n : ℕ) → After n (listCourse start map W code L S page content n)
+  course-after : (n : ℕ) → After n (listCourse map W code L S page content start n)
   unfolding courseAfter
   course-after zero = (λ e. refl, none-after)
   course-after (suc n) = one-after n _ _ _ _ (course-after n)
@@ -167,7 +167,7 @@ module _ (start : ℕ → ℕ) (map : Option (List ℕ)) (W : List ℕ) (code L 
   unfolding listWith
   list-after count = go (groundOf map W code L S count page content)
     where
-      go : (g : Option Refusal) → ByWrites (unlessRefused g (listCourse start map W code L S page content count) page)
+      go : (g : Option Refusal) → ByWrites (unlessRefused g (listCourse map W code L S page content start count) page)
       go none = course-after count .1
       go (some r) = none-after
 

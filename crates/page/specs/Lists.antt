@@ -2,7 +2,7 @@
 --   dataOf                   data number n of a list
 --   Course, courseAfter      the page and the answer after single writes in turn, whatever a single write does
 --   jobCourse                those of jobs in order
---   listWith                 the page and the answer of a list, with a map or without one, by any order of the raises
+--   listCourse, listWith     the page and the answer of a list, with a map or without one, by any order of the raises
 --   listAnswer, listPage     those of this release
 --   listNumber, listStrip    the paper's number of its answer, and the strip that is spent
 --   largestListCost          the most that a list costs
@@ -86,18 +86,22 @@ jobCourse marks G W L S count before content =
     courseAfter (λ page one. jobAnswer none (oneBitJob marks G W L S page one))
     (λ page one. jobPage none (oneBitJob marks G W L S page one) startOf) (dataOf L S content) before count
 
--- a list of so many datas, with these three weights and a map or none
+-- a list with these three weights, and a map or none
+module _ (map : Option (List ℕ)) (W : List ℕ) (code L S : ℕ) where
+  -- the course of its first n datas, by single writes whose raises start where `start` says
+  abbrev pub listCourse : (before content : List ℕ) (start : ℕ → ℕ) → ℕ → Course
+  listCourse before content start n =
+      courseAfter (answerWith map W code L S) (λ page one. pageWith map W code L S page one start) (dataOf L S content) before n
+
+-- of so many datas
 module _ (map : Option (List ℕ)) (W : List ℕ) (code L S count : ℕ) (before content : List ℕ) where
   -- the ground on which it is refused
   abbrev pub groundOf : Option Refusal
   groundOf = listGround (some count) (mapSize map) W code L S (length before) (length content)
 
-  -- THE LIST, by single writes whose raises start where `start` says
+  -- THE LIST: the page after it and its answer
   unfoldable pub listWith : (start : ℕ → ℕ) → Course
-  listWith start =
-      unlessRefused groundOf
-      (courseAfter (answerWith map W code L S) (λ page one. pageWith map W code L S page one start) (dataOf L S content) before count)
-      before
+  listWith start = unlessRefused groundOf (listCourse map W code L S before content start count) before
 
   -- its answer
   abbrev pub listAnswer : ListAnswer

@@ -65,11 +65,10 @@ returns c =
     let w = c .before .before in
     let n = w .before .before .before .before in
     let j = n .before .before in
-    let z = in-order-list _ _ _ _ _ _ _ _ (list-no-ground none (judged j) (n .enum-told .given .1)) (w .before .before .before .code-of .ensures) no-map in
-    let e = w .write-datas .ensures .0 ∙ z .0 in
-    let p = w .write-datas .ensures .1 ∙ z .1 in
-    let k = list-kept none _ _ _ _ _ _ _ (weights (j .before .before .before)) (octets (j .before)) p e in
-    (e, (p, (k .0, k .1)))
+    let z = in-order-list _ _ _ _ _ _ _ _ (list-no-ground none (judged j) (n .enum-told .given .1))
+    (w .before .before .before .code-of .ensures) no-map (w .write-datas .ensures .0) (w .write-datas .ensures .1) in
+    let k = list-kept none _ _ _ _ _ _ _ (weights (j .before .before .before)) (octets (j .before)) (z .1) (z .0) in
+    (z .0, (z .1, (k .0, k .1)))
 
 returns-2 : tie.Need-returns-2
 returns-2 c =
