@@ -1,19 +1,20 @@
 /*
- * The known cells of document 01, writes with other weights, writes on pages of an older release, and writes and erases with marked cells, through
- * include/segrunov.h, as a firmware would call it: refusals in their order, nothing changed by them, guard bytes around every buffer. The exit status
- * is 0 where every check holds.
+ * The known cells of document 01, writes with other weights, writes on pages of an older release, writes and erases with marked cells, and lists of
+ * writes, through include/segrunov.h, as a firmware would call it: refusals in their order, nothing changed by them, guard bytes around every buffer.
+ * The exit status is 0 where every check holds.
  *
  * With FREESTANDING it is built with no C library: it brings the two functions that the archive needs, and ends by the system's exit.
  */
 #include "segrunov.h"
 
-enum { GUARD = 8, PAGE = 36, MAP = 12, DATA = 6 };
+/* The longest buffer between guards is for one data more than a list can have. */
+enum { GUARD = 8, PAGE = 36, MAP = 12, DATA = 6, MOST = 64, ROOM = (MOST + 1) * DATA };
 
 static const uint8_t GUARD_BYTE = 0xa5;
 
 /* A buffer between guard bytes. */
 struct guarded {
-    uint8_t bytes[GUARD + PAGE + GUARD];
+    uint8_t bytes[GUARD + ROOM + GUARD];
 };
 
 static unsigned checks;
@@ -62,6 +63,12 @@ static int holds(const struct guarded *g, const uint8_t *expected, size_t n)
 static uint64_t answer(uint32_t number, uint32_t value)
 {
     return ((uint64_t)number << 32) + value;
+}
+
+/* The answer of a list, in document 02's words: 'the low 32 bits are the summed cost', the number written 'times 2^40, a spent strip times 2^48'. */
+static uint64_t list_answer(uint32_t number, uint32_t cost, uint32_t written, uint32_t strip)
+{
+    return answer(number, cost) + ((uint64_t)written << 40) + ((uint64_t)strip << 48);
 }
 
 /* A write: the page and data before, the answer, and the page after. */
@@ -164,6 +171,44 @@ static uint64_t made(enum call call, const struct known_write *k, const struct w
 
 static const uint8_t NO_MARKS[MAP] = {0};
 
+/* What a list is made with, beside its buffers. */
+struct list {
+    uint32_t code;
+    uint32_t bytes;
+    uint32_t strips;
+    struct weights weights;
+    uint32_t count;
+};
+
+/* A list of the datas in the buffer, with a map where there is one. */
+static uint64_t listed(const struct list *l, uint8_t *page, const uint8_t *map, const uint8_t *data)
+{
+    const struct weights *const w = &l->weights;
+    const size_t page_len = SEGRUNOV_PAGE_BYTES(l->bytes, l->strips);
+    const size_t data_len = SEGRUNOV_LIST_BYTES(l->count, l->bytes, l->strips);
+    return map == NULL ? segrunov_write_list(l->code, l->bytes, l->strips, w->w1, w->w2, w->w3, l->count, page, page_len, data, data_len)
+                       : segrunov_write_list_mapped(l->code, l->bytes, l->strips, w->w1, w->w2, w->w3, l->count, page, page_len, map,
+                                                    SEGRUNOV_MAP_BYTES(l->bytes, l->strips), data, data_len);
+}
+
+/* A list of one data is the single write, but for the fields of the answer. */
+static void list_of_one(const struct known_write *k, const struct weights *w, const uint8_t *marks)
+{
+    const struct list l = {k->code, k->bytes, k->strips, *w, 1};
+    const size_t page_len = SEGRUNOV_PAGE_BYTES(k->bytes, k->strips);
+    const size_t map_len = SEGRUNOV_MAP_BYTES(k->bytes, k->strips);
+    const size_t data_len = SEGRUNOV_DATA_BYTES(k->bytes, k->strips);
+    const uint64_t expected = k->number == SEGRUNOV_DONE ? list_answer(k->number, k->value, 1, 0) : list_answer(k->number, 0, 0, k->value);
+    struct guarded page, map, data;
+    fill(&page, k->before, page_len);
+    fill(&map, marks == NULL ? NO_MARKS : marks, map_len);
+    fill(&data, k->data, data_len);
+    check(k->what, listed(&l, inside(&page), marks == NULL ? NULL : inside(&map), inside(&data)) == expected);
+    check(k->what, holds(&page, k->after, page_len));
+    check(k->what, holds(&map, marks == NULL ? NO_MARKS : marks, map_len));
+    check(k->what, holds(&data, k->data, data_len));
+}
+
 /* A price, a write and a read. Without marks the calls are those that take no map. */
 static void known_write(const struct known_write *k, const struct weights *w, const uint8_t *marks)
 {
@@ -188,6 +233,7 @@ static void known_write(const struct known_write *k, const struct weights *w, co
         check(k->what, holds(&back, k->data, data_len));
         check(k->what, holds(&page, k->after, page_len));
     }
+    list_of_one(k, w == NULL ? &HOUSE : w, marks);
 }
 
 /* Without weights, with the house's, and with a map that marks no cell. */
@@ -408,7 +454,7 @@ static unsigned sum_of_levels(const uint8_t *page)
 
 /*
  * A page with cell 0 at level 1 and, marked, cell 3 at level 3 and cell 15 at level 2. The erase leaves 5, the sum of the marked cells, and the
- * raises are counted from there. Answers and pages by the model in tests/run.py.
+ * raises are counted from there, those of a list as those of its writes. Answers and pages by the model in tests/run.py.
  */
 static void ledger(void)
 {
@@ -423,9 +469,13 @@ static void ledger(void)
     size_t i, j;
     for (i = 0; i < sizeof KNOWN_LEDGERS / sizeof *KNOWN_LEDGERS; i++) {
         const struct known_ledger *k = &KNOWN_LEDGERS[i];
+        const struct list l = {k->code, 1, 1, {1, 1, 1}, LEDGER};
+        uint32_t raises = 0;
         unsigned levels = 5;
-        struct guarded page;
+        struct guarded page, map, datas;
         fill(&page, before, 6);
+        fill(&map, marks, 2);
+        fill(&datas, data, LEDGER);
         check(k->what, segrunov_erase_mapped(1, 1, inside(&page), 6, marks, 2, 200) == 0);
         check(k->what, holds(&page, emptied, 6));
         check(k->what, sum_of_levels(inside(&page)) == levels);
@@ -437,6 +487,12 @@ static void ledger(void)
         check(k->what, holds(&page, k->last, 6));
         check(k->what, segrunov_erase_mapped(1, 1, inside(&page), 6, marks, 2, 200) == 0);
         check(k->what, holds(&page, emptied, 6));
+        for (j = 0; SEGRUNOV_NUMBER(k->answers[j]) == SEGRUNOV_DONE; j++) {
+            raises += SEGRUNOV_VALUE(k->answers[j]);
+        }
+        check(k->what, listed(&l, inside(&page), inside(&map), inside(&datas)) == list_answer(SEGRUNOV_SPENT, raises, (uint32_t)j, 0));
+        check(k->what, sum_of_levels(inside(&page)) == 5 + raises);
+        check(k->what, holds(&map, marks, 2) && holds(&datas, data, LEDGER));
     }
 }
 
@@ -472,7 +528,361 @@ static void known_runs(void)
     }
 }
 
-/* A refusal from the input, for read, price and write alike, the calls with weights included. */
+/* ---- lists of writes */
+
+enum { LISTED = 7 };
+
+/* A list, and what single writes in that order leave. */
+struct known_list {
+    const char *what;
+    struct weights weights;
+    uint8_t map[MAP];
+    uint32_t code;
+    uint32_t bytes;
+    uint32_t strips;
+    uint32_t count;
+    uint8_t before[PAGE];
+    uint8_t data[LISTED * DATA];
+    uint32_t number;
+    uint32_t cost;
+    uint32_t written;
+    uint32_t strip;
+    uint8_t after[PAGE];
+};
+
+#define FULL {0xff, 0xff, 0xff, 0xff, 0xff, 0xff}
+#define SEVEN \
+    {0xfe, 0xed, 0xc0, 0xff, 0xee, 0x42, 0xc0, 0xff, 0xee, 0x15, 0x60, 0x0d, 0x5e, 0xed, 0x5e, 0xed, 0x5e, 0xed, 0xfa, 0xca, 0xde, \
+     0x0f, 0xf1, 0xce, 0x01, 0x23, 0x45, 0x67, 0x89, 0xab, 0xba, 0x98, 0x76, 0x54, 0x32, 0x10, 0x0f, 0x1e, 0x2d, 0x3c, 0x4b, 0x5a}
+
+/*
+ * The first is document 01's run, 16 + 16 + 20 + 20 + 28 + 28 + 32. The others are by write_page, the model in tests/run.py, one data after another.
+ * Where a list with L = 1 stops, a later data would fit: of 02, 01, 02, .. the last costs nothing after the fifth, and a full strip holds fe.
+ */
+static const struct known_list KNOWN_LISTS[] = {
+    {"list 80, 00, 80, .. from erased", HOUSE_WEIGHTS, {0}, 3, 1, 1, 7, {0}, {0x80, 0, 0x80, 0, 0x80, 0, 0x80}, 0, 160, 7, 0,
+     {0, 0, 0, 0, 0x10, 0xfd}},
+    {"list fe, 80, fe on a full page", HOUSE_WEIGHTS, {0}, 3, 1, 1, 3, FULL, {0xfe, 0x80, 0xfe}, 7, 0, 1, 0, FULL},
+    {"list 80, fe on a full page", HOUSE_WEIGHTS, {0}, 3, 1, 1, 2, FULL, {0x80, 0xfe}, 7, 0, 0, 0, FULL},
+    {"list fe, fe, fe on a full page", HOUSE_WEIGHTS, {0}, 3, 1, 1, 3, FULL, {0xfe, 0xfe, 0xfe}, 0, 0, 3, 0, FULL},
+    {"list 02, 01, 02, .. from 01 03", HOUSE_WEIGHTS, {0}, 3, 1, 1, 7, {0x01, 0x03}, {2, 1, 2, 1, 2, 1, 2}, 7, 412, 5, 0,
+     {0xff, 0xff, 0x46, 0x05, 0x30, 0}},
+    {"list, strip 1 full", HOUSE_WEIGHTS, {0}, 3, 1, 2, 4, {0, 0, 0, 0, 0, 0, 0xff, 0xff, 0xff, 0xff, 0xff, 0xff},
+     {0x80, 0xfe, 0x00, 0xfe, 0x80, 0x00, 0x40, 0xfe}, 7, 32, 2, 1, {0, 0, 0, 0, 0, 0x30, 0xff, 0xff, 0xff, 0xff, 0xff, 0xff}},
+    {"list, every cell marked at level 0", HOUSE_WEIGHTS, {0xff, 0xff}, 7, 1, 1, 4, {0}, {0, 0, 0x80, 0}, 7, 0, 2, 0, {0}},
+    {"list, every cell of strip 1 marked", HOUSE_WEIGHTS, {0, 0, 0xff, 0xff}, 3, 1, 2, 4, {0}, {0x80, 0, 0x40, 0, 0x80, 0x80, 0x80, 0}, 7, 32, 2, 1,
+     {0, 0, 0, 0, 0, 0x21}},
+    {"seven from erased, L = 2, S = 3", HOUSE_WEIGHTS, {0}, 3, 2, 3, 7, {0}, SEVEN, 0, 1824, 7, 0,
+     {0x31, 0xa7, 0x4f, 0x9c, 0x10, 0x73, 0x2a, 0xcc, 0x8b, 0, 0x03, 0x42, 0x13, 0x0e, 0x42, 0x85, 0x08, 0x35,
+      0x22, 0x8c, 0xb8, 0x30, 0xa2, 0x42, 0x31, 0xa7, 0xce, 0x84, 0x18, 0x60, 0x60, 0xc4, 0x03, 0x53, 0x23, 0x40}},
+    {"seven from erased, L = 3, S = 2 with code 7", {255, 1, 2}, {0}, 7, 3, 2, 7, {0}, SEVEN, 0, 12844, 7, 0,
+     {0x38, 0xff, 0x0e, 0xc4, 0x81, 0x03, 0xc7, 0x7e, 0xb8, 0, 0x70, 0xcc, 0x3d, 0, 0x10, 0x2a, 0x8c, 0x03,
+      0xff, 0x61, 0x1e, 0xdc, 0xff, 0x1f, 0xf8, 0x01, 0, 0x40, 0x03, 0xfc, 0, 0x78, 0x1c, 0, 0x8c, 0xa1}},
+    {"seven from worn, L = 3, S = 2", {1, 255, 2}, {0}, 3, 3, 2, 7, WORN, SEVEN, 7, 9012, 6, 0,
+     {0x3f, 0xef, 0xe7, 0xbd, 0x9e, 0xf3, 0xf8, 0xc4, 0x9b, 0x11, 0xa3, 0x4e, 0x97, 0x13, 0xfe, 0x64, 0x44, 0xb1,
+      0x39, 0xe1, 0xe8, 0x95, 0x19, 0x73, 0x3e, 0x4e, 0xea, 0x89, 0x62, 0xe2, 0x64, 0xb8, 0x68, 0x62, 0xad, 0xc8}},
+    {"seven from worn, L = 2, S = 3 with code 7", {255, 1, 2}, {0}, 7, 2, 3, 7, WORN, SEVEN, 7, 6757, 6, 0,
+     {0x3f, 0xf6, 0x47, 0xff, 0xfb, 0x63, 0xe8, 0xd1, 0x1f, 0x41, 0x21, 0xe0, 0x3f, 0x86, 0x1f, 0x3f, 0x88, 0xff,
+      0x2f, 0xd4, 0xff, 0x17, 0x02, 0x42, 0xff, 0xef, 0x43, 0xfd, 0x31, 0xe1, 0xfa, 0x85, 0x1d, 0xc0, 0x71, 0xc2}},
+    {"seven from erased with marks, L = 2, S = 3", HOUSE_WEIGHTS,
+     {0, 0x80, 0x09, 0xa3, 0x62, 0x50, 0x10, 0, 0xc5, 0xa2, 0x08, 0}, 3, 2, 3, 7, {0}, SEVEN, 7, 1540, 5, 2,
+     {0x10, 0x67, 0x02, 0x9c, 0x31, 0x11, 0xe8, 0x50, 0xb8, 0, 0x22, 0x04, 0x01, 0x06, 0, 0x1d, 0x0a, 0x21,
+      0x60, 0x0c, 0xa8, 0x11, 0x82, 0x42, 0x10, 0xee, 0x02, 0x85, 0x0b, 0x1c, 0xfe, 0x81, 0xa8, 0x10, 0x62, 0}},
+    {"seven from erased with marks, L = 3, S = 2", {255, 1, 2},
+     {0x08, 0x40, 0x10, 0, 0x04, 0x02, 0x42, 0x08, 0x12, 0x36, 0x02, 0x01}, 3, 3, 2, 7, {0}, SEVEN, 7, 11790, 5, 1,
+     {0xd0, 0xf1, 0x42, 0, 0x0e, 0x61, 0xfa, 0x85, 0x83, 0, 0x06, 0, 0x04, 0x0a, 0, 0x06, 0x8c, 0x83,
+      0x01, 0x77, 0xc2, 0x3c, 0x10, 0xf0, 0x47, 0x84, 0xe1, 0x07, 0x0e, 0x0c, 0x87, 0x09, 0x14, 0, 0x74, 0}},
+    {"seven from erased with marks, L = 2, S = 3 with code 7", {1, 255, 2},
+     {0x10, 0xc8, 0x08, 0x44, 0x0a, 0x20, 0x60, 0x02, 0, 0x40, 0x10, 0}, 7, 2, 3, 7, {0}, SEVEN, 7, 7749, 6, 1,
+     {0x39, 0x8f, 0xcf, 0xbc, 0x31, 0x01, 0xe2, 0xd1, 0x89, 0, 0x22, 0xc2, 0xc3, 0xa1, 0x4e, 0xfc, 0x3f, 0x30,
+      0x62, 0x50, 0x80, 0x03, 0x23, 0x02, 0x39, 0x63, 0xc6, 0x0c, 0x18, 0x23, 0x6a, 0x8e, 0x88, 0x17, 0xa3, 0x46}},
+    {"seven from erased with marks, L = 3, S = 2 with code 7", HOUSE_WEIGHTS,
+     {0x08, 0x40, 0x10, 0, 0x04, 0x02, 0x42, 0x08, 0x12, 0x36, 0x02, 0x01}, 7, 3, 2, 7, {0}, SEVEN, 0, 2140, 7, 0,
+     {0x7b, 0xf1, 0xdf, 0x98, 0x19, 0, 0xe6, 0x85, 0x08, 0x31, 0x63, 0x46, 0x0d, 0x1a, 0x21, 0x42, 0x54, 0,
+      0x43, 0xa7, 0xe2, 0xbd, 0xf1, 0x13, 0xc0, 0x8e, 0xb8, 0x07, 0, 0x44, 0x85, 0x1b, 0x73, 0x60, 0x80, 0xb8}},
+    {"seven from worn with marks, L = 3, S = 2", {1, 255, 2},
+     {0, 0x80, 0x09, 0xa3, 0x62, 0x50, 0x10, 0, 0xc5, 0xa2, 0x08, 0}, 3, 3, 2, 7, WORN, SEVEN, 7, 6437, 4, 1,
+     {0x17, 0x6f, 0x46, 0x9f, 0x3f, 0x1d, 0x78, 0xc0, 0xfd, 0, 0x03, 0x40, 0x93, 0x1a, 0x06, 0x2c, 0x84, 0xb3,
+      0x31, 0xc1, 0xc8, 0x91, 0x18, 0x33, 0x38, 0xce, 0x03, 0xcb, 0x23, 0x2c, 0xe4, 0x81, 0xf8, 0x22, 0xa5, 0x48}},
+    {"seven from worn with marks, L = 2, S = 3 with code 7", {255, 255, 255},
+     {0x10, 0xc8, 0x08, 0x44, 0x0a, 0x20, 0x60, 0x02, 0, 0x40, 0x10, 0}, 7, 2, 3, 7, WORN, SEVEN, 7, 17085, 4, 1,
+     {0x33, 0xae, 0x0e, 0x9c, 0x31, 0x03, 0xfe, 0x81, 0xa9, 0x31, 0x21, 0xc0, 0x17, 0x23, 0x0e, 0x07, 0x18, 0x35,
+      0x20, 0xf0, 0xa8, 0x17, 0x0e, 0x42, 0x7b, 0x2f, 0x42, 0x8d, 0x19, 0xe3, 0xe0, 0x84, 0x88, 0, 0xa3, 0xc2}},
+    {"the first of seven spent by marks in strip 2, L = 2, S = 3", HOUSE_WEIGHTS,
+     {0, 0x80, 0x09, 0xa3, 0x62, 0x50, 0x10, 0, 0xc5, 0xa2, 0x08, 0}, 3, 2, 3, 7, WORN, SEVEN, 7, 0, 0, 2,
+     {0x13, 0x20, 0x02, 0x8c, 0x10, 0x01, 0x68, 0x80, 0x08, 0, 0x01, 0x40, 0x13, 0x02, 0x06, 0x04, 0, 0x11,
+      0x20, 0xc0, 0x88, 0x11, 0, 0, 0x38, 0x06, 0x02, 0x88, 0, 0x20, 0x60, 0x80, 0x08, 0, 0x21, 0x40}},
+};
+
+/* Single writes in that order, and the answer that a list of them is to give. */
+static uint64_t one_by_one(const struct list *l, uint8_t *page, const uint8_t *map, const uint8_t *data)
+{
+    const struct weights *const w = &l->weights;
+    const size_t page_len = SEGRUNOV_PAGE_BYTES(l->bytes, l->strips);
+    const size_t data_len = SEGRUNOV_DATA_BYTES(l->bytes, l->strips);
+    uint32_t cost = 0;
+    uint32_t j;
+    for (j = 0; j < l->count; j++) {
+        const uint8_t *const d = data + j * data_len;
+        const uint64_t one = map == NULL ? segrunov_write_weighted(l->code, l->bytes, l->strips, w->w1, w->w2, w->w3, page, page_len, d, data_len)
+                                         : segrunov_write_mapped(l->code, l->bytes, l->strips, w->w1, w->w2, w->w3, page, page_len, map,
+                                                                 SEGRUNOV_MAP_BYTES(l->bytes, l->strips), d, data_len);
+        if (SEGRUNOV_NUMBER(one) != SEGRUNOV_DONE) {
+            return list_answer(SEGRUNOV_NUMBER(one), cost, j, SEGRUNOV_VALUE(one));
+        }
+        cost += SEGRUNOV_VALUE(one);
+    }
+    return list_answer(SEGRUNOV_DONE, cost, l->count, 0);
+}
+
+/* A list on this page: the answer, the page after it, and nothing else is changed. */
+static void list_gives(const char *what, const struct list *l, const uint8_t *before, const uint8_t *marks, const uint8_t *datas, uint64_t expected,
+                       const uint8_t *after)
+{
+    const size_t page_len = SEGRUNOV_PAGE_BYTES(l->bytes, l->strips);
+    const size_t map_len = SEGRUNOV_MAP_BYTES(l->bytes, l->strips);
+    const size_t data_len = SEGRUNOV_LIST_BYTES(l->count, l->bytes, l->strips);
+    struct guarded page, map, data;
+    fill(&page, before, page_len);
+    fill(&map, marks == NULL ? NO_MARKS : marks, map_len);
+    fill(&data, datas, data_len);
+    check(what, listed(l, inside(&page), marks == NULL ? NULL : inside(&map), inside(&data)) == expected);
+    check(what, holds(&page, after, page_len));
+    check(what, holds(&map, marks == NULL ? NO_MARKS : marks, map_len));
+    check(what, holds(&data, datas, data_len));
+}
+
+/* The same list as single writes. */
+static void singles_give(const char *what, const struct list *l, const uint8_t *before, const uint8_t *marks, const uint8_t *datas, uint64_t expected,
+                         const uint8_t *after)
+{
+    const size_t page_len = SEGRUNOV_PAGE_BYTES(l->bytes, l->strips);
+    struct guarded page;
+    fill(&page, before, page_len);
+    check(what, one_by_one(l, inside(&page), marks, datas) == expected);
+    check(what, holds(&page, after, page_len));
+}
+
+static int marks_none(const uint8_t *map)
+{
+    size_t i;
+    for (i = 0; i < MAP; i++) {
+        if (map[i] != 0) {
+            return 0;
+        }
+    }
+    return 1;
+}
+
+/* With the map, and where it marks no cell also without one. */
+static void known_lists(void)
+{
+    size_t i;
+    for (i = 0; i < sizeof KNOWN_LISTS / sizeof *KNOWN_LISTS; i++) {
+        const struct known_list *k = &KNOWN_LISTS[i];
+        const struct list l = {k->code, k->bytes, k->strips, k->weights, k->count};
+        const uint64_t expected = list_answer(k->number, k->cost, k->written, k->strip);
+        list_gives(k->what, &l, k->before, k->map, k->data, expected, k->after);
+        singles_give(k->what, &l, k->before, k->map, k->data, expected, k->after);
+        if (marks_none(k->map)) {
+            list_gives(k->what, &l, k->before, NULL, k->data, expected, k->after);
+            singles_give(k->what, &l, k->before, NULL, k->data, expected, k->after);
+        }
+        if (k->written > 0) {
+            const size_t page_len = SEGRUNOV_PAGE_BYTES(k->bytes, k->strips);
+            const size_t data_len = SEGRUNOV_DATA_BYTES(k->bytes, k->strips);
+            struct guarded back;
+            fill(&back, k->data, 0);
+            check(k->what, segrunov_read(k->code, k->bytes, k->strips, k->after, page_len, inside(&back), data_len) == 0);
+            check(k->what, holds(&back, k->data + (k->written - 1) * data_len, data_len));
+        }
+    }
+}
+
+/* A list of 64 datas of six bytes, in which each differs from the one before in one bit, and how far it gets. */
+struct known_long_list {
+    const char *what;
+    uint32_t code;
+    uint32_t bytes;
+    uint32_t strips;
+    uint32_t cost;
+    uint32_t written;
+};
+
+/* By the model in tests/run.py; every one that stops does so in strip 0. */
+static const struct known_long_list KNOWN_LONG_LISTS[] = {
+    {"64 datas, L = 1, S = 6", 3, 1, 6, 2792, 64},
+    {"64 datas, L = 1, S = 6 with code 7", 7, 1, 6, 2912, 64},
+    {"64 datas, L = 2, S = 3", 3, 2, 3, 1908, 54},
+    {"64 datas, L = 3, S = 2 with code 7", 7, 3, 2, 4732, 49},
+    {"64 datas, L = 6, S = 1 with code 7", 7, 6, 1, 3812, 32},
+};
+
+/* Each of the long lists from an erased page, and every beginning of it: from 1 to 64 datas. */
+static void known_long_lists(void)
+{
+    static const uint8_t erased[PAGE] = {0};
+    uint8_t datas[MOST * DATA];
+    size_t i, j, n;
+    for (i = 0; i < DATA; i++) {
+        datas[i] = i == 0;
+    }
+    for (i = DATA; i < sizeof datas; i++) {
+        j = i / DATA;
+        datas[i] = (uint8_t)(datas[i - DATA] ^ (i % DATA == j % DATA ? 1u << (j / DATA % 8) : 0u));
+    }
+    for (n = 0; n < sizeof KNOWN_LONG_LISTS / sizeof *KNOWN_LONG_LISTS; n++) {
+        const struct known_long_list *k = &KNOWN_LONG_LISTS[n];
+        struct list l = {k->code, k->bytes, k->strips, HOUSE_WEIGHTS, 1};
+        uint64_t expected = 0;
+        for (; l.count <= MOST; l.count++) {
+            struct guarded page;
+            fill(&page, erased, PAGE);
+            expected = one_by_one(&l, inside(&page), NULL, datas);
+            list_gives(k->what, &l, erased, NULL, datas, expected, inside(&page));
+            list_gives(k->what, &l, erased, NO_MARKS, datas, expected, inside(&page));
+        }
+        check(k->what, expected == list_answer(k->written == MOST ? SEGRUNOV_DONE : SEGRUNOV_SPENT, k->cost, k->written, 0));
+    }
+}
+
+/* The bytes of the largest page, its cells, and how far apart those of them are that rise with one data. */
+enum { LARGE = 6 * MOST * MOST, LARGE_CELLS = 16 * MOST * MOST, STRIDE = 21 };
+
+/*
+ * The dearest list that there is: 64 datas for the largest page, from erased, and every cell climbs every step at 255. One cell in 21 rises with each
+ * of the first 63 datas: so far apart, no other raises lead to the data as cheaply, but for a strip's last stage, whose two cells serve alike. The
+ * last data is the one before it again, and costs nothing.
+ */
+static void dearest_lists(void)
+{
+    static const uint32_t codes[2] = {SEGRUNOV_SHORT, SEGRUNOV_LONG};
+    static uint8_t page[LARGE], wanted[LARGE], data[MOST * MOST * MOST];
+    static uint8_t map[2 * MOST * MOST];
+    const char *const what = "64 datas for the largest page, every step at 255";
+    const size_t one = SEGRUNOV_DATA_BYTES(MOST, MOST);
+    size_t c, i, j;
+    for (c = 0; c < 2; c++) {
+        const struct list l = {codes[c], MOST, MOST, {255, 255, 255}, MOST};
+        const uint64_t expected = list_answer(SEGRUNOV_DONE, 255u * 3u * LARGE_CELLS, MOST, 0);
+        int with_map;
+        for (i = 0; i < LARGE; i++) {
+            wanted[i] = 0;
+        }
+        for (j = 0; j < MOST; j++) {
+            for (i = j % STRIDE; j < 3 * STRIDE && i < LARGE_CELLS; i += STRIDE) {
+                const size_t bit = 3 * i + j / STRIDE;
+                wanted[bit / 8] = (uint8_t)(wanted[bit / 8] | 1u << (bit % 8));
+            }
+            check(what, segrunov_read(codes[c], MOST, MOST, wanted, LARGE, data + j * one, one) == 0);
+        }
+        for (with_map = 0; with_map < 2; with_map++) {
+            unsigned others = 0;
+            for (i = 0; i < LARGE; i++) {
+                page[i] = 0;
+            }
+            check(what, listed(&l, page, with_map ? map : NULL, data) == expected);
+            for (i = 0; i < LARGE; i++) {
+                others += page[i] != 0xff;
+            }
+            check(what, others == 0);
+        }
+    }
+}
+
+/* A start that catches up: a list; where it stops, an erase, and the list goes on behind what is written. Beside it single writes with an erase
+ * before each data that does not fit. */
+static void catching_up(void)
+{
+    static const struct list KNOWN[] = {{3, 2, 3, {1, 2, 3}, MOST}, {7, 3, 2, HOUSE_WEIGHTS, MOST}, {7, 1, 1, {255, 1, 1}, MOST}};
+    static const uint8_t erased[PAGE] = {0};
+    const char *const what = "a list that goes on after an erase";
+    uint8_t datas[MOST * DATA];
+    uint32_t seed = 20261116;
+    size_t i;
+    for (i = 0; i < sizeof datas; i++) {
+        seed = seed * 1664525u + 1013904223u;
+        datas[i] = (uint8_t)(seed >> 24);
+    }
+    for (i = 0; i < sizeof KNOWN / sizeof *KNOWN; i++) {
+        const uint32_t bytes = KNOWN[i].bytes, strips = KNOWN[i].strips;
+        const size_t page_len = SEGRUNOV_PAGE_BYTES(bytes, strips);
+        const size_t one = SEGRUNOV_DATA_BYTES(bytes, strips);
+        struct list rest = KNOWN[i], single = KNOWN[i];
+        const uint8_t *at = datas;
+        uint32_t cost = 0, single_cost = 0;
+        unsigned erases = 0, single_erases = 0;
+        struct guarded page, beside;
+        size_t j;
+        fill(&page, erased, page_len);
+        fill(&beside, erased, page_len);
+        while (rest.count > 0 && erases < MOST) {
+            const uint64_t got = listed(&rest, inside(&page), NULL, at);
+            cost += SEGRUNOV_VALUE(got);
+            at += SEGRUNOV_WRITTEN(got) * one;
+            rest.count -= SEGRUNOV_WRITTEN(got);
+            check(what, SEGRUNOV_NUMBER(got) == (rest.count == 0 ? SEGRUNOV_DONE : SEGRUNOV_SPENT));
+            if (rest.count > 0) {
+                check(what, segrunov_erase(bytes, strips, inside(&page), page_len, 200) == 0);
+                erases++;
+            }
+        }
+        single.count = 1;
+        for (j = 0; j < MOST; j++) {
+            uint64_t got = one_by_one(&single, inside(&beside), NULL, datas + j * one);
+            if (SEGRUNOV_NUMBER(got) == SEGRUNOV_SPENT) {
+                check(what, segrunov_erase(bytes, strips, inside(&beside), page_len, 200) == 0);
+                single_erases++;
+                got = one_by_one(&single, inside(&beside), NULL, datas + j * one);
+            }
+            single_cost += SEGRUNOV_VALUE(got);
+        }
+        check(what, erases > 0 && erases == single_erases && cost == single_cost);
+        check(what, holds(&page, inside(&beside), page_len));
+        check(what, at == datas + MOST * one);
+    }
+}
+
+/* A word, and the fields that the header's macros give of it. */
+struct known_word {
+    const char *what;
+    uint64_t word;
+    uint32_t value;
+    uint32_t number;
+    uint32_t written;
+    uint32_t strip;
+};
+
+/* Each field at its largest does not run into the next one; then answers as there can be. */
+static const struct known_word KNOWN_WORDS[] = {
+    {"nothing", 0, 0, 0, 0, 0},
+    {"the largest value", UINT64_C(0x00000000ffffffff), UINT32_MAX, 0, 0, 0},
+    {"the largest number", UINT64_C(0x000000ff00000000), 0, 255, 0, 0},
+    {"the largest number written", UINT64_C(0x0000ff0000000000), 0, 0, 255, 0},
+    {"the largest strip", UINT64_C(0xffff000000000000), 0, 0, 0, 65535},
+    {"every field at its largest", UINT64_MAX, UINT32_MAX, 255, 255, 65535},
+    {"the least of each field", UINT64_C(0x0001010100000001), 1, 1, 1, 1},
+    {"a list of 64 at the most that it costs", UINT64_C(0x000040003fc00000), SEGRUNOV_MAX_LIST_COST, SEGRUNOV_DONE, 64, 0},
+    {"a list that stops at the last data, in strip 63", UINT64_C(0x003f3f0700000001), 1, SEGRUNOV_SPENT, 63, 63},
+    {"a list that is refused", UINT64_C(0x0000000a00000000), 0, SEGRUNOV_COUNT, 0, 0},
+    {"a write at the most that it costs", UINT64_C(0x0000000000ff0000), SEGRUNOV_MAX_WEIGHTED_COST, SEGRUNOV_DONE, 0, 0},
+    {"a write spent in strip 63", UINT64_C(0x000000070000003f), 63, SEGRUNOV_SPENT, 0, 0},
+};
+
+static void known_words(void)
+{
+    size_t i;
+    for (i = 0; i < sizeof KNOWN_WORDS / sizeof *KNOWN_WORDS; i++) {
+        const struct known_word *k = &KNOWN_WORDS[i];
+        check(k->what, SEGRUNOV_VALUE(k->word) == k->value && SEGRUNOV_NUMBER(k->word) == k->number);
+        check(k->what, SEGRUNOV_WRITTEN(k->word) == k->written && SEGRUNOV_SPENT_STRIP(k->word) == k->strip);
+    }
+    check("the bytes of a list", SEGRUNOV_LIST_BYTES(64, 64, 64) == 262144 && SEGRUNOV_LIST_BYTES(2, 3, 5) == 30);
+    check("the bytes of a list, of sums", SEGRUNOV_LIST_BYTES(1 + 1, 1 + 2, 2 + 3) == 30);
+    check("the most of a list", SEGRUNOV_MAX_LIST * (uint64_t)SEGRUNOV_MAX_WEIGHTED_COST == SEGRUNOV_MAX_LIST_COST);
+}
+
+/* A refusal from the input, for read, price and write alike, the calls with weights and a list of one data included. */
 struct known_refusal {
     const char *what;
     uint32_t code;
@@ -521,12 +931,13 @@ static void known_refusals(void)
         check(k->what, segrunov_write(k->code, k->bytes, k->strips, page_at, k->page_len, data_at, k->data_len) == expected);
         check(k->what, segrunov_price_weighted(k->code, k->bytes, k->strips, 1, 2, 3, page_at, k->page_len, data_at, k->data_len) == expected);
         check(k->what, segrunov_write_weighted(k->code, k->bytes, k->strips, 1, 2, 3, page_at, k->page_len, data_at, k->data_len) == expected);
+        check(k->what, segrunov_write_list(k->code, k->bytes, k->strips, 1, 2, 3, 1, page_at, k->page_len, data_at, k->data_len) == expected);
         check(k->what, holds(&page, bytes, k->page_len));
         check(k->what, holds(&data, bytes, k->data_len));
     }
 }
 
-/* A refusal of the calls with weights, on a page whose bytes are all the same. */
+/* A refusal of the calls with weights, a list of one data included, on a page whose bytes are all the same. */
 struct known_weight_refusal {
     const char *what;
     struct weights weights;
@@ -578,6 +989,8 @@ static void known_weight_refusals(void)
                                                            k->data_len));
         check(k->what, expected == segrunov_write_weighted(k->code, k->bytes, k->strips, w->w1, w->w2, w->w3, inside(&page), k->page_len, data_at,
                                                            k->data_len));
+        check(k->what, expected == segrunov_write_list(k->code, k->bytes, k->strips, w->w1, w->w2, w->w3, 1, inside(&page), k->page_len, data_at,
+                                                       k->data_len));
         check(k->what, holds(&page, before, k->page_len));
         check(k->what, holds(&data, bytes, k->data_len));
     }
@@ -679,12 +1092,13 @@ static void known_mapped_erases(void)
     }
 }
 
-/* What the calls with a map are made with. A length of 0 goes with NULL. */
+/* What the calls with a map and the lists are made with. A length of 0 goes with NULL. */
 struct arguments {
     uint32_t code;
     uint32_t bytes;
     uint32_t strips;
     uint8_t w2;
+    uint32_t count;
     size_t page_len;
     size_t map_len;
     size_t data_len;
@@ -697,29 +1111,46 @@ static uint8_t *at(struct guarded *g, size_t length)
     return length == 0 ? NULL : inside(g);
 }
 
-/* The two calls with a code, or the erase, and nothing is changed by them. */
-static void refused(const char *what, const struct arguments *a, int erase, uint32_t number)
+/* The calls that are refused alike: price and write with a map, the erase with a map, the list, and the list with a map. */
+enum refused_calls { MAPPED, MAPPED_ERASE, LIST, MAPPED_LIST };
+
+/* These calls are refused so, and nothing is changed by them. */
+static void refused(const char *what, const struct arguments *a, enum refused_calls calls, uint32_t number)
 {
     static const uint8_t marks[PAGE] = {0x21, 0x84, 0x5a, 0x0f};
-    static const uint8_t bytes[DATA] = {0x80, 0x80, 0x80, 0x80, 0x80, 0x80};
     const uint64_t expected = answer(number, 0);
     uint8_t before[PAGE];
+    uint8_t bytes[ROOM];
     struct guarded page, map, data;
     size_t i;
     for (i = 0; i < PAGE; i++) {
         before[i] = a->filled;
     }
+    for (i = 0; i < ROOM; i++) {
+        bytes[i] = 0x80;
+    }
     fill(&page, before, a->page_len);
     fill(&map, marks, a->map_len);
     fill(&data, bytes, a->data_len);
-    if (erase) {
-        check(what, expected == segrunov_erase_mapped(a->bytes, a->strips, at(&page, a->page_len), a->page_len, at(&map, a->map_len), a->map_len,
-                                                      a->tenths));
-    } else {
+    switch (calls) {
+    case MAPPED:
         check(what, expected == segrunov_price_mapped(a->code, a->bytes, a->strips, 1, a->w2, 3, at(&page, a->page_len), a->page_len,
                                                       at(&map, a->map_len), a->map_len, at(&data, a->data_len), a->data_len));
         check(what, expected == segrunov_write_mapped(a->code, a->bytes, a->strips, 1, a->w2, 3, at(&page, a->page_len), a->page_len,
                                                       at(&map, a->map_len), a->map_len, at(&data, a->data_len), a->data_len));
+        break;
+    case MAPPED_ERASE:
+        check(what, expected == segrunov_erase_mapped(a->bytes, a->strips, at(&page, a->page_len), a->page_len, at(&map, a->map_len), a->map_len,
+                                                      a->tenths));
+        break;
+    case LIST:
+        check(what, expected == segrunov_write_list(a->code, a->bytes, a->strips, 1, a->w2, 3, a->count, at(&page, a->page_len), a->page_len,
+                                                    at(&data, a->data_len), a->data_len));
+        break;
+    case MAPPED_LIST:
+        check(what, expected == segrunov_write_list_mapped(a->code, a->bytes, a->strips, 1, a->w2, 3, a->count, at(&page, a->page_len), a->page_len,
+                                                           at(&map, a->map_len), a->map_len, at(&data, a->data_len), a->data_len));
+        break;
     }
     check(what, holds(&page, before, a->page_len));
     check(what, holds(&map, marks, a->map_len));
@@ -742,6 +1173,9 @@ static void spoil(struct arguments *a, uint32_t number)
     case SEGRUNOV_WEIGHT:
         a->w2 = 0;
         break;
+    case SEGRUNOV_COUNT:
+        a->count = 65;
+        break;
     case SEGRUNOV_PAGE_LENGTH:
         a->page_len = 7;
         break;
@@ -760,18 +1194,24 @@ static void spoil(struct arguments *a, uint32_t number)
     }
 }
 
-static const struct arguments IN_ORDER = {7, 1, 1, 2, 6, 2, 1, 0x11, 250};
+/* A list of three datas where the calls are lists. */
+static struct arguments in_order(enum refused_calls calls)
+{
+    const struct arguments single = {7, 1, 1, 2, 1, 6, 2, 1, 0x11, 250};
+    const struct arguments list = {7, 1, 1, 2, 3, 6, 2, 3, 0x11, 250};
+    return calls == LIST || calls == MAPPED_LIST ? list : single;
+}
 
 /* Each ground by itself, and every two of them: the answer is the one that is tested first. */
-static void grounds_in_order(const uint32_t *order, size_t n, int erase)
+static void grounds_in_order(const uint32_t *order, size_t n, enum refused_calls calls)
 {
     size_t i, j;
     for (i = 0; i < n; i++) {
         for (j = i; j < n; j++) {
-            struct arguments a = IN_ORDER;
+            struct arguments a = in_order(calls);
             spoil(&a, order[j]);
             spoil(&a, order[i]);
-            refused("grounds of a call with a map, in their order", &a, erase, order[i]);
+            refused("grounds of a call, in their order", &a, calls, order[i]);
         }
     }
 }
@@ -803,18 +1243,85 @@ static void known_mapped_refusals(void)
     static const uint32_t of_writes[] = {1, 2, 3, 9, 4, 11, 5, 7};
     static const uint32_t of_erases[] = {2, 3, 4, 11, 8};
     size_t i;
-    grounds_in_order(of_writes, sizeof of_writes / sizeof *of_writes, 0);
-    grounds_in_order(of_erases, sizeof of_erases / sizeof *of_erases, 1);
+    grounds_in_order(of_writes, sizeof of_writes / sizeof *of_writes, MAPPED);
+    grounds_in_order(of_erases, sizeof of_erases / sizeof *of_erases, MAPPED_ERASE);
     for (i = 0; i < sizeof KNOWN_MAP_LENGTHS / sizeof *KNOWN_MAP_LENGTHS; i++) {
         const struct known_map_length *k = &KNOWN_MAP_LENGTHS[i];
-        struct arguments a = IN_ORDER;
+        struct arguments a = in_order(MAPPED);
         a.bytes = k->bytes;
         a.strips = k->strips;
         a.page_len = SEGRUNOV_PAGE_BYTES(k->bytes, k->strips);
         a.map_len = k->map_len;
         a.data_len = SEGRUNOV_DATA_BYTES(k->bytes, k->strips);
-        refused(k->what, &a, 0, SEGRUNOV_MAP_LENGTH);
-        refused(k->what, &a, 1, SEGRUNOV_MAP_LENGTH);
+        refused(k->what, &a, MAPPED, SEGRUNOV_MAP_LENGTH);
+        refused(k->what, &a, MAPPED_ERASE, SEGRUNOV_MAP_LENGTH);
+        refused(k->what, &a, MAPPED_LIST, SEGRUNOV_MAP_LENGTH);
+    }
+}
+
+/* A list on an erased page that is refused for its count or for the length of its data: the right length is count*L*S. */
+struct known_list_refusal {
+    const char *what;
+    uint32_t bytes;
+    uint32_t strips;
+    uint32_t count;
+    size_t data_len;
+    uint32_t number;
+};
+
+/* Counts whose lower byte or half is one that is allowed are refused as well. */
+static const struct known_list_refusal KNOWN_LIST_REFUSALS[] = {
+    {"count 0 and no data", 1, 1, 0, 0, 10},
+    {"count 0 and one data", 1, 1, 0, 1, 10},
+    {"count 0 and no data, L = 2, S = 3", 2, 3, 0, 0, 10},
+    {"count 65 and 65 datas", 1, 1, 65, 65, 10},
+    {"count 65 and 64 datas", 1, 1, 65, 64, 10},
+    {"count 65 and 65 datas, L = 3, S = 2", 3, 2, 65, 390, 10},
+    {"count 256 and 256 datas", 1, 1, 256, 256, 10},
+    {"count 257 and one data", 1, 1, 257, 1, 10},
+    {"count 2^16 + 2 and two datas", 1, 1, 65538, 2, 10},
+    {"count 2^31 + 1 and one data", 1, 1, UINT32_C(0x80000001), 1, 10},
+    {"the largest count and no data", 1, 1, UINT32_MAX, 0, 10},
+    {"the largest count and 64 datas", 1, 1, UINT32_MAX, 64, 10},
+    {"no data for a list of one", 2, 3, 1, 0, 5},
+    {"a byte less for a list of one", 2, 3, 1, 5, 5},
+    {"a byte more for a list of one", 2, 3, 1, 7, 5},
+    {"no data for a list of three", 2, 3, 3, 0, 5},
+    {"count*L bytes", 2, 3, 3, 6, 5},
+    {"count*S bytes", 2, 3, 3, 9, 5},
+    {"two datas for a list of three", 2, 3, 3, 12, 5},
+    {"a byte less for a list of three", 2, 3, 3, 17, 5},
+    {"a byte more for a list of three", 2, 3, 3, 19, 5},
+    {"four datas for a list of three", 2, 3, 3, 24, 5},
+    {"as many bytes as the page", 2, 3, 3, 36, 5},
+    {"a byte less for a list of two, L = 3, S = 2", 3, 2, 2, 11, 5},
+    {"a byte more for a list of two, L = 3, S = 2", 3, 2, 2, 13, 5},
+    {"a byte for each of 64, L = 2, S = 3", 2, 3, 64, 64, 5},
+    {"a byte less for a list of 64, L = 2, S = 3", 2, 3, 64, 383, 5},
+    {"a byte more for a list of 64, L = 2, S = 3", 2, 3, 64, 385, 5},
+    {"63 datas for a list of 64", 1, 1, 64, 63, 5},
+    {"65 datas for a list of 64", 1, 1, 64, 65, 5},
+};
+
+static void known_list_refusals(void)
+{
+    static const uint32_t of_lists[] = {1, 2, 3, 9, 10, 4, 5, 7};
+    static const uint32_t of_mapped_lists[] = {1, 2, 3, 9, 10, 4, 11, 5, 7};
+    size_t i;
+    grounds_in_order(of_lists, sizeof of_lists / sizeof *of_lists, LIST);
+    grounds_in_order(of_mapped_lists, sizeof of_mapped_lists / sizeof *of_mapped_lists, MAPPED_LIST);
+    for (i = 0; i < sizeof KNOWN_LIST_REFUSALS / sizeof *KNOWN_LIST_REFUSALS; i++) {
+        const struct known_list_refusal *k = &KNOWN_LIST_REFUSALS[i];
+        struct arguments a = in_order(LIST);
+        a.bytes = k->bytes;
+        a.strips = k->strips;
+        a.count = k->count;
+        a.page_len = SEGRUNOV_PAGE_BYTES(k->bytes, k->strips);
+        a.map_len = SEGRUNOV_MAP_BYTES(k->bytes, k->strips);
+        a.data_len = k->data_len;
+        a.filled = 0;
+        refused(k->what, &a, LIST, k->number);
+        refused(k->what, &a, MAPPED_LIST, k->number);
     }
 }
 
@@ -831,6 +1338,12 @@ static void all(void)
     known_erases();
     known_mapped_erases();
     known_mapped_refusals();
+    known_lists();
+    known_long_lists();
+    dearest_lists();
+    catching_up();
+    known_words();
+    known_list_refusals();
 }
 
 #ifdef FREESTANDING
