@@ -2,12 +2,12 @@
 //
 //   compare [SEED [FACTOR]]
 //
-// The graph and the reading are made from document 01 alone, and from what document 02 says of the weights, of the bit that a raise sets and of
-// marked cells. A vertex is a stage of a strip with the bits of the cells of the last m stages, all that the sum for a data bit needs of the past. An
-// edge is a choice of levels for the two cells of a stage: neither below its old level, a marked one not above it, the data bit right. Its weight is
-// the cost of the two climbs. Boost gives the distance of every vertex to the end of the strip; a walk from the start along edges that lose no cost,
-// the lowest levels first, is then the write that document 01 asks for, ties included. At the first disagreement the whole case is printed and the
-// exit status is 1. FACTOR multiplies the number of random cases.
+// The graph and the reading are made from document 01 alone, and from what document 02 says of the weights, of the bit that a raise sets, of marked
+// cells and of lists. A vertex is a stage of a strip with the bits of the cells of the last m stages, all that the sum for a data bit needs of the
+// past. An edge is a choice of levels for the two cells of a stage: neither below its old level, a marked one not above it, the data bit right. Its
+// weight is the cost of the two climbs. Boost gives the distance of every vertex to the end of the strip; a walk from the start along edges that lose
+// no cost, the lowest levels first, is then the write that document 01 asks for, ties included. A list is judged as such writes, one after another.
+// At the first disagreement the whole case is printed and the exit status is 1. FACTOR multiplies the number of random cases.
 
 #include "segrunov.h"
 
@@ -34,7 +34,7 @@ using Levels = std::vector<unsigned>;
 
 // ---------------------------------------------------------------- document 01: shape, cells, codes, cost
 
-constexpr std::uint32_t kMost = 64;  // of L and of S
+constexpr std::uint32_t kMost = 64;  // of L, of S and of the datas of a list
 constexpr unsigned kFull = 3;        // the highest level
 using Weights = std::array<std::uint8_t, kFull>;
 constexpr Weights kHouse = {16, 20, 28};
@@ -352,6 +352,11 @@ class StripSearch {
 
 std::uint64_t answer_of(std::uint32_t number, std::uint32_t value) { return (std::uint64_t{number} << 32) + value; }
 
+// Document 02, K2: 'the low 32 bits are the summed cost, also when spent; the number written is added times 2^40, a spent strip times 2^48'.
+std::uint64_t list_answer_of(std::uint32_t number, std::uint32_t cost, std::uint32_t written, std::uint32_t strip) {
+  return answer_of(number, cost) + (std::uint64_t{written} << 40) + (std::uint64_t{strip} << 48);
+}
+
 struct PageSearch {
   std::uint64_t answer = 0;
   Bytes page;
@@ -400,13 +405,18 @@ PageSearch search_page(const Code& code, Shape shape, const Weights& weights, co
 
 // ---------------------------------------------------------------- calls of the library
 
-// Those that take a map are the last.
-enum Function : unsigned { kRead, kPrice, kWrite, kPriceWeighted, kWriteWeighted, kErase, kPriceMapped, kWriteMapped, kEraseMapped, kFunctions };
-constexpr unsigned kUnmapped = kPriceMapped;
-constexpr std::array<const char*, kFunctions> kFunctionName = {"read",  "price",        "write",        "price_weighted", "write_weighted",
-                                                               "erase", "price_mapped", "write_mapped", "erase_mapped"};
+// The single calls without a map, those with one, and the lists.
+enum Function : unsigned {
+  kRead, kPrice, kWrite, kPriceWeighted, kWriteWeighted, kErase, kPriceMapped, kWriteMapped, kEraseMapped, kList, kListMapped, kFunctions
+};
+constexpr unsigned kUnmapped = kPriceMapped;  // so many are before the first with a map
+constexpr unsigned kSingle = kList;           // so many are before the lists
+constexpr std::array<const char*, kFunctions> kFunctionName = {
+    "read",         "price",        "write",      "price_weighted",   "write_weighted", "erase", "price_mapped",
+    "write_mapped", "erase_mapped", "write_list", "write_list_mapped"};
 
-bool takes_map(Function function) { return function >= kUnmapped; }
+bool is_list(Function function) { return function >= kSingle; }
+bool takes_map(Function function) { return function >= kUnmapped && function != kList; }
 bool is_erase(Function function) { return function == kErase || function == kEraseMapped; }
 bool takes_weights(Function function) { return function >= kPriceWeighted && !is_erase(function); }
 
@@ -419,7 +429,8 @@ struct Call {
   Bytes page;
   Bytes data;  // of a read: what the buffer holds before
   std::int16_t tenths;
-  Bytes map = {};  // of a call that takes one
+  Bytes map = {};           // of a call that takes one
+  std::uint32_t count = 1;  // of a list
 };
 
 struct Outcome {
@@ -439,8 +450,10 @@ std::string hex(const Bytes& bytes) {
 }
 
 void print_outcome(const char* whose, const Outcome& outcome) {
-  std::printf("%s number %lu value %lu\n  page %s\n  data %s\n", whose, static_cast<unsigned long>(SEGRUNOV_NUMBER(outcome.answer)),
-              static_cast<unsigned long>(SEGRUNOV_VALUE(outcome.answer)), hex(outcome.page).c_str(), hex(outcome.data).c_str());
+  std::printf("%s number %lu value %lu written %lu spent strip %lu\n  page %s\n  data %s\n", whose,
+              static_cast<unsigned long>(SEGRUNOV_NUMBER(outcome.answer)), static_cast<unsigned long>(SEGRUNOV_VALUE(outcome.answer)),
+              static_cast<unsigned long>(SEGRUNOV_WRITTEN(outcome.answer)), static_cast<unsigned long>(SEGRUNOV_SPENT_STRIP(outcome.answer)),
+              hex(outcome.page).c_str(), hex(outcome.data).c_str());
 }
 
 [[noreturn]] void disagree(const char* what, const Call& call, const Outcome& expected, const Outcome& got) {
@@ -448,7 +461,7 @@ void print_outcome(const char* whose, const Outcome& outcome) {
               kFunctionName[call.function], static_cast<unsigned long>(call.code), static_cast<unsigned long>(call.bytes),
               static_cast<unsigned long>(call.strips), call.weights[0], call.weights[1], call.weights[2], call.tenths, call.page.size(),
               call.map.size(), call.data.size());
-  std::printf("map %s\n", hex(call.map).c_str());
+  std::printf("count %lu map %s\n", static_cast<unsigned long>(call.count), hex(call.map).c_str());
   print_outcome("before", Outcome{0, call.page, call.data});
   print_outcome("expected", expected);
   print_outcome("got", got);
@@ -500,6 +513,13 @@ class Guarded {
 enum MapKind : unsigned { kNone, kFew, kHalf, kNearlyAll, kAll, kOneStrip, kMapKinds };
 constexpr std::array<const char*, kMapKinds> kMapName = {"none", "few", "half", "nearly all", "all", "one strip"};
 
+// The pages that lists start from.
+enum ListStart : unsigned { kErased, kHalfFull, kNearSpent, kListStarts };
+constexpr std::array<const char*, kListStarts> kStartName = {"erased", "half full", "nearly spent"};
+
+// The datas of a list: any, each a few bits from what the page reads as, or each one that the page takes.
+enum ListDatas : unsigned { kAnyDatas, kNearDatas, kFittingDatas, kListDatas };
+
 // What was met, so that a run that judged nothing of a kind cannot pass.
 struct Counts {
   std::array<std::uint64_t, kFunctions> calls{};
@@ -540,6 +560,25 @@ struct Counts {
   std::array<std::uint64_t, 2> ledgers{};           // of these, with raises counted
   std::uint64_t erases_that_keep = 0;               // erases that empty some cells and leave bits of others
   std::array<std::array<std::array<std::uint64_t, 12>, 12>, kFunctions> pairs{};  // refused with two grounds: by function, first and second
+
+  // Of the lists that the search judged.
+  std::array<std::uint64_t, kListStarts> list_starts{};   // by the page that they start from
+  std::array<std::uint64_t, 2> lists_through{};           // without a map, by code: every data written
+  std::array<std::uint64_t, 2> lists_stopped{};           // some, and then spent
+  std::array<std::uint64_t, 2> lists_at_once{};           // none, spent for the first
+  std::array<std::uint64_t, 2> mapped_lists_through{};    // with a map, the same
+  std::array<std::uint64_t, 2> mapped_lists_stopped{};
+  std::array<std::uint64_t, 2> mapped_lists_at_once{};
+  std::array<std::uint64_t, 2> lists_later_fits{};        // with and without: stopped after some, though a later data fits
+  std::array<std::uint64_t, 2> lists_later_strip{};       // stopped after some in another strip than 0
+  std::array<std::uint64_t, 2> lists_differ{};            // several written that all differ, L another number than S and neither 1
+  std::array<std::uint64_t, 2> lists_of_most{};           // of 64 datas, all written
+  std::array<std::uint64_t, 2> lists_changed{};           // spent with a changed page
+
+  // Of the lists of any shape, held against single writes alone.
+  std::array<std::uint64_t, 2> any_through{};  // by code: every data written
+  std::array<std::uint64_t, 2> any_stopped{};  // spent for one of them
+  std::array<std::uint64_t, 2> dearest{};      // every cell of the largest page climbs every step at 255
 };
 
 // How a price and a write are asked for: without weights, which means the house's, or with these.
@@ -576,7 +615,8 @@ class Judge {
     if (!page.intact() || !data.intact() || !map.intact()) disagree("bytes beside a buffer changed", call, expected, got);
     if (map.inner() != call.map) disagree("the map changed", call, expected, got);
     if (got.answer != expected.answer) disagree("answer", call, expected, got);
-    if (takes_map(call.function) && number == SEGRUNOV_DONE && !marked_stay(call.page, got.page, call.map)) {
+    const bool right_lengths = number == SEGRUNOV_DONE || number == SEGRUNOV_SPENT;
+    if (takes_map(call.function) && right_lengths && !marked_stay(call.page, got.page, call.map)) {
       disagree("bits of a marked cell changed", call, expected, got);
     }
     if (got.page != expected.page) disagree("page", call, expected, got);
@@ -800,10 +840,10 @@ class Judge {
 
   void count_map(MapKind kind) { ++counts_.maps[kind]; }
 
-  // Data that some page above this one reads as with the marked cells kept, so that a write of it is done.
-  Bytes mapped_fitting_data(const Code& code, Shape shape, Bytes page, const Bytes& map) {
+  // Data that some page above this one reads as with the marked cells kept, so that a write of it is done. One cell in so many is higher there.
+  Bytes mapped_fitting_data(const Code& code, Shape shape, Bytes page, const Bytes& map, std::uint64_t in = 3) {
     for (std::size_t n = 0; n < 8 * map.size(); ++n) {
-      if (chance(1, 3) && bit_at(map, n) == 0 && level_of(page, n) < kFull) raise_once(page, n);
+      if (chance(1, in) && bit_at(map, n) == 0 && level_of(page, n) < kFull) raise_once(page, n);
     }
     return read_page(code, shape, page);
   }
@@ -822,6 +862,94 @@ class Judge {
   void count_mapped_run(const Code& code, bool counted) {
     ++counts_.mapped_runs[code_index(code)];
     counts_.ledgers[code_index(code)] += counted ? 1 : 0;
+  }
+
+  // Judges a list, and each of its writes as a single call, by the search: without a map where none is given, and then also with a map of zeros. Each
+  // data is drawn for the page as it is by then; those behind the one that is spent would fit, so that a list that went on would write them.
+  void judge_list(const Code& code, Shape shape, const Weights& weights, const Bytes& page, const Bytes* map, std::uint32_t count, ListDatas datas) {
+    const Bytes marks = map == nullptr ? no_marks(shape) : *map;
+    const Function single = map == nullptr ? kWriteWeighted : kWriteMapped;
+    Call list = {kListMapped, code.name, shape.bytes, shape.strips, weights, page, Bytes(), 0, marks, count};
+    Outcome after = {0, page, Bytes()};
+    std::uint32_t cost = 0;
+    std::uint32_t written = 0;
+    std::vector<Bytes> all;
+    for (bool spent = false; all.size() < count;) {
+      const Bytes data = listed_data(spent ? kFittingDatas : datas, code, shape, after.page, marks);
+      all.push_back(data);
+      list.data.insert(list.data.end(), data.begin(), data.end());
+      if (spent) continue;
+      const PageSearch least = search_page(code, shape, weights, after.page, marks, data);
+      judge(Call{single, code.name, shape.bytes, shape.strips, weights, after.page, data, 0, marks}, Outcome{least.answer, least.page, data});
+      after.page = least.page;
+      spent = SEGRUNOV_NUMBER(least.answer) == SEGRUNOV_SPENT;
+      if (spent) {
+        after.answer = list_answer_of(SEGRUNOV_SPENT, cost, written, SEGRUNOV_VALUE(least.answer));
+      } else {
+        cost += SEGRUNOV_VALUE(least.answer);
+        after.answer = list_answer_of(SEGRUNOV_DONE, cost, ++written, 0);
+      }
+    }
+    after.data = list.data;
+    judge(list, after);
+    if (map == nullptr) {
+      list.function = kList;
+      judge(list, after);
+    }
+    count_list(code, shape, list, after, all);
+  }
+
+  void count_list_start(ListStart start) { ++counts_.list_starts[start]; }
+
+  // A list against the library's own single writes. There is no search here, so that any shape is quick enough.
+  void judge_list_beside_singles(const Code& code, Shape shape, const Weights& weights, const Bytes& page, const Bytes& map, std::uint32_t count) {
+    Call list = {kListMapped, code.name, shape.bytes, shape.strips, weights, page, Bytes(), 0, map, count};
+    Outcome after = {0, page, Bytes()};
+    std::uint32_t cost = 0;
+    Bytes data = read_page(code, shape, page);
+    for (std::uint32_t j = 0; j < count; ++j) {
+      if (chance(1, 12)) data = random_bytes(data.size());
+      for (std::uint64_t flips = 1 + below(3); flips > 0; --flips) flip_bit(data, below(8 * data.size()));
+      list.data.insert(list.data.end(), data.begin(), data.end());
+      if (SEGRUNOV_NUMBER(after.answer) == SEGRUNOV_SPENT) continue;
+      const Outcome one = made(Call{kWriteMapped, code.name, shape.bytes, shape.strips, weights, after.page, data, 0, map});
+      const std::uint32_t value = SEGRUNOV_VALUE(one.answer);
+      if (SEGRUNOV_NUMBER(one.answer) == SEGRUNOV_SPENT) {
+        after.answer = list_answer_of(SEGRUNOV_SPENT, cost, j, value);
+      } else {
+        cost += value;
+        after.answer = list_answer_of(SEGRUNOV_DONE, cost, j + 1, 0);
+      }
+      after.page = one.page;
+    }
+    after.data = list.data;
+    judge(list, after);
+    if (map == no_marks(shape)) {
+      list.function = kList;
+      judge(list, after);
+    }
+    ++(SEGRUNOV_NUMBER(after.answer) == SEGRUNOV_DONE ? counts_.any_through : counts_.any_stopped)[code_index(code)];
+  }
+
+  // The dearest list that there is. With each of 63 datas one cell in 21 of the largest page rises: so far apart, no other raises lead to the data as
+  // cheaply, but for a strip's last stage, whose two cells serve alike. So every cell climbs every step, at 255; the last data costs nothing.
+  void judge_dearest_list(const Code& code) {
+    constexpr std::size_t kStride = 21;
+    const Shape shape = {kMost, kMost};
+    const std::size_t cells = strip_cells(shape) * shape.strips;
+    Call list = {kList, code.name, shape.bytes, shape.strips, {255, 255, 255}, Bytes(page_length(shape), 0), Bytes(), 0, no_marks(shape), kMost};
+    Bytes wanted = list.page;
+    for (std::size_t j = 0; j < kMost; ++j) {
+      for (std::size_t cell = j % kStride; j < 3 * kStride && cell < cells; cell += kStride) flip_bit(wanted, 3 * cell + j / kStride);
+      const Bytes data = read_page(code, shape, wanted);
+      list.data.insert(list.data.end(), data.begin(), data.end());
+    }
+    const auto cost = static_cast<std::uint32_t>(3 * 255 * cells);
+    for (const Function function : {kList, kListMapped}) {
+      list.function = function;
+      judge(list, Outcome{list_answer_of(SEGRUNOV_DONE, cost, kMost, 0), Bytes(list.page.size(), 0xff), list.data});
+    }
+    ++counts_.dearest[code_index(code)];
   }
 
   void count_several_grounds() { ++counts_.several_grounds; }
@@ -848,7 +976,14 @@ class Judge {
       case kWriteMapped:
         return segrunov_write_mapped(call.code, call.bytes, call.strips, call.weights[0], call.weights[1], call.weights[2], page.pointer(),
                                      page.length(), map.pointer(), map.length(), data.pointer(), data.length());
-      default: return segrunov_erase_mapped(call.bytes, call.strips, page.pointer(), page.length(), map.pointer(), map.length(), call.tenths);
+      case kEraseMapped:
+        return segrunov_erase_mapped(call.bytes, call.strips, page.pointer(), page.length(), map.pointer(), map.length(), call.tenths);
+      case kList:
+        return segrunov_write_list(call.code, call.bytes, call.strips, call.weights[0], call.weights[1], call.weights[2], call.count, page.pointer(),
+                                   page.length(), data.pointer(), data.length());
+      default:
+        return segrunov_write_list_mapped(call.code, call.bytes, call.strips, call.weights[0], call.weights[1], call.weights[2], call.count,
+                                          page.pointer(), page.length(), map.pointer(), map.length(), data.pointer(), data.length());
     }
   }
 
@@ -927,6 +1062,33 @@ class Judge {
     counts_.decide_strips[i] += decide && shape.strips > 1 && shape.strips != shape.bytes ? 1 : 0;
     counts_.decide_largest[i] += decide && shape.strips == kMost && shape.bytes == kMost ? 1 : 0;
     counts_.marks_spend[i] += unmarked_done && !done ? 1 : 0;
+  }
+
+  Bytes listed_data(ListDatas datas, const Code& code, Shape shape, const Bytes& page, const Bytes& map) {
+    switch (datas) {
+      case kAnyDatas: return random_bytes(data_length(shape));
+      case kNearDatas: return near_data(code, shape, page);
+      default: return mapped_fitting_data(code, shape, page, map, 16);
+    }
+  }
+
+  void count_list(const Code& code, Shape shape, const Call& list, const Outcome& after, std::vector<Bytes> all) {
+    const std::size_t i = code_index(code);
+    const std::uint32_t written = SEGRUNOV_WRITTEN(after.answer);
+    const bool spent = SEGRUNOV_NUMBER(after.answer) == SEGRUNOV_SPENT;
+    const bool stopped = spent && written > 0;
+    if (list.function == kList) {
+      ++(stopped ? counts_.lists_stopped : spent ? counts_.lists_at_once : counts_.lists_through)[i];
+    } else {
+      ++(stopped ? counts_.mapped_lists_stopped : spent ? counts_.mapped_lists_at_once : counts_.mapped_lists_through)[i];
+    }
+    counts_.lists_later_fits[i] += stopped && written + 1 < list.count ? 1 : 0;
+    counts_.lists_later_strip[i] += stopped && SEGRUNOV_SPENT_STRIP(after.answer) > 0 ? 1 : 0;
+    counts_.lists_of_most[i] += written == kMost ? 1 : 0;
+    counts_.lists_changed[i] += spent && after.page != list.page ? 1 : 0;
+    std::sort(all.begin(), all.end());
+    const bool differ = std::adjacent_find(all.begin(), all.end()) == all.end();
+    counts_.lists_differ[i] += differ && written > 1 && shape.bytes != shape.strips && shape.bytes > 1 && shape.strips > 1 ? 1 : 0;
   }
 
   void count_mapped(const Code& code, const Bytes& page, const PageSearch& least) {
@@ -1167,6 +1329,11 @@ bool within(std::uint32_t number) { return number >= 1 && number <= kMost; }
 
 bool allowed_temperature(std::int16_t tenths) { return tenths >= 50 && tenths <= 400; }
 
+// Whether a length is so many times another number. The product may pass 64 bits; the quotient tells without forming it.
+bool is_times(std::uint64_t length, std::uint64_t times, std::uint64_t of) {
+  return of == 0 ? length == 0 : length % of == 0 && length / of == times;
+}
+
 // The grounds of documents 01 and 02 that apply to a call, in their order; a 7 is left to the caller.
 std::vector<std::uint32_t> grounds(const Call& call) {
   std::vector<std::uint32_t> numbers;
@@ -1177,11 +1344,10 @@ std::vector<std::uint32_t> grounds(const Call& call) {
   if (!within(call.strips)) numbers.push_back(SEGRUNOV_STRIPS);
   const bool zero = std::count(call.weights.begin(), call.weights.end(), 0) > 0;
   if (takes_weights(call.function) && zero) numbers.push_back(SEGRUNOV_WEIGHT);
-  // Six times the product may pass 64 bits; the quotient tells without forming it.
-  if (call.page.size() % 6 != 0 || call.page.size() / 6 != data_bytes) numbers.push_back(SEGRUNOV_PAGE_LENGTH);
-  const bool map_fits = call.map.size() % 2 == 0 && call.map.size() / 2 == data_bytes;
-  if (takes_map(call.function) && !map_fits) numbers.push_back(SEGRUNOV_MAP_LENGTH);
-  if (!erase && call.data.size() != data_bytes) numbers.push_back(SEGRUNOV_DATA_LENGTH);
+  if (is_list(call.function) && !within(call.count)) numbers.push_back(SEGRUNOV_COUNT);
+  if (!is_times(call.page.size(), 6, data_bytes)) numbers.push_back(SEGRUNOV_PAGE_LENGTH);
+  if (takes_map(call.function) && !is_times(call.map.size(), 2, data_bytes)) numbers.push_back(SEGRUNOV_MAP_LENGTH);
+  if (!erase && !is_times(call.data.size(), is_list(call.function) ? call.count : 1, data_bytes)) numbers.push_back(SEGRUNOV_DATA_LENGTH);
   if (erase && !allowed_temperature(call.tenths)) numbers.push_back(SEGRUNOV_TEMPERATURE);
   return numbers;
 }
@@ -1221,8 +1387,14 @@ std::size_t length_for(std::uint32_t bytes, std::uint32_t strips, std::size_t fa
   return product <= 65536 ? factor * product : factor;
 }
 
-// A call with these items at fault: bit 0 the code, 1 L, 2 S, 3 the page, 4 the data or the temperature, 5 a weight, 6 the map. Half of the pages are
-// full and hardly ever take the random data, so that 7 competes with the grounds from the input.
+// The data of so many with that many bytes each, also with a bad count as far as memory allows.
+std::size_t list_length_for(std::uint32_t count, std::size_t data_bytes) {
+  const std::uint64_t product = count * std::uint64_t{data_bytes};
+  return product <= 1048576 ? product : data_bytes;
+}
+
+// A call with these items at fault: bit 0 the code, 1 L, 2 S, 3 the page, 4 the data or the temperature, 5 a weight, 6 the map, 7 the count. Half of
+// the pages are full and hardly ever take the random data, so that 7 competes with the grounds from the input.
 Call call_with_faults(Judge& judge, Function function, Shape shape, std::uint64_t set) {
   Call call = {function, judge.chance(1, 2) ? 3U : 7U, shape.bytes, shape.strips, judge.random_weights(), Bytes(), Bytes(), 250};
   if ((set & 1) != 0) call.code = bad_code(judge);
@@ -1231,6 +1403,10 @@ Call call_with_faults(Judge& judge, Function function, Shape shape, std::uint64_
   if ((set & 32) != 0) call.weights[judge.below(kFull)] = 0;
   std::size_t page_bytes = length_for(call.bytes, call.strips, 6);
   std::size_t data_bytes = length_for(call.bytes, call.strips, 1);
+  if (is_list(function)) {
+    call.count = (set & 128) != 0 ? bad_number(judge) : judge.chance(1, 8) ? kMost : static_cast<std::uint32_t>(1 + judge.below(4));
+    data_bytes = list_length_for(call.count, data_bytes);
+  }
   if ((set & 8) != 0) page_bytes = bad_length(judge, page_bytes);
   if ((set & 16) != 0) data_bytes = bad_length(judge, data_bytes);
   if (is_erase(function) && (set & 16) != 0) call.tenths = bad_temperature(judge);
@@ -1243,26 +1419,36 @@ Call call_with_faults(Judge& judge, Function function, Shape shape, std::uint64_
   return call;
 }
 
+// Functions whose refusals are judged together, from the first to before the last, and how many of the items they have.
+struct Group {
+  unsigned first;
+  unsigned last;
+  std::uint64_t items;
+  const char* section;
+};
+constexpr Group kPlainCalls = {0, kUnmapped, 6, "refusals"};
+constexpr Group kMappedCalls = {kUnmapped, kSingle, 7, "refusals with a map"};
+constexpr Group kListCalls = {kSingle, kFunctions, 8, "refusals of lists"};
+
 // Few of the items at fault as a rule, now and then any of them.
-Call spoiled_call(Judge& judge, bool mapped) {
-  const auto function = static_cast<Function>(mapped ? kUnmapped + judge.below(kFunctions - kUnmapped) : judge.below(kUnmapped));
+Call spoiled_call(Judge& judge, const Group& group) {
+  const auto function = static_cast<Function>(group.first + judge.below(group.last - group.first));
   Shape shape = {static_cast<std::uint32_t>(1 + judge.below(4)), static_cast<std::uint32_t>(1 + judge.below(4))};
   if (judge.chance(1, 8)) shape = Shape{kMost, kMost};
-  const std::uint64_t items = mapped ? 7 : 6;
-  const std::uint64_t sets = std::uint64_t{1} << items;
-  const std::uint64_t set = judge.chance(1, 3) ? std::uint64_t{1} << judge.below(items) : judge.below(sets) & judge.below(sets);
+  const std::uint64_t sets = std::uint64_t{1} << group.items;
+  const std::uint64_t set = judge.chance(1, 3) ? std::uint64_t{1} << judge.below(group.items) : judge.below(sets) & judge.below(sets);
   return call_with_faults(judge, function, shape, set);
 }
 
-void refusals(Judge& judge, unsigned rounds, bool mapped) {
+void refusals(Judge& judge, unsigned rounds, const Group& group) {
   for (unsigned round = 0; round < rounds; ++round) {
-    const Call call = spoiled_call(judge, mapped);
+    const Call call = spoiled_call(judge, group);
     const std::vector<std::uint32_t> numbers = grounds(call);
     if (numbers.empty()) continue;
     judge.judge_refusal(call, numbers.front());
     if (numbers.size() > 1) judge.count_several_grounds();
   }
-  progress(judge, mapped ? "refusals with a map" : "refusals");
+  progress(judge, group.section);
 }
 
 // The numbers with which a function can refuse, in the order in which they are tested.
@@ -1275,6 +1461,8 @@ std::vector<std::uint32_t> refusals_of(Function function) {
     case kPriceMapped:
     case kWriteMapped: return {1, 2, 3, 9, 4, 11, 5, 7};
     case kEraseMapped: return {2, 3, 4, 11, 8};
+    case kList: return {1, 2, 3, 9, 10, 4, 5, 7};
+    case kListMapped: return {1, 2, 3, 9, 10, 4, 11, 5, 7};
     default: return {1, 2, 3, 4, 5, 7};
   }
 }
@@ -1288,6 +1476,7 @@ std::uint64_t item_of(std::uint32_t number) {
     case SEGRUNOV_PAGE_LENGTH: return 8;
     case SEGRUNOV_WEIGHT: return 32;
     case SEGRUNOV_MAP_LENGTH: return 64;
+    case SEGRUNOV_COUNT: return 128;
     case SEGRUNOV_SPENT: return 0;
     default: return 16;
   }
@@ -1300,7 +1489,7 @@ void two_grounds(Judge& judge, Function function, std::uint32_t first, std::uint
   Call call = call_with_faults(judge, function, shape, item_of(first) | item_of(second));
   std::vector<std::uint32_t> wanted = {first};
   if (second == SEGRUNOV_SPENT) {
-    const bool by_marks = judge.chance(1, 2);
+    const bool by_marks = takes_map(function) && judge.chance(1, 2);
     call.page.assign(call.page.size(), by_marks ? 0x00 : 0xff);
     call.data.assign(call.data.size(), by_marks ? 0xff : 0x00);
     if (by_marks) call.map.assign(call.map.size(), 0xff);
@@ -1308,14 +1497,15 @@ void two_grounds(Judge& judge, Function function, std::uint32_t first, std::uint
     wanted.push_back(second);
   }
   const std::vector<std::uint32_t> numbers = grounds(call);
-  // A length that fits an L or S far beyond the limits is not to be had: then there is a third ground.
-  if (numbers == wanted) judge.count_pair(function, first, second);
+  // A length that fits an L, S or count far beyond the limits is not to be had: then there is a third ground. And for no data no page is spent.
+  const bool both = numbers == wanted && (second != SEGRUNOV_SPENT || !call.data.empty());
+  if (both) judge.count_pair(function, first, second);
   judge.judge_refusal(call, numbers.front());
 }
 
-// Every two grounds of the calls with a map.
-void pairs_of_grounds(Judge& judge, unsigned rounds) {
-  for (unsigned f = kUnmapped; f < kFunctions; ++f) {
+// Every two grounds of some calls.
+void pairs_of_grounds(Judge& judge, unsigned rounds, const Group& group) {
+  for (unsigned f = group.first; f < group.last; ++f) {
     const auto function = static_cast<Function>(f);
     const std::vector<std::uint32_t> order = refusals_of(function);
     for (std::size_t i = 0; i < order.size(); ++i) {
@@ -1504,16 +1694,75 @@ void mapped_cases(Judge& judge, unsigned factor) {
   mapped_shapes(judge, 300 * factor);
   mapped_large_pages(judge);
   mapped_runs(judge, 60 * factor);
-  refusals(judge, 10000 * factor, true);
-  pairs_of_grounds(judge, 40 * factor);
+  refusals(judge, 10000 * factor, kMappedCalls);
+  pairs_of_grounds(judge, 40 * factor, kMappedCalls);
   mapped_erases(judge, 2000 * factor);
+}
+
+// ---------------------------------------------------------------- the lists
+
+Bytes list_page(Judge& judge, ListStart start, Shape shape) {
+  switch (start) {
+    case kErased: return Bytes(page_length(shape), 0);
+    case kHalfFull: return judge.random_bits(page_length(shape), 1, 2);
+    default: return judge.random_full_cells(page_length(shape), 3, 4);
+  }
+}
+
+// From 1 to 64 datas; every eighth list has 64.
+std::uint32_t list_count(Judge& judge) { return judge.chance(1, 8) ? kMost : static_cast<std::uint32_t>(1 + judge.below(kMost)); }
+
+// One list without a map and one with, of each kind of datas and from each page.
+void lists_of_shape(Judge& judge, const Code& code, Shape shape) {
+  for (unsigned s = 0; s < kListStarts; ++s) {
+    for (unsigned d = 0; d < kListDatas; ++d) {
+      const auto start = static_cast<ListStart>(s);
+      const auto datas = static_cast<ListDatas>(d);
+      const Bytes map = judge.map_of_kind(judge.chance(1, 2) ? kFew : random_kind(judge), shape);
+      judge.judge_list(code, shape, some_weights(judge), list_page(judge, start, shape), nullptr, list_count(judge), datas);
+      judge.judge_list(code, shape, some_weights(judge), list_page(judge, start, shape), &map, list_count(judge), datas);
+      judge.count_list_start(start);
+      judge.count_list_start(start);
+    }
+  }
+}
+
+void lists(Judge& judge, unsigned rounds) {
+  for (unsigned round = 0; round < rounds; ++round) {
+    for (unsigned i = 0; i < 4; ++i) lists_of_shape(judge, kCodes[0], random_shape(judge, 24));
+    for (const Code& code : kCodes) lists_of_shape(judge, code, random_shape(judge, 3));
+    if (round % 10 == 9) lists_of_shape(judge, kCodes[1], round % 20 == 9 ? Shape{2, 3} : Shape{3, 2});
+  }
+  progress(judge, "lists");
+}
+
+void list_beside_singles(Judge& judge, const Code& code, Shape shape) {
+  const auto start = static_cast<ListStart>(judge.below(kListStarts));
+  const Bytes map = judge.chance(1, 2) ? no_marks(shape) : judge.map_of_kind(kFew, shape);
+  judge.judge_list_beside_singles(code, shape, some_weights(judge), list_page(judge, start, shape), map, list_count(judge));
+}
+
+void lists_of_any_shape(Judge& judge, unsigned rounds) {
+  for (const Code& code : kCodes) {
+    for (const Shape shape : {Shape{64, 64}, Shape{64, 1}, Shape{1, 64}, Shape{63, 64}, Shape{64, 63}}) list_beside_singles(judge, code, shape);
+    for (unsigned round = 0; round < rounds; ++round) list_beside_singles(judge, code, any_shape(judge));
+    judge.judge_dearest_list(code);
+  }
+  progress(judge, "lists of any shape");
+}
+
+void list_cases(Judge& judge, unsigned factor) {
+  lists(judge, 25 * factor);
+  lists_of_any_shape(judge, 50 * factor);
+  refusals(judge, 10000 * factor, kListCalls);
+  pairs_of_grounds(judge, 40 * factor, kListCalls);
 }
 
 // ---------------------------------------------------------------- the verdict
 
 // Prints a count; false if the kind was never met.
 bool met(const char* kind, const char* of, std::uint64_t count) {
-  std::printf("  %-29s %-14s %llu\n", kind, of, static_cast<unsigned long long>(count));
+  std::printf("  %-29s %-17s %llu\n", kind, of, static_cast<unsigned long long>(count));
   return count > 0;
 }
 
@@ -1568,6 +1817,21 @@ bool every_kind_met(const Counts& counts) {
   all = met_for_both_codes("mapped runs until spent", counts.mapped_runs) && all;
   all = met_for_both_codes("of these with raises counted", counts.ledgers) && all;
   all = met("erases that keep marked cells", "", counts.erases_that_keep) && all;
+  for (unsigned start = 0; start < kListStarts; ++start) all = met("lists by their page", kStartName[start], counts.list_starts[start]) && all;
+  all = met_for_both_codes("lists written through", counts.lists_through) && all;
+  all = met_for_both_codes("lists stopped after some", counts.lists_stopped) && all;
+  all = met_for_both_codes("lists stopped at once", counts.lists_at_once) && all;
+  all = met_for_both_codes("mapped lists written through", counts.mapped_lists_through) && all;
+  all = met_for_both_codes("mapped lists stopped after", counts.mapped_lists_stopped) && all;
+  all = met_for_both_codes("mapped lists stopped at once", counts.mapped_lists_at_once) && all;
+  all = met_for_both_codes("stopped, a later data fits", counts.lists_later_fits) && all;
+  all = met_for_both_codes("stopped in a later strip", counts.lists_later_strip) && all;
+  all = met_for_both_codes("spent with a changed page", counts.lists_changed) && all;
+  all = met_for_both_codes("lists of 64 written through", counts.lists_of_most) && all;
+  all = met_for_both_codes("differing datas, L not S", counts.lists_differ) && all;
+  all = met_for_both_codes("of any shape, written through", counts.any_through) && all;
+  all = met_for_both_codes("of any shape, stopped", counts.any_stopped) && all;
+  all = met_for_both_codes("dearest lists", counts.dearest) && all;
   for (unsigned f = kUnmapped; f < kFunctions; ++f) all = every_pair_met(counts, static_cast<Function>(f)) && all;
   for (unsigned f = 0; f < kFunctions; ++f) {
     for (const std::uint32_t number : refusals_of(static_cast<Function>(f))) {
@@ -1588,10 +1852,11 @@ int compare(std::uint64_t seed, unsigned factor) {
   random_shapes(judge, 200 * factor);
   large_pages(judge, 30 * factor);
   runs(judge, 50 * factor);
-  refusals(judge, 20000 * factor, false);
+  refusals(judge, 20000 * factor, kPlainCalls);
   erases(judge, 2000 * factor);
   older_runs(judge, 5 * factor);
   mapped_cases(judge, factor);
+  list_cases(judge, factor);
   const bool complete = every_kind_met(judge.counts());
   if (!complete) give_up("a kind was never met");
   if (judge.calls() < 20000) give_up("fewer than 20000 calls");
