@@ -1,7 +1,7 @@
 /*
- * Measures each call: the most stack that it needs, over both codes and the ends of L and S, and its time on the largest page. Fails where a
- * call is refused or needs more stack than SEGRUNOV_STACK says, and where a price needs more than 2 KiB, or not the same for L = 1 and L = 64:
- * it keeps no array with a place for each stage or cell.
+ * Measures each call: the most stack that it needs, over both codes and the ends of L and S, and its time on the largest page. A list has two datas.
+ * Fails where a call is refused or needs more stack than SEGRUNOV_STACK says, and where a price needs more than 2 KiB, or not the same for L = 1 and
+ * L = 64: it keeps no array with a place for each stage or cell.
  */
 #define _POSIX_C_SOURCE 200809L
 #define _XOPEN_SOURCE 700
@@ -12,17 +12,17 @@
 
 #include "segrunov.h"
 
-enum { MOST = 64, STACK = 1 << 16, PRICE_STACK = 2048, ROUNDS = 40 };
+enum { MOST = 64, LISTED = 2, STACK = 1 << 16, PRICE_STACK = 2048, ROUNDS = 40 };
 
 static const uint8_t PAINT = 0xc3;
 static const uint32_t CODES[] = {SEGRUNOV_SHORT, SEGRUNOV_LONG};
 static const uint32_t STRIPS[] = {1, MOST};
 
-/* What the calls are made with; L and S say how much of the page, of the map and of the data is used. */
+/* What the calls are made with; L and S say how much of the page, of the map and of the data is used. There is data for a list. */
 static uint32_t code, bytes, strips;
 static uint8_t page[SEGRUNOV_PAGE_BYTES(MOST, MOST)];
 static uint8_t map[SEGRUNOV_MAP_BYTES(MOST, MOST)];
-static uint8_t data[SEGRUNOV_DATA_BYTES(MOST, MOST)];
+static uint8_t data[SEGRUNOV_LIST_BYTES(LISTED, MOST, MOST)];
 static uint64_t answer;
 
 static uint8_t stack[STACK];
@@ -42,6 +42,11 @@ static size_t map_bytes(void)
 static size_t data_bytes(void)
 {
     return SEGRUNOV_DATA_BYTES(bytes, strips);
+}
+
+static size_t list_bytes(void)
+{
+    return SEGRUNOV_LIST_BYTES(LISTED, bytes, strips);
 }
 
 static void no_call(void)
@@ -95,6 +100,16 @@ static void call_erase_mapped(void)
     answer = segrunov_erase_mapped(bytes, strips, page, page_bytes(), map, map_bytes(), 200);
 }
 
+static void call_write_list(void)
+{
+    answer = segrunov_write_list(code, bytes, strips, 1, 254, 255, LISTED, page, page_bytes(), data, list_bytes());
+}
+
+static void call_write_list_mapped(void)
+{
+    answer = segrunov_write_list_mapped(code, bytes, strips, 1, 254, 255, LISTED, page, page_bytes(), map, map_bytes(), data, list_bytes());
+}
+
 struct call {
     const char *name;
     void (*make)(void);
@@ -111,6 +126,8 @@ static const struct call CALLS[] = {
     {"price_mapped", call_price_mapped},
     {"write_mapped", call_write_mapped},
     {"erase_mapped", call_erase_mapped},
+    {"write_list", call_write_list},
+    {"write_list_mapped", call_write_list_mapped},
 };
 
 static int is_price(const struct call *call)
@@ -118,8 +135,13 @@ static int is_price(const struct call *call)
     return strstr(call->name, "price") != NULL;
 }
 
+static int is_list(const struct call *call)
+{
+    return strstr(call->name, "list") != NULL;
+}
+
 /* An erased page, a map that marks at most one cell of a stage, and data that differs from round to round. A stage with a free cell below level 3 can
- * show either bit, so that the page takes every data. */
+ * show either bit, so that the page takes every data, and every second one too: a write raises a cell by one level at most. */
 static void renew(void)
 {
     static uint64_t seed = 20261115;
@@ -232,7 +254,8 @@ int main(void)
     for (i = 0; i < sizeof CALLS / sizeof *CALLS; i++) {
         const struct call *call = &CALLS[i];
         const size_t most = most_needed(call);
-        printf("%-14s  stack %5zu bytes   %8.3f ms for a page of 64 strips of 64 bytes, code 7\n", call->name, most, least_time(call));
+        printf("%-17s  stack %5zu bytes   %8.3f ms for a page of 64 strips of 64 bytes, code 7%s\n", call->name, most, least_time(call),
+               is_list(call) ? ", two datas" : "");
     }
     return failed;
 }
