@@ -1,6 +1,7 @@
 #!/usr/bin/env python3
 """Fails where a number that include/segrunov.h defines is another one than in the definitions, or stands in none of them, where the bytes that a
-page or its map has for each byte of data are others than in the code, and where tests/measure.c lacks a call that the header declares.
+page or its map has for each byte of data are others than in the code, where the fields of an answer are not those of the definitions, and where
+tests/measure.c lacks a call that the header declares.
 
 The stack is no number of the definitions: tests/measure.c holds it against the calls.
 """
@@ -11,6 +12,8 @@ from repository import finish, read
 CLIMBS = "crates/cells/specs/Climbs.antt"
 REFUSALS = "crates/refusals/specs/Refusals.antt"
 ANSWERS = "crates/page/specs/Answers.antt"
+LISTS = "crates/page/specs/Lists.antt"
+WORDS = "crates/firmware/specs/Words.antt"
 CODES = "crates/codes/src/lib.rt"
 
 # For each number, the definition that has it.
@@ -26,18 +29,29 @@ DEFINED = {
     "SPENT": (ANSWERS, "numberOf (A.Spent strip) = {}"),
     "TEMPERATURE": (REFUSALS, "refusalNumber EraseTemperature = {}"),
     "WEIGHT": (REFUSALS, "refusalNumber WeightZero = {}"),
+    "COUNT": (REFUSALS, "refusalNumber CountOutside = {}"),
     "MAP_LENGTH": (REFUSALS, "refusalNumber MapLength = {}"),
     "HOUSE_W1": (CLIMBS, "house = {} ∷ 20 ∷ 28 ∷ []"),
     "HOUSE_W2": (CLIMBS, "house = 16 ∷ {} ∷ 28 ∷ []"),
     "HOUSE_W3": (CLIMBS, "house = 16 ∷ 20 ∷ {} ∷ []"),
     "MAX_COST": (ANSWERS, "largestCost = {}"),
     "MAX_WEIGHTED_COST": (ANSWERS, "largestWeightedCost = {}"),
+    "MAX_LIST": (REFUSALS, "oneTo64 n = leb 1 n && leb n {}"),
+    "MAX_LIST_COST": (LISTS, "largestListCost = {}"),
     "PAGE_BYTES": (CODES, "pub const STRIP_BYTES: usize = {};"),
     "MAP_BYTES": (CODES, "pub const MAP_BYTES: usize = {};"),
 }
 
 # What the bytes for each byte of data are multiplied by.
 TIMES = re.escape("(size_t)(bytes) * (size_t)(strips)")
+
+# The fields of an answer, the lowest first, and the definitions that say at which power of two each but the first begins.
+FIELDS = ["VALUE", "NUMBER", "WRITTEN", "SPENT_STRIP"]
+PLACES = [
+    "answerWord a = numberOf a * 2 ^ {NUMBER} + valueOf a",
+    "completionWord c = completionNumber c * 2 ^ {NUMBER}",
+    "listWord a = a .cost + listNumber a * 2 ^ {NUMBER} + a .written * 2 ^ {WRITTEN} + listStrip a * 2 ^ {SPENT_STRIP}",
+]
 
 
 def wrong(name, number):
@@ -55,14 +69,32 @@ def unmeasured(function):
     return [] if there else [f"include/segrunov.h declares {function}, and tests/measure.c does not measure it"]
 
 
+def misplaced(header):
+    """What is wrong with the fields of an answer: where they begin, and that each but the last ends where the next begins."""
+    macro = r"^#define SEGRUNOV_(\w+)\(answer\) \(\(uint32_t\)\(\(answer\)(?: >> (\d+))?(?: & UINT64_C\(0x(f+)\))?\)\)$"
+    found = {name: (int(begins or 0), 4 * len(digits)) for name, begins, digits in re.findall(macro, header, re.M)}
+    if list(found) != FIELDS:
+        return [f"include/segrunov.h has the fields {', '.join(found)} of an answer, and not {', '.join(FIELDS)}"]
+    places = {name: begins for name, (begins, _) in found.items()}
+    lines = read(WORDS).splitlines()
+    bad = [f"include/segrunov.h: {WORDS} has no line '{line.format(**places)}'" for line in PLACES if line.format(**places) not in lines]
+    for name, following in zip(FIELDS, FIELDS[1:]):
+        begins, bits = found[name]
+        if begins + bits != places[following]:
+            bad.append(f"include/segrunov.h: SEGRUNOV_{name} does not end where SEGRUNOV_{following} begins")
+    return bad
+
+
 def main():
     calls = re.findall(r"^uint64_t (segrunov\w+)\(", read("include/segrunov.h"), re.M)
     numbers = dict(re.findall(r"^#define SEGRUNOV_(\w+) UINT(?:8|32)_C\((\d+)\)", read("include/segrunov.h"), re.M))
     numbers |= re.findall(rf"^#define SEGRUNOV_(\w+)\(bytes, strips\) \(\(size_t\)(\d+) \* {TIMES}\)$", read("include/segrunov.h"), re.M)
     bad = [line for name, number in numbers.items() for line in wrong(name, number)]
     bad += [f"include/segrunov.h does not define SEGRUNOV_{name}" for name in DEFINED if name not in numbers]
+    bad += misplaced(read("include/segrunov.h"))
     bad += [line for call in calls for line in unmeasured(call)]
-    finish(bad, f"include/segrunov.h: {len(numbers)} numbers, each as in the definitions; {len(calls)} calls, each measured")
+    seen = f"{len(numbers)} numbers and {len(FIELDS)} fields, each as in the definitions; {len(calls)} calls, each measured"
+    finish(bad, f"include/segrunov.h: {seen}")
 
 
 main()
