@@ -4,6 +4,8 @@
  *   start    read the image that the page holds
  *   store    price the new image, and write it where the page takes it; where the page is spent, keep the old image and ask for an erase
  *   erase    within the limits of the flash's certificate, 5.0 to 40.0 degrees Celsius
+ *   enqueue  keep an image in RAM with a battery while the supply is too low to program the flash
+ *   catch_up at the next start: write the images that queued up by one call, and program the page once; where it is spent, erase it and go on
  *
  * The page is worked on in RAM. The three functions of the driver below stand for the real ones of a NOR flash: an erase makes its bits ones, and
  * programming turns ones into zeros. The library's erased page is zeros, and a write turns zeros into ones: so the driver complements every byte, on
@@ -24,6 +26,11 @@ enum { STRIP_BYTES = 8, STRIPS = 4 };
 #define PAGE_BYTES SEGRUNOV_PAGE_BYTES(STRIP_BYTES, STRIPS)
 
 static uint8_t page[STRIP_BYTES * STRIPS * 6];
+
+/* The images that queue up, the oldest first, how many there are, and how many of them are programmed by now. One call takes 64 at most. */
+enum { QUEUE = 16 };
+static uint8_t queue[QUEUE * STRIP_BYTES * STRIPS];
+static uint32_t queued, caught_up;
 
 /* The driver: the flash of this example is an array. */
 static uint8_t flash[sizeof page];
@@ -83,14 +90,67 @@ static enum store_result store(const uint8_t *image)
     }
 }
 
-/* Erases the page, and stores the image anew; false where it is too cold or too warm, and the old image stays, or where the flash failed. */
-static bool erase(const uint8_t *image, int16_t tenths)
+/* Erases the page; false where it is too cold or too warm, and the page stays as it is. */
+static bool erase_page(int16_t tenths)
 {
     if (SEGRUNOV_NUMBER(segrunov_erase(STRIP_BYTES, STRIPS, page, sizeof page, tenths)) != SEGRUNOV_DONE) {
         return false;
     }
     flash_erase();
-    return store(image) == STORED;
+    return true;
+}
+
+/* Erases the page, and stores the image anew; false where it is too cold or too warm, and the old image stays, or where the flash failed. */
+static bool erase(const uint8_t *image, int16_t tenths)
+{
+    return erase_page(tenths) && store(image) == STORED;
+}
+
+/* Keeps an image until the flash can be programmed again. While some wait, newer ones are put behind them. False where the queue is full. */
+static bool enqueue(const uint8_t *image)
+{
+    if (queued == QUEUE) {
+        return false;
+    }
+    memcpy(queue + queued * IMAGE_BYTES, image, IMAGE_BYTES);
+    queued++;
+    return true;
+}
+
+/*
+ * Writes the images that queued up, once start has loaded the page, which is then as if each had been stored in its time. A list that stops with a 7
+ * has written the images before that one: they are programmed as those of a list that is done, and the next list begins behind them, on the erased
+ * page. Where it is too cold or too warm to erase it, the flash holds the last of them, and the others wait. An erased page takes every image, so
+ * that each round gets on.
+ */
+static enum store_result catch_up(int16_t tenths)
+{
+    while (caught_up < queued) {
+        const uint32_t count = queued - caught_up;
+        const uint64_t answer = segrunov_write_list(SEGRUNOV_LONG, STRIP_BYTES, STRIPS, SEGRUNOV_HOUSE_W1, SEGRUNOV_HOUSE_W2, SEGRUNOV_HOUSE_W3,
+                                                    count, page, sizeof page, queue + caught_up * IMAGE_BYTES, count * IMAGE_BYTES);
+        if (SEGRUNOV_VALUE(answer) != 0 && !flash_program()) {
+            return FAULT;
+        }
+        caught_up += SEGRUNOV_WRITTEN(answer);
+        if (SEGRUNOV_NUMBER(answer) == SEGRUNOV_SPENT) {
+            if (!erase_page(tenths)) {
+                return ERASE_WANTED;
+            }
+        } else if (SEGRUNOV_NUMBER(answer) != SEGRUNOV_DONE) {
+            return FAULT;
+        }
+    }
+    caught_up = 0; /* first: were the supply lost after the other, images to come would be taken for written */
+    queued = 0;
+    return STORED;
+}
+
+/* Whether the flash holds this image: what a restart would read. */
+static bool held(const uint8_t *image)
+{
+    uint8_t again[STRIP_BYTES * STRIPS];
+    return start(again) && memcmp(again, image, sizeof again) == 0;
 }
 
 int main(void)
@@ -129,12 +189,27 @@ int main(void)
         return 1;
     }
     printf("at 25.0 degrees the page is erased and the image stored\n");
-    /* What a restart would read is what was stored. */
-    {
-        uint8_t again[sizeof image];
-        if (!start(again) || memcmp(again, image, sizeof image) != 0) {
+    if (!held(image)) {
+        return 1;
+    }
+    /* The supply is low for a while, and every byte of the image changes. */
+    while (queued < QUEUE) {
+        size_t i;
+        for (i = 0; i < sizeof image; i++) {
+            image[i] = (uint8_t)(image[i] * 5u + i + 1u);
+        }
+        if (!enqueue(image)) {
             return 1;
         }
     }
+    if (enqueue(image) || catch_up(450) != ERASE_WANTED || caught_up == 0 || !held(queue + (caught_up - 1) * IMAGE_BYTES)) {
+        return 1;
+    }
+    printf("images that queued up: %u, written by one call: %u; for the next the page is spent, and at 45.0 degrees not erased\n", (unsigned)queued,
+           (unsigned)caught_up);
+    if (catch_up(250) != STORED || !held(image)) {
+        return 1;
+    }
+    printf("at 25.0 degrees the page is erased and the others are written\n");
     return PAGE_BYTES == sizeof page ? 0 : 1;
 }
