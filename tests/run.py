@@ -108,15 +108,28 @@ def part(data, size, k):
 
 
 def write_page(code, length, strips, page, data, weights=HOUSE, marks=None):
-    """The page after, the answer's number and the cost. The run program writes with the house's weights and no map."""
+    """The page after, the answer's number and its value: the cost, or the strip that is spent. The run program writes with the house's weights and
+    no map."""
     marks = marks or bytes(2 * length * strips)
     after, cost = b"", 0
     for k in range(strips):
         found = write_strip(code, weights, part(page, 6 * length, k), part(marks, 2 * length, k), part(data, length, k))
         if found is None:
-            return page, 7, 0
+            return page, 7, k
         after, cost = after + found[0], cost + found[1]
     return after, 0, cost
+
+
+def write_list(code, length, strips, page, datas, weights=HOUSE, marks=None):
+    """A list of writes (document 02, K2) as single writes in turn: the page after, the answer's number, how many are written, the strip that is spent
+    and the summed cost. The run program has no such list."""
+    total = 0
+    for written, data in enumerate(datas):
+        page, number, found = write_page(code, length, strips, page, data, weights, marks)
+        if number:
+            return page, number, written, found, total
+        total += found
+    return page, 0, len(datas), 0, total
 
 
 # ---- the text
@@ -157,11 +170,11 @@ def model(text):
     for number, line in enumerate(lines[3:], 1):
         if number > 1000 or len(line) != 2 * length * strips or any(c not in b"0123456789abcdef" for c in line):
             return out + fault(6, number + 3)
-        page_after, answer, cost = write_page(code, length, strips, page, bytes.fromhex(line.decode()))
+        page_after, answer, found = write_page(code, length, strips, page, bytes.fromhex(line.decode()))
         if page_after != page:
             page = page_after
             levels = sum(bin(byte).count("1") for byte in page)
-        out += b"%d %d %d %d\n" % (number, answer, cost, levels)
+        out += b"%d %d %d %d\n" % (number, answer, 0 if answer else found, levels)
     if unended:
         out += fault(6, len(lines) + 1)
     return out

@@ -51,6 +51,22 @@ fn print_answer(name: &[u8], answer: u64) {
     io::write_all(STDOUT_FILENO, b"\n");
 }
 
+// A list's answer as C sees it, field by field, and what the page is then.
+fn print_list(name: &[u8], answer: u64, page: &[u8]) {
+    io::write_all(STDOUT_FILENO, name);
+    io::write_all(STDOUT_FILENO, b": answer ");
+    io::print_decimal(STDOUT_FILENO, answer / 4294967296 % 256);
+    io::write_all(STDOUT_FILENO, b" written ");
+    io::print_decimal(STDOUT_FILENO, answer / 1099511627776 % 256);
+    io::write_all(STDOUT_FILENO, b" strip ");
+    io::print_decimal(STDOUT_FILENO, answer / 281474976710656);
+    io::write_all(STDOUT_FILENO, b" cost ");
+    io::print_decimal(STDOUT_FILENO, answer % 4294967296);
+    io::write_all(STDOUT_FILENO, b" page ");
+    print_bytes(page);
+    io::write_all(STDOUT_FILENO, b"\n");
+}
+
 // A read into the data, and what page and data are then.
 fn show_read(code: u32, bytes: u32, strips: u32, page: &[u8], data: &mut [u8]) {
     print_answer(
@@ -139,7 +155,55 @@ fn show_mapped_on(
     show_read(code, bytes, strips, page, data);
 }
 
-// The same with one byte of data.
+// A list of writes.
+fn show_list(
+    name: &[u8],
+    code: u32,
+    bytes: u32,
+    strips: u32,
+    weights: [u8; 3],
+    count: u32,
+    page: &mut [u8],
+    data: &[u8],
+) {
+    let w1 = weights[0];
+    let w2 = weights[1];
+    let w3 = weights[2];
+    let answer = firmware::segrunov_write_list(code, bytes, strips, w1, w2, w3, count, page, data);
+    print_list(name, answer, page);
+}
+
+// The same with a map of marked cells.
+fn show_mapped_list(
+    name: &[u8],
+    code: u32,
+    bytes: u32,
+    strips: u32,
+    weights: [u8; 3],
+    count: u32,
+    page: &mut [u8],
+    map: &[u8],
+    data: &[u8],
+) {
+    let w1 = weights[0];
+    let w2 = weights[1];
+    let w3 = weights[2];
+    let answer = firmware::segrunov_write_list_mapped(
+        code,
+        bytes,
+        strips,
+        w1,
+        w2,
+        w3,
+        count,
+        page,
+        map,
+        data,
+    );
+    print_list(name, answer, page);
+}
+
+// The calls of show_calls_on with one byte of data.
 fn show_call(name: &[u8], code: u32, bytes: u32, strips: u32, page: &mut [u8]) {
     let mut data = [0x80u8; 1];
     show_calls_on(name, code, bytes, strips, page, &mut data);
@@ -375,6 +439,126 @@ fn show_maps() {
     );
 }
 
+// Lists of writes: the paper's seven; one for whose third data strip 1 is spent, while its fourth would fit; lists where L is not S, with other
+// weights, on one page; 64 datas; lists with a map. Then those that are refused. Answers and pages by write_list, the model in tests/run.py.
+fn show_lists() {
+    let house = cells::house_weights();
+    let seven = [0x80, 0, 0x80, 0, 0x80, 0, 0x80];
+    show_list(b"seven writes", 3, 1, 1, house, 7, &mut [0u8; 6], &seven);
+    let mut two = [0, 0, 0, 0, 0, 0, 0xff, 0xff, 0xff, 0xff, 0xff, 0xff];
+    let four = [0x80, 0xfe, 0x00, 0xfe, 0x81, 0x80, 0x40, 0xfe];
+    show_list(b"spent at the third", 3, 1, 2, house, 4, &mut two, &four);
+    let mut page = [0u8; 36];
+    let three = b"\x01\x23\x45\x67\x89\xab\xba\x98\x76\x54\x32\x10\x0f\x1e\x2d\x3c\x4b\x5a";
+    show_list(
+        b"L = 2, S = 3, code 3",
+        3,
+        2,
+        3,
+        [1, 2, 3],
+        3,
+        &mut page,
+        three,
+    );
+    let others = b"\xfe\xed\xc0\xff\xee\x42\x61\x7b\x0f\xed\xa7\xe1";
+    show_list(
+        b"L = 3, S = 2, code 7",
+        7,
+        3,
+        2,
+        [255, 1, 2],
+        2,
+        &mut page,
+        others,
+    );
+    show_list(
+        b"64 writes",
+        3,
+        1,
+        1,
+        house,
+        64,
+        &mut [0u8; 6],
+        &[0x80u8; 64],
+    );
+    show_list(
+        b"65 writes",
+        3,
+        1,
+        1,
+        house,
+        65,
+        &mut [0x5au8; 6],
+        &[0x80u8; 65],
+    );
+    show_list(
+        b"no write",
+        3,
+        1,
+        1,
+        house,
+        0,
+        &mut [0x5au8; 6],
+        &seven[0..0],
+    );
+    show_list(
+        b"a weight of 0",
+        3,
+        1,
+        1,
+        [1, 0, 1],
+        0,
+        &mut [0x5au8; 6],
+        &seven,
+    );
+    show_list(b"a byte less", 3, 1, 1, house, 8, &mut [0x5au8; 6], &seven);
+}
+
+// And with a map of marked cells, as in show_maps.
+fn show_mapped_lists() {
+    let house = cells::house_weights();
+    let map = [0u8, 0, 0, 0, 0x80, 0x04, 0, 0, 0, 0, 0, 0];
+    let mut page = [0u8; 36];
+    page[14] = 0x40;
+    page[15] = 0x40;
+    let datas = b"\x61\x7b\x0f\xed\xa7\xe1\x6a\xb3\x78\x20\xdb\x5c";
+    show_mapped_list(
+        b"map of strip 1, code 7",
+        7,
+        2,
+        3,
+        [3, 1, 2],
+        2,
+        &mut page,
+        &map,
+        datas,
+    );
+    show_mapped_list(
+        b"a map of 11 bytes",
+        7,
+        2,
+        3,
+        [3, 1, 2],
+        2,
+        &mut page,
+        &map[0..11],
+        datas,
+    );
+    let mut strip = [0u8; 6];
+    let three = [0x00, 0x00, 0x80];
+    show_mapped_list(
+        b"every cell marked",
+        3,
+        1,
+        1,
+        house,
+        3,
+        &mut strip,
+        &[0xff, 0xff],
+        &three,
+    );
+}
+
 // The calls that the paper says are refused, and those beside them that are done.
 fn show_calls() {
     show_call(b"code 3", 3, 1, 1, &mut [0u8; 6]);
@@ -398,6 +582,8 @@ fn show_calls() {
     show_shapes();
     show_weights();
     show_maps();
+    show_lists();
+    show_mapped_lists();
 }
 
 fn main() {
