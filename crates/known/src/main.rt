@@ -440,7 +440,8 @@ fn show_maps() {
 }
 
 // Lists of writes: the paper's seven; one for whose third data strip 1 is spent, while its fourth would fit; lists where L is not S, with other
-// weights, on one page; 64 datas; lists with a map. Then those that are refused. Answers and pages by write_list, the model in tests/run.py.
+// weights, on one page; 64 datas: answers and pages by write_list, the model in tests/run.py. Then those that are refused, by the paper: nothing is
+// written, and the page stays.
 fn show_lists() {
     let house = cells::house_weights();
     let seven = [0x80, 0, 0x80, 0, 0x80, 0, 0x80];
@@ -514,7 +515,7 @@ fn show_lists() {
     show_list(b"a byte less", 3, 1, 1, house, 8, &mut [0x5au8; 6], &seven);
 }
 
-// And with a map of marked cells, as in show_maps.
+// And with a map of marked cells, as in show_maps; the one of 11 bytes is refused.
 fn show_mapped_lists() {
     let house = cells::house_weights();
     let map = [0u8, 0, 0, 0, 0x80, 0x04, 0, 0, 0, 0, 0, 0];
