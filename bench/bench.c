@@ -1,5 +1,5 @@
 /*
- * The library, with and without weights and maps, beside three Rust programs and two decoders of the same trellis.
+ * The library, with and without weights and maps and by lists, beside three Rust programs and two decoders of the same trellis.
  *
  *   bench FILE [ROUNDS]        the table of one run, and a plot into FILE: how time grows with L and S
  *   bench --tried [ROUNDS]     the shapes that were tried in 16 and 8 bits
@@ -416,6 +416,62 @@ static void measure_maps(uint32_t bytes, uint32_t strips, int rounds)
     }
 }
 
+/* ---------------------------------------------------------------- lists */
+
+enum { AS_WRITES, AS_LIST, WAYS };
+
+/* The datas of a list: 64 of a byte, or two of the largest page. */
+static uint8_t datas[2 * DATA];
+
+static double timed_list(int way, uint32_t count, uint8_t *page, uint64_t *cost)
+{
+    memcpy(page, job.page, page_length());
+    const double began = seconds();
+    if (way == AS_LIST) {
+        const uint64_t answer = segrunov_write_list(job.code, job.bytes, job.strips, SEGRUNOV_HOUSE_W1, SEGRUNOV_HOUSE_W2, SEGRUNOV_HOUSE_W3, count, page,
+                                                    page_length(), datas, count * data_length());
+        *cost = SEGRUNOV_WRITTEN(answer) == count ? SEGRUNOV_VALUE(answer) : UINT64_MAX;
+    } else {
+        *cost = 0;
+        for (uint32_t i = 0; i < count; i++) {
+            *cost += weighted_write(job.code, job.bytes, job.strips, page, page_length(), datas + i * data_length(), data_length());
+        }
+    }
+    return seconds() - began;
+}
+
+/* A list beside its single writes, on a half-full page. Where L and S are 1 all datas are the same, since 64 that differ do not fit. */
+static void measure_lists(uint32_t bytes, uint32_t strips, uint32_t count, int rounds)
+{
+    static uint8_t pages[WAYS][PAGE];
+    job.bytes = bytes;
+    job.strips = strips;
+    for (int c = 0; c < CODES; c++) {
+        double best_list[WAYS] = {0, 0};
+        job.code = codes[c];
+        for (int i = 0; i < rounds; i++) {
+            uint64_t costs[WAYS];
+            make_page(1);
+            for (uint32_t n = 0; n < count; n++) {
+                if (n == 0 || data_length() > 1) {
+                    new_data();
+                }
+                memcpy(datas + n * data_length(), job.data, data_length());
+            }
+            for (int way = 0; way < WAYS; way++) {
+                const double took = timed_list(way, count, pages[way], &costs[way]);
+                best_list[way] = i == 0 ? took : least(best_list[way], took);
+            }
+            if (costs[AS_LIST] != costs[AS_WRITES] || memcmp(pages[AS_LIST], pages[AS_WRITES], page_length()) != 0) {
+                printf("bench: a list of %u with code %u is not its single writes\n", (unsigned)count, (unsigned)job.code);
+                exit(1);
+            }
+        }
+        printf("| %u datas, L = %u, S = %u | %u | %.2f | %.2f | %.3f |\n", (unsigned)count, (unsigned)bytes, (unsigned)strips, (unsigned)codes[c],
+               1e6 * best_list[AS_LIST], 1e6 * best_list[AS_WRITES], best_list[AS_LIST] / best_list[AS_WRITES]);
+    }
+}
+
 static double decoded(void (*decode)(void), int (*right)(void), const char *name)
 {
     const double began = seconds();
@@ -470,6 +526,9 @@ static void measure(int rounds)
            "|---|---|---|---|---|---|---|\n");
     measure_maps(MOST, MOST, rounds);
     measure_maps(1, 1, 100 * rounds);
+    printf("\n| list on a half-full page | code | microseconds of the list | of its single writes | the list over them |\n|---|---|---|---|---|\n");
+    measure_lists(1, 1, MOST, 100 * rounds);
+    measure_lists(MOST, MOST, 2, rounds);
     printf("\n| decoder | its time | segrunov's write, code 7, over it: erased | half-full | random |\n|---|---|---|---|---|\n");
     print_decoder("libosmocore", osmocore);
     print_decoder("libfec", fec);
