@@ -428,8 +428,8 @@ static double timed_list(int way, uint32_t count, uint8_t *page, uint64_t *cost)
     memcpy(page, job.page, page_length());
     const double began = seconds();
     if (way == AS_LIST) {
-        const uint64_t answer = segrunov_write_list(job.code, job.bytes, job.strips, SEGRUNOV_HOUSE_W1, SEGRUNOV_HOUSE_W2, SEGRUNOV_HOUSE_W3, count, page,
-                                                    page_length(), datas, count * data_length());
+        const uint64_t answer = segrunov_write_list(job.code, job.bytes, job.strips, SEGRUNOV_HOUSE_W1, SEGRUNOV_HOUSE_W2, SEGRUNOV_HOUSE_W3, count,
+                                                    page, page_length(), datas, count * data_length());
         *cost = SEGRUNOV_WRITTEN(answer) == count ? SEGRUNOV_VALUE(answer) : UINT64_MAX;
     } else {
         *cost = 0;

@@ -439,9 +439,9 @@ fn show_maps() {
     );
 }
 
-// Lists of writes: the paper's seven; one for whose third data strip 1 is spent, while its fourth would fit; lists where L is not S, with other
-// weights, on one page; 64 datas: answers and pages by write_list, the model in tests/run.py. Then those that are refused, by the paper: nothing is
-// written, and the page stays.
+// Lists of writes: the paper's seven; one for whose third data strip 1 is spent, while its fourth would fit; lists where L is not S, with
+// other weights, on one page; 64 datas: answers and pages by write_list, the model in tests/run.py. Then those that are refused, by the
+// paper: nothing is written, and the page stays.
 fn show_lists() {
     let house = cells::house_weights();
     let seven = [0x80, 0, 0x80, 0, 0x80, 0, 0x80];

@@ -1,5 +1,5 @@
--- What a write cannot do, with any map and any weights of three bytes: raise a cell by more than one, or cost more than the dearest step for
--- each cell.
+-- What a write cannot do, with any map and any weights of three bytes: raise a cell by more than one, or cost more than the dearest step
+-- for each cell.
 --   write-near         no cell rises by more than one
 --   write-most         the cost is at most the dearest step for each cell
 --   write-largest      so at most 65,536 times that

@@ -9,8 +9,8 @@
 --   list-promised                    a list keeps its promise
 --   in-order-list                    the jobs of a list in order make its course
 --   list-bounds                      how large the fields of its answer are
-use mathlib.Core.Path.{_≡_, refl, sym, _∙_, ap, ap₂}
-use mathlib.Core.Bool.{Bool, true, false}
+use mathlib.Core.Path.{_≡_, refl, sym, _∙_, ap}
+use mathlib.Core.Bool.{Bool, true, false, cond}
 use mathlib.Core.List.{List}
 use mathlib.Core.Option.{Option, none, some}
 use Prim.Native.Nat.{ℕ, zero, suc, _<_, _≤_, _+_, _*_, _-_}
@@ -24,7 +24,7 @@ use Rattle.demand.proofs.Jobs.{part-length, part-octets}
 use Rattle.refusals.specs.Refusals.{numbered}
 use Rattle.page.specs.Answers.{oneBitJob, jobAnswer, jobPage, markedBy, mapSize, groundWith, answerWith, pageWith, valueOf, answerCost, largestWeightedCost}
 use Rattle.page.specs.Promise.{WroteBy, done, spent, refused}
-use Rattle.page.specs.Lists.{dataOf, withWrite, Course, hasEnded, unlessEnded, onward, courseAfter, unlessRefused}
+use Rattle.page.specs.Lists.{dataOf, withWrite, Course, hasEnded, afterOne, courseAfter, unlessRefused}
 use Rattle.page.specs.Lists.{refusedList, jobCourse, groundOf, listCourse, listWith, listAnswer, listPage, largestListCost, ListBounds, WroteList}
 use Rattle.page.specs.Lists.{InTurn, none-yet, one-more, ListPromised, all-written, stopped-at, not-begun}
 use Rattle.refusals.specs.declared.Refusal.{Refusal}
@@ -48,6 +48,10 @@ pub not-ended : (end : End) → hasEnded end ≡ false → end ≡ E.Done
 not-ended E.Done e = refl
 not-ended (E.Spent strip) e = let z : _≡_ {A = Bool} true false = e in absurd (let y : _≡_ {A = ℕ} 0 1 = cc in omega arith)
 not-ended (E.Refused r) e = let z : _≡_ {A = Bool} true false = e in absurd (let y : _≡_ {A = ℕ} 0 1 = cc in omega arith)
+
+-- a course with this page, so many datas written for so much, and this end
+abbrev pub courseAt : List ℕ → ℕ → ℕ → End → Course
+courseAt page written cost end = record { page = page; answer = record { written = written; cost = cost; end = end } }
 
 module _ (answers : List ℕ → List ℕ → Answer) (pages : List ℕ → List ℕ → List ℕ) (datas : ℕ → List ℕ) (before : List ℕ) where
   -- A COURSE THAT GOES ON, with one more write
@@ -74,14 +78,13 @@ module _ (answers : List ℕ → List ℕ → Answer) (pages : List ℕ → List
   course-keeps P count k b zero h = b
   course-keeps P count k b (suc n) h =
       let i = course-keeps P count k b n (omega arith) in
-      go (courseAfter answers pages datas before n .answer .end) i (k n (omega arith) _ i)
+      go _ _ _ (courseAfter answers pages datas before n .answer .end) i (k n (omega arith) _ i)
     where
-      go : (end : End) → P (courseAfter answers pages datas before n .page) → P (pages (courseAfter answers pages datas before n .page) (datas n))
-          → P (unlessEnded end (courseAfter answers pages datas before n)
-          (onward answers pages (courseAfter answers pages datas before n) (datas n)) .page)
-      go E.Done p q = q
-      go (E.Spent strip) p q = p
-      go (E.Refused r) p q = p
+      go : (p : List ℕ) (w cost : ℕ) (end : End) → P p → P (pages p (datas n))
+          → P (afterOne answers pages (courseAt p w cost end) (datas n) .page)
+      go p w cost E.Done i j = j
+      go p w cost (E.Spent strip) i j = i
+      go p w cost (E.Refused r) i j = i
 
   -- WHAT THE WRITES COST together, where none costs more than m
   pub course-cost : (m count : ℕ) → ((n : ℕ) → n < count → (p : List ℕ) → valueOf (answers p (datas n)) ≤ m) → (n : ℕ) → n ≤ count
@@ -89,15 +92,15 @@ module _ (answers : List ℕ → List ℕ → Answer) (pages : List ℕ → List
   unfolding courseAfter
   course-cost m count b zero h = omega arith
   course-cost m count b (suc n) h =
-      let p = courseAfter answers pages datas before n .page in
-      go (courseAfter answers pages datas before n .answer .end) (course-cost m count b n (omega arith)) (answers p (datas n))
-      (b n (omega arith) p)
+      let c = courseAfter answers pages datas before n in
+      go (c .answer .end) (course-cost m count b n (omega arith)) (answers (c .page) (datas n)) (b n (omega arith) (c .page))
     where
-      c : Course
-      c = courseAfter answers pages datas before n
+      so-far : Course
+      so-far = courseAfter answers pages datas before n
 
-      go : (end : End) → c .answer .cost ≤ m * n → (r : Answer) → valueOf r ≤ m
-          → unlessEnded end c (record { page = pages (c .page) (datas n); answer = withWrite (c .answer) r }) .answer .cost ≤ m * suc n
+      go : (end : End) → so-far .answer .cost ≤ m * n → (r : Answer) → valueOf r ≤ m
+          → cond (hasEnded end) so-far (record { page = pages (so-far .page) (datas n); answer = withWrite (so-far .answer) r }) .answer .cost
+          ≤ m * suc n
       go E.Done i (A.Done cost) v = omega arith
       go E.Done i (A.Spent strip) v = omega arith
       go E.Done i (A.Refused q) v = omega arith
@@ -121,20 +124,18 @@ course-alike R answers answers′ pages pages′ datas count k r (suc n) h =
   where
     go : (a b : ListAnswer) → a ≡ b → (p q : List ℕ) → R p q → answers p (datas n) ≡ answers′ q (datas n)
         → R (pages p (datas n)) (pages′ q (datas n))
-        → (unlessEnded (a .end) (record { page = p; answer = a }) (onward answers pages (record { page = p; answer = a }) (datas n)) .answer
-        ≡ unlessEnded (b .end) (record { page = q; answer = b }) (onward answers′ pages′ (record { page = q; answer = b }) (datas n)) .answer)
-        × R (unlessEnded (a .end) (record { page = p; answer = a }) (onward answers pages (record { page = p; answer = a }) (datas n)) .page)
-        (unlessEnded (b .end) (record { page = q; answer = b }) (onward answers′ pages′ (record { page = q; answer = b }) (datas n)) .page)
-    go a b e p q r s t = rw e (by-end (b .end))
+        → let c = afterOne answers pages (record { page = p; answer = a }) (datas n) in
+        let d = afterOne answers′ pages′ (record { page = q; answer = b }) (datas n) in
+        (c .answer ≡ d .answer) × R (c .page) (d .page)
+    go a b e p q r s t = rw e (by-end _ _ (b .end))
       where
-        by-end : (end : End)
-            → (unlessEnded end (record { page = p; answer = b }) (onward answers pages (record { page = p; answer = b }) (datas n)) .answer
-            ≡ unlessEnded end (record { page = q; answer = b }) (onward answers′ pages′ (record { page = q; answer = b }) (datas n)) .answer)
-            × R (unlessEnded end (record { page = p; answer = b }) (onward answers pages (record { page = p; answer = b }) (datas n)) .page)
-            (unlessEnded end (record { page = q; answer = b }) (onward answers′ pages′ (record { page = q; answer = b }) (datas n)) .page)
-        by-end E.Done = (ap (withWrite b) s, t)
-        by-end (E.Spent strip) = (refl, r)
-        by-end (E.Refused x) = (refl, r)
+        by-end : (w cost : ℕ) (end : End)
+            → let c = afterOne answers pages (courseAt p w cost end) (datas n) in
+            let d = afterOne answers′ pages′ (courseAt q w cost end) (datas n) in
+            (c .answer ≡ d .answer) × R (c .page) (d .page)
+        by-end w cost E.Done = (ap (withWrite (record { written = w; cost = cost; end = E.Done })) s, t)
+        by-end w cost (E.Spent strip) = (refl, r)
+        by-end w cost (E.Refused x) = (refl, r)
 
 -- A LIST IN ORDER, with a map or without one
 module _ (map : Option (List ℕ)) (W : List ℕ) (code L S count : ℕ) (before content : List ℕ) where
@@ -173,9 +174,8 @@ module _ (map : Option (List ℕ)) (W : List ℕ) (code L S count : ℕ) (before
     turn-promised : groundOf map W code L S count before content ≡ none → Octets content → (n : ℕ) → n < count → (page : List ℕ)
         (a : ListAnswer)
         → ListPromised start (groundOf map W code L S count before content) map W code L S n before content page a
-        → let c = unlessEnded (a .end) (record { page = page; answer = a })
-        (onward (answerWith map W code L S) (λ p one. pageWith map W code L S p one start) (record { page = page; answer = a })
-        (dataOf L S content n)) in
+        → let c = afterOne (answerWith map W code L S) (λ p one. pageWith map W code L S p one start)
+        (record { page = page; answer = a }) (dataOf L S content n) in
         ListPromised start (groundOf map W code L S count before content) map W code L S (suc n) before content (c .page) (c .answer)
     turn-promised e b n h page a (all-written {cost} f t) =
         go _ _ (wrote-by start map W code L S page (dataOf L S content n) (part-octets (L * S) n content b))
@@ -248,13 +248,15 @@ module _ (map : Option (List ℕ)) (W : List ℕ) (code L S count : ℕ) (before
           → listAnswer map W code L S count before content .cost ≤ largestListCost
       summed none e =
           let c = course-cost (answerWith map W code L S) (λ p one. pageWith map W code L S p one startOf) (dataOf L S content) before
-          largestWeightedCost count (λ n h p. weighted-largest map W K code L S p (dataOf L S content n) (part-octets (L * S) n content b) refl) count
+          largestWeightedCost count
+          (λ n h p. weighted-largest map W K code L S p (dataOf L S content n) (part-octets (L * S) n content b) refl) count
           (omega arith) in
           let z = ap (λ (c : Course). c .answer .cost) (list-course startOf e) in
           omega (arith, most e)
       summed (some r) e = let z = ap (λ (c : Course). c .answer .cost) (list-refused startOf e) in omega arith
 
-      go : {page : List ℕ} {a : ListAnswer} → WroteList map W code L S count before content page a → a .cost ≤ largestListCost → ListBounds a
+      go : {page : List ℕ} {a : ListAnswer} → WroteList map W code L S count before content page a → a .cost ≤ largestListCost
+          → ListBounds a
       go (all-written e t) c = record { written-most = most e; cost-most = c; strip-most = omega arith }
       go (stopped-at e l t (spent g p q)) c = record {
         written-most = omega (arith, most e);

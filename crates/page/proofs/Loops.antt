@@ -353,7 +353,8 @@ module _ {L S count : ℕ} {page₀ content : List ℕ} (Z : Listed oneBit L S c
           let c = turn-course e in
           ap (λ (m : ℕ). jobCourse (marksIn map) G W L S m page₀ content) z
           ∙ course-ended (λ p one. jobAnswer none (oneBitJob (marksIn map) G W L S p one))
-          (λ p one. jobPage none (oneBitJob (marksIn map) G W L S p one) startOf) (dataOf L S content) page₀ (k + 1) (count - (k + 1)) (rw c f)
+          (λ p one. jobPage none (oneBitJob (marksIn map) G W L S p one) startOf) (dataOf L S content) page₀ (k + 1) (count - (k + 1))
+          (rw c f)
           ∙ c
 
       -- what a data costs

@@ -20,7 +20,7 @@ use Rattle.demand.proofs.Demand.{part-zero}
 use Rattle.refusals.proofs.Refusals.{weighted-in-order}
 use Rattle.page.specs.Answers.{mapSize, groundWith, jobWith, answerWith, pageWith, answerCost}
 use Rattle.page.specs.Promise.{Promised, spent, refused}
-use Rattle.page.specs.Lists.{dataOf, withWrite, noneWritten, Course, unlessEnded, onward, courseAfter}
+use Rattle.page.specs.Lists.{dataOf, withWrite, noneWritten, Course, afterOne, courseAfter}
 use Rattle.page.specs.Lists.{unlessRefused, groundOf, listCourse, listWith}
 use Rattle.page.specs.Ledger.{cellsOn, raisesMade, raised, Fair, fair-raise, pageAfter, counted, Call, list, eventOf}
 use Rattle.page.specs.Ledger.{Reply, to-write, answerTo, played, tallied, answered, writesOf}
@@ -30,6 +30,7 @@ use Rattle.page.specs.declared.Answer.the-variants as A
 use Rattle.page.specs.declared.End.{End}
 use Rattle.page.specs.declared.End.the-variants as E
 use Rattle.page.proofs.Promise.{wrote-by}
+use Rattle.page.proofs.Lists.{courseAt}
 use Rattle.page.proofs.Ledger.{fair-onward, raises-onward, write-fair}
 
 -- SEQUENCES. The page after one more call
@@ -57,10 +58,6 @@ unfolding played answered listOf
 answered-each starts f g e zero page = refl
 answered-each starts f g e (suc n) page =
     ap₂ _++_ (e 0 page) (answered-each (λ n. starts (suc n)) (λ i. f (suc i)) (λ i. g (suc i)) (λ i. e (suc i)) n _)
-
--- a course with this page, and w datas written for so much
-abbrev courseWith : List ℕ → ℕ → ℕ → End → Course
-courseWith page w cost end = record { page = page; answer = record { written = w; cost = cost; end = end } }
 
 module _ (start : ℕ → ℕ) (map : Option (List ℕ)) (W : List ℕ) (code L S : ℕ) (page content : List ℕ) (b : Octets content) where
   -- SINGLE WRITES: the first n datas
@@ -114,9 +111,9 @@ module _ (start : ℕ → ℕ) (map : Option (List ℕ)) (W : List ℕ) (code L 
   After n c = (c .answer .end ≡ E.Done → c .answer .written ≡ n) × ByWrites c
 
   -- with one more data
-  one-after : (n : ℕ) (p : List ℕ) (w cost : ℕ) (end : End) → After n (courseWith p w cost end)
-      → After (suc n) (unlessEnded end (courseWith p w cost end) (onward (answerWith map W code L S)
-      (λ page one. pageWith map W code L S page one start) (courseWith p w cost end) (dataOf L S content n)))
+  one-after : (n : ℕ) (p : List ℕ) (w cost : ℕ) (end : End) → After n (courseAt p w cost end)
+      → After (suc n) (afterOne (answerWith map W code L S) (λ page one. pageWith map W code L S page one start) (courseAt p w cost end)
+      (dataOf L S content n))
   one-after n p w cost E.Done (g, s) =
       more _ refl (wrote-by start map W code L S p (dataOf L S content n) (part-octets (L * S) n content b))
     where
@@ -129,7 +126,7 @@ module _ (start : ℕ → ℕ) (map : Option (List ℕ)) (W : List ℕ) (code L 
           (pageWith map W code L S p (dataOf L S content n) start) r
           → After (suc n) (record {
             page = pageWith map W code L S p (dataOf L S content n) start;
-            answer = withWrite (courseWith p w cost E.Done .answer) r;
+            answer = withWrite (courseAt p w cost E.Done .answer) r;
           })
       more (A.Done c) f q =
           let z : suc w ≡ suc n = ap suc (g refl) in
@@ -148,7 +145,7 @@ module _ (start : ℕ → ℕ) (map : Option (List ℕ)) (W : List ℕ) (code L 
   one-after n p w cost (E.Refused r) (g, s) = (λ e. cc, s)
 
   -- with none
-  none-after : {r : End} → ByWrites (courseWith page 0 0 r)
+  none-after : {r : End} → ByWrites (courseAt page 0 0 r)
   unfolding sumOf
   none-after = record { left = page-first; each = λ i h. absurd (not-suc-le-zero h); sum = refl }
 

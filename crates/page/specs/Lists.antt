@@ -57,23 +57,20 @@ hasEnded E.Done = false
 hasEnded (E.Spent strip) = true
 hasEnded (E.Refused r) = true
 
--- what has not ended goes on
-abbrev pub unlessEnded : End → Course → Course → Course
-unlessEnded end so-far next = cond (hasEnded end) so-far next
-
 -- 'equal those of single writes in that order': `answers` and `pages` are the answer of a single write and the page after it, by the page
 -- before it and its data
 module _ (answers : List ℕ → List ℕ → Answer) (pages : List ℕ → List ℕ → List ℕ) where
-  -- one more single write, on the page that the writes before it left
-  abbrev pub onward : Course → List ℕ → Course
-  onward c one = record { page = pages (c .page) one; answer = withWrite (c .answer) (answers (c .page) one) }
+  -- one more data: a single write on the page that the writes before it left, unless the list has ended
+  abbrev pub afterOne : Course → List ℕ → Course
+  afterOne c one =
+      cond (hasEnded (c .answer .end)) c
+      (record { page = pages (c .page) one; answer = withWrite (c .answer) (answers (c .page) one) })
 
   -- after the first n datas: 'it stops before the first data for which the page is spent', and 'leaves the earlier writes done and their
   -- cost summed'
   unfoldable pub courseAfter : (datas : ℕ → List ℕ) (before : List ℕ) → ℕ → Course
   courseAfter datas before zero = record { page = before; answer = noneWritten }
-  courseAfter datas before (suc n) =
-      unlessEnded (courseAfter datas before n .answer .end) (courseAfter datas before n) (onward (courseAfter datas before n) (datas n))
+  courseAfter datas before (suc n) = afterOne (courseAfter datas before n) (datas n)
 
 -- a refusal changes nothing
 abbrev pub unlessRefused : Option Refusal → Course → List ℕ → Course

@@ -200,7 +200,8 @@ fn judge_weighted(
 ) -> Completion
     requires { ⌜ limitsGround bytes strips ≡ none ⌝ }
     ensures { λ r. ⌜ ((g h i : Option Refusal) → counted ≡ completionOf g → mapped ≡ completionOf h → sized ≡ completionOf i
-        → r ≡ completionOf (first-of (weightsGround weights) (first-of g (first-of (pageGround oneBit bytes strips page) (first-of h i))))) ⌝ }
+        → r ≡ completionOf (first-of (weightsGround weights)
+        (first-of g (first-of (pageGround oneBit bytes strips page) (first-of h i))))) ⌝ }
 {
     let steps = judge_weights(weights);
     let of_page = judge_page(bytes, strips, page);

@@ -47,7 +47,8 @@ returns-2 c =
     let j = t .before .before in
     let a = j .before .args in
     done-next (sizesGround (a .code) (a .bytes) (a .strips)) _ (j .judge-sizes .ensures) (t .enum-told .given .1)
-    (c .judge-weighted .ensures (countGround (some (a .count))) none (datasGround (some (a .count)) (a .bytes) (a .strips) (a .«data»))
+    (c .judge-weighted .ensures (countGround (some (a .count))) none
+    (datasGround (some (a .count)) (a .bytes) (a .strips) (a .«data»))
     (c .before .before .judge-count .ensures) refl (c .before .judge-datas .ensures))
 
 pub judge-list-spec : {M : Type 1} → statement M

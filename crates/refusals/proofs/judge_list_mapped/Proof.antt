@@ -51,7 +51,8 @@ returns-2 c =
     let j = t .before .before in
     let a = j .before .args in
     done-next (sizesGround (a .code) (a .bytes) (a .strips)) _ (j .judge-sizes .ensures) (t .enum-told .given .1)
-    (c .judge-weighted .ensures (countGround (some (a .count))) (mapGround oneBit (a .bytes) (a .strips) (some (a .map))) (datasGround (some (a .count)) (a .bytes) (a .strips) (a .«data»))
+    (c .judge-weighted .ensures (countGround (some (a .count))) (mapGround oneBit (a .bytes) (a .strips) (some (a .map)))
+    (datasGround (some (a .count)) (a .bytes) (a .strips) (a .«data»))
     (c .before .before .before .judge-count .ensures) (c .before .before .judge-map .ensures) (c .before .judge-datas .ensures))
 
 pub judge-list-mapped-spec : {M : Type 1} → statement M

@@ -48,7 +48,8 @@ returns-2 c =
     let j = t .before .before in
     let a = j .before .args in
     done-next (sizesGround (a .code) (a .bytes) (a .strips)) _ (j .judge-sizes .ensures) (t .enum-told .given .1)
-    (c .judge-weighted .ensures none (mapGround oneBit (a .bytes) (a .strips) (some (a .map))) (dataGround (a .bytes) (a .strips) (a .«data»))
+    (c .judge-weighted .ensures none (mapGround oneBit (a .bytes) (a .strips) (some (a .map)))
+    (dataGround (a .bytes) (a .strips) (a .«data»))
     refl (c .before .before .judge-map .ensures) (c .before .judge-data .ensures))
 
 pub judge-mapped-spec : {M : Type 1} → statement M

@@ -1,7 +1,7 @@
 -- The invariant: the course of the first k datas has not ended; it is the page as it is and the answer so far.
 use mathlib.Core.Path.{_≡_, refl, sym, _∙_}
 use mathlib.Core.Option.{none}
-use Prim.Native.Nat.{ℕ, _<_, _≤_, _+_, _*_, _-_}
+use Prim.Native.Nat.{_≤_, _*_, _-_}
 use native.Mathlib.Omega.{arith}
 use lib.ListN.{length}
 use mir.Syntax.{w8}
@@ -87,7 +87,9 @@ has-ended-requires : tie.Need-has-ended-requires Inv-loop μ-loop
 has-ended-requires c κs = search needs
 
 same-length : tie.Need-same-length Inv-loop μ-loop
-same-length c = c .before .before .before .before .before .write-strips .kept .1 .1 .1 .1 .0 ∙ c .before .before .before .before .before .before .before .before .before .loop .inv .2
+same-length c =
+    let w = c .before .before .before .before .before in
+    w .write-strips .kept .1 .1 .1 .1 .0 ∙ w .before .before .before .before .loop .inv .2
 
 returns : tie.Need-returns Inv-loop μ-loop
 returns c =
@@ -96,8 +98,8 @@ returns c =
     let s = t .before .before .before .before .before .before in
     let a = s .args in
     let i = t .before .loop .inv in
-    let e = turn-ended (s .pre .0) (t .loop-test .taken) (i .2) (generatorsOf (a .code)) (a .weights) (a .map .now) (i .0) (i .1) (written w .0)
-    (written w .1) (c .before .before .with-write .ensures) (sym (c .before .has-ended .ensures) ∙ c .if1 .taken) in
+    let e = turn-ended (s .pre .0) (t .loop-test .taken) (i .2) (generatorsOf (a .code)) (a .weights) (a .map .now) (i .0) (i .1)
+    (written w .0) (written w .1) (c .before .before .with-write .ensures) (sym (c .before .has-ended .ensures) ∙ c .if1 .taken) in
     rw e (refl, refl)
 
 add-k : tie.Need-add-k Inv-loop μ-loop

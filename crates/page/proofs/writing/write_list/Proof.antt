@@ -1,5 +1,5 @@
 -- A list that is judged in order answers and leaves the page as its datas do, any other changes nothing; and both keep the promise.
-use mathlib.Core.Path.{sym, _∙_}
+use mathlib.Core.Path.{_∙_}
 use mathlib.Core.List.{[], _∷_}
 use mathlib.Core.Option.{none}
 use native.Mathlib.Omega.{arith}
