@@ -1,12 +1,14 @@
 -- A LIST OF WRITES in one call: single writes in turn, as far as the page takes them.
 --   dataOf                   data number n of a list
+--   withWrite, refusedList   an answer with one more single write; that of a refused list
 --   Course, courseAfter      the page and the answer after single writes in turn, whatever a single write does
 --   jobCourse                those of jobs in order
 --   listCourse, listWith     the page and the answer of a list, with a map or without one, by any order of the raises
 --   listAnswer, listPage     those of this release
---   listNumber, listStrip    the paper's number of its answer, and the strip that is spent
+--   endNumber, listNumber    the paper's number of an end, and of a list's answer
+--   endStrip, listStrip      the strip that is spent
 --   largestListCost          the most that a list costs
---   ListBounds                  how large the fields of its answer are
+--   ListBounds               how large the fields of its answer are
 --   InTurn, ListPromised     what a list promises: the promise of each single write
 --   WroteList                the same of a call
 use mathlib.Core.Path.{_≡_}
