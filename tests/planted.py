@@ -240,6 +240,10 @@ FAULTS = {
         ("is not determined", logged(f"{PROOF} `planted` is not admitted: unsolved")),
         ("stopped at a limit", logged(f"{PROOF} error: `planted`: {SEARCH}")),
     ],
+    "known.py": [
+        ("there is no row 'seven writes", change("crates/known/stdout", r"(?<=^seven writes: answer 0 written 7 strip 0 cost )160", "32")),
+        ("there is no row 'spent at the third", change("crates/known/stdout", r"(?<=^spent at the third: answer 7 written 2 strip )1", "0")),
+    ],
     "floor.py": [
         ("edits, and tests/floor.txt says", {**delete(EDIT), **change("docs/TRACE.md", rf"^.*`{CRATE}/must-fail/{NAME}`.*\n", "")}),
         ("edits, and tests/floor.txt says", number("edits", -1)),
@@ -286,7 +290,7 @@ STAND_INS = {
     "tests/measured": 'cd "$(dirname "$0")/.." && gcc -Iinclude tests/measure.c planted.c -o target/measured && target/measured\n',
     "tests/install": "#!/bin/sh\n",
     "tests/planted.py": "",
-    "tests/run.py": "",
+    "tests/run.py": read("tests/run.py").replace("    sys.exit(main())\n", "    pass\n"),  # the model is there, the run program is not tried
 }
 
 
