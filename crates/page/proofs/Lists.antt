@@ -99,8 +99,8 @@ module _ (answers : List ℕ → List ℕ → Answer) (pages : List ℕ → List
       so-far = courseAfter answers pages datas before n
 
       go : (end : End) → so-far .answer .cost ≤ m * n → (r : Answer) → valueOf r ≤ m
-          → cond (hasEnded end) so-far (record { page = pages (so-far .page) (datas n); answer = withWrite (so-far .answer) r }) .answer .cost
-          ≤ m * suc n
+          → let next : Course = record { page = pages (so-far .page) (datas n); answer = withWrite (so-far .answer) r } in
+          cond (hasEnded end) so-far next .answer .cost ≤ m * suc n
       go E.Done i (A.Done cost) v = omega arith
       go E.Done i (A.Spent strip) v = omega arith
       go E.Done i (A.Refused q) v = omega arith
