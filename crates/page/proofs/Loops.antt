@@ -314,10 +314,7 @@ module _ {L S count : ℕ} {page₀ content : List ℕ} (Z : Listed oneBit L S c
   pub data-fits : {k : ℕ} → k < count → L * S * k + L * S ≤ length content
   data-fits {k} h = omega (arith, datas-length, within (L * S) k count h)
 
-  -- at most 4,096 bytes for each of 64 datas
-  pub data-most : L * S ≤ 4096
-  data-most = mul-le-mul {n₁ = L} {m₁ = S} {n₂ = 64} {m₂ = 64} (one-to-64 L (Z .bytes-in) .1) (one-to-64 S (Z .strips-in) .1)
-
+  -- at most 64 datas
   pub count-most : count ≤ 64
   count-most = one-to-64 count (Z .count-in) .1
 
@@ -366,6 +363,10 @@ module _ {L S count : ℕ} {page₀ content : List ℕ} (Z : Listed oneBit L S c
             page-below (oneBitJob (marksIn map) G W L S page (dataOf L S content k)) (one-to-64 S (Z .strips-in) .1)
                 (λ j l a. strip-below G W K D L S (one-to-64 L (Z .bytes-in) .1) page (marksIn map) (dataOf L S content k) j a),
           ))
+
+  -- each data, as the first, has at most 4,096 bytes
+  pub data-most : L * S ≤ 4096
+  data-most = whole-most (turn-sized {k = 0} (omega (arith, one-to-64 count (Z .count-in))) {page = page₀} refl)
 
 -- THE CALLS. What the judge of a call answered
 pub record Judged (map : Option (List ℕ)) (W : List ℕ) (code L S : ℕ) (before content : List ℕ) (j : Completion) : Type 0 where
