@@ -14,7 +14,7 @@ def lines(paths, comment):
 
 def main():
     kinds = ("code", "definitions", "laws", "function proofs", "must-fail edits")
-    print(f"{'crate':10}" + "".join(f"{kind:>17}" for kind in kinds))
+    print(f"{'crate':14}" + "".join(f"{kind:>17}" for kind in kinds))
     total = [0] * len(kinds)
     for name in crates():
         crate = ROOT / "crates" / name
@@ -28,8 +28,8 @@ def main():
             len(list(crate.glob("must-fail/*.edit"))),
         ]
         total = [a + b for a, b in zip(total, row)]
-        print(f"{name:10}" + "".join(f"{n:17}" for n in row))
-    print(f"{'all':10}" + "".join(f"{n:17}" for n in total))
+        print(f"{name:14}" + "".join(f"{n:17}" for n in row))
+    print(f"{'all':14}" + "".join(f"{n:17}" for n in total))
 
 
 main()

@@ -11,9 +11,10 @@ from repository import finish, read
 
 CLIMBS = "crates/cells/specs/Climbs.antt"
 REFUSALS = "crates/refusals/specs/Refusals.antt"
-ANSWERS = "crates/page/specs/Answers.antt"
-LISTS = "crates/page/specs/Lists.antt"
-WORDS = "crates/firmware/specs/Words.antt"
+ANSWERS = "crates/page_answers/specs/Answers.antt"
+WRITES = "crates/page_promises/specs/Writes.antt"
+LISTS = "crates/page_promises/specs/Lists.antt"
+WORDS = "crates/words/specs/Words.antt"
 CODES = "crates/codes/src/lib.rt"
 
 # For each number, the definition that has it.
@@ -34,8 +35,8 @@ DEFINED = {
     "HOUSE_W1": (CLIMBS, "house = {} ∷ 20 ∷ 28 ∷ []"),
     "HOUSE_W2": (CLIMBS, "house = 16 ∷ {} ∷ 28 ∷ []"),
     "HOUSE_W3": (CLIMBS, "house = 16 ∷ 20 ∷ {} ∷ []"),
-    "MAX_COST": (ANSWERS, "largestCost = {}"),
-    "MAX_WEIGHTED_COST": (ANSWERS, "largestWeightedCost = {}"),
+    "MAX_COST": (WRITES, "largestCost = {}"),
+    "MAX_WEIGHTED_COST": (WRITES, "largestWeightedCost = {}"),
     "MAX_LIST": (REFUSALS, "oneTo64 n = leb 1 n && leb n {}"),
     "MAX_LIST_COST": (LISTS, "largestListCost = {}"),
     "PAGE_BYTES": (CODES, "pub const STRIP_BYTES: usize = {};"),

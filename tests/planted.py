@@ -21,12 +21,14 @@ EDIT = f"crates/{CRATE}/must-fail/{NAME}.edit"
 LOG = f"target/must-fail/{CRATE}/{NAME}/.log"
 OLD = re.search(r"^old: (.*)$", read(EDIT), re.M)[1]
 
-# The files that price.
+# Files of the crates; most of them price.
 FIRMWARE = "crates/firmware/src/lib.rt"
 WRITING = "crates/page/src/writing.rt"
+REWRITING = "crates/page_rewriting/src/lib.rt"
 BACKWARD = "crates/trellis/src/backward.rt"
-ROWS = "crates/trellis/src/rows.rt"
-STRIP = "code, &rows, shape::strip(page, bytes, k), map_part(map, bytes, k), &data[a..a + bytes]"
+READING = "crates/page_reading/src/lib.rt"
+ROWS = "crates/rows/src/lib.rt"
+STRIP = "code, &rows, strip(page, bytes, k), map_part(map, bytes, k), &data[a..a + bytes]"
 KEPT = "let mut kept = [0u8; 64]; kept[0] = 1;"
 
 # What rt ci is to count.
@@ -90,13 +92,13 @@ def named_log(crate, name):
 
 
 def in_price_strip(line, item=""):
-    """price_strip with a line more in front of its loop, and the module rows with an item more, for the line to use."""
+    """price_strip with a line more in front of its loop, and the crate rows with an item more, for the line to use."""
     return {**before(BACKWARD, "    while q > 0", f"    {line}\n"), **append(ROWS, f"\n{item}\n")}
 
 
 def priced_by(call):
     """price_strips with another call for the price of a strip, and an array that it may use."""
-    return change(WRITING, r"let price = price_strip\([^;]*;", f"let mut kept = [0u8; 64]; let price = {call};")
+    return change(REWRITING, r"let price = price_strip\([^;]*;", f"let mut kept = [0u8; 64]; let price = {call};")
 
 
 def used(call, result):
@@ -124,6 +126,8 @@ FAULTS = {
         ("may change x,", function("text", "fn planted(x: &mut [u8]) -> u32", "ensures { λ r. ⌜ r ≡ length (now (x .entry)) ⌝ }")),
         ("page::planted is to take every input", function("page", "pub fn planted()", ASKS, "ensures { λ _. ⌜ ⊤ ⌝ }")),
         ("text::planted is to take every input", function("text", 'extern "C" fn planted()', ASKS, "ensures { λ _. ⌜ ⊤ ⌝ }")),
+        ("page_reading::read is to take every input", before(READING, "    ensures { λ r. ⌜ r ≡ completionOf (ground", f"    {ASKS}\n")),
+        ("hands on page_reading::planted, which", append("crates/page/src/reading.rt", "pub use page_reading::planted;\n")),
         ("fn planted is not understood", append("crates/text/src/lib.rt", "\nfn planted(n: u32) -> u32;\n")),
         ("the word fn stands there", append("crates/text/src/lib.rt", "\nconst PLANTED: fn(u32) -> u32 = planted;\n")),
         ("is not understood", append("crates/text/src/lib.rt", "\n/* fn planted() {} */\n")),
@@ -139,7 +143,7 @@ FAULTS = {
     ],
     "header.py": [
         ("SEGRUNOV_MAX_COST is 1835007,", change("include/segrunov.h", "1835008", "1835007")),
-        ("SEGRUNOV_MAX_COST is 1835008,", change("crates/page/specs/Answers.antt", r"^largestCost = .*", "largestCost = 1835009")),
+        ("SEGRUNOV_MAX_COST is 1835008,", change("crates/page_promises/specs/Writes.antt", r"^largestCost = .*", "largestCost = 1835009")),
         ("SEGRUNOV_MAX_WEIGHTED_COST is 16711679,", change("include/segrunov.h", "16711680", "16711679")),
         ("SEGRUNOV_HOUSE_W2 is 28,", change("include/segrunov.h", r"UINT8_C\(20\)", "UINT8_C(28)")),
         ("SEGRUNOV_HOUSE_W3 is 28,", change("crates/cells/specs/Climbs.antt", r"^house = .*", "house = 16 ∷ 20 ∷ 24 ∷ []")),
@@ -148,10 +152,10 @@ FAULTS = {
         ("SEGRUNOV_COUNT is 12,", change("include/segrunov.h", r"UINT32_C\(10\)", "UINT32_C(12)")),
         ("SEGRUNOV_MAX_LIST is 63,", change("include/segrunov.h", r"UINT32_C\(64\)", "UINT32_C(63)")),
         ("SEGRUNOV_MAX_LIST_COST is 1069547519,", change("include/segrunov.h", "1069547520", "1069547519")),
-        ("SEGRUNOV_MAX_LIST_COST is 1069547520,", change("crates/page/specs/Lists.antt", r"^largestListCost = .*", "largestListCost = 1")),
+        ("SEGRUNOV_MAX_LIST_COST is 1069547520,", change("crates/page_promises/specs/Lists.antt", r"^largestListCost = .*", "largestListCost = 1")),
         ("has no line 'answerWord a = numberOf a * 2 ^ 31 +", change("include/segrunov.h", r">> 32(?= & UINT64_C\(0xff\))", ">> 31")),
-        ("has no line 'listWord a = ", change("crates/firmware/specs/Words.antt", r"(?<=a \.written \* 2 \^ )40", "41")),
-        ("has no line 'listWord a = ", change("crates/firmware/specs/Words.antt", r"(?<=listStrip a \* 2 \^ )48", "47")),
+        ("has no line 'listWord a = ", change("crates/words/specs/Words.antt", r"(?<=a \.written \* 2 \^ )40", "41")),
+        ("has no line 'listWord a = ", change("crates/words/specs/Words.antt", r"(?<=listStrip a \* 2 \^ )48", "47")),
         ("SEGRUNOV_NUMBER does not end where SEGRUNOV_WRITTEN begins", change("include/segrunov.h", r"(?<=>> 32 & UINT64_C\(0xff)", "f")),
         ("SEGRUNOV_WRITTEN does not end where SEGRUNOV_SPENT_STRIP begins", change("include/segrunov.h", r"(?<=>> 40) & UINT64_C\(0xff\)", "")),
         ("has the fields VALUE, NUMBER, WRITTEN of an answer", change("include/segrunov.h", r"(?<=SEGRUNOV_SPENT_STRIP)\(answer\)", "(word)")),
@@ -182,19 +186,19 @@ FAULTS = {
             "price_strip is lent",
             {**priced_by(f"price_strip({STRIP}, &mut kept)"), **change(BACKWARD, r"(?<=data: &\[u8\])(?=\) -> Outcome)", ", kept: &mut [u8; 64]")},
         ),
-        ("price_strips makes a &mut of its own [u8; 64]", before(WRITING, "    let mut total", f"{KEPT} code.read_strip(page, &mut kept[0..1]);\n")),
-        ("price_strip makes a &mut of its own u64", in_price_strip("crate::rows::planted(&mut q);", "pub fn planted(q: &mut usize) {}")),
+        ("price_strips makes a &mut of its own [u8; 64]", before(REWRITING, "    let mut total", f"{KEPT} code.read_strip(page, &mut kept[0..1]);\n")),
+        ("price_strip makes a &mut of its own u64", in_price_strip("rows::planted(&mut q);", "pub fn planted(q: &mut usize) {}")),
         ("price_strip keeps [u8; 512] 1 times, and 0 are named", in_price_strip(KEPT.replace("64", "512"))),
         ("price_strip keeps [u32; 64] 2 times, and 1 are named", in_price_strip(KEPT.replace("u8", "u32"))),
         ("last_labels keeps [u8; 64] 1 times, and 0 are named", before(BACKWARD, "    let mut labels", f"{KEPT}\n")),
         ("plan_strip keeps [u8; 4096] 1 times, and 0 are named", priced_by(f"plan_strip({STRIP}, &mut kept[0..bytes])")),
         (
-            "census keeps [page::Row; 64] 1 times, and 0 are named",
+            "census keeps [page_counting::Row; 64] 1 times, and 0 are named",
             append(WRITING, "\npub fn price_planted(page: &[u8]) -> crate::Census {\n    crate::counting::census(1, 1, page)\n}\n"),
         ),
         (
             "planted has [u8; 512], the type of no array that is named",
-            in_price_strip("crate::rows::planted([0; 512]);", "pub fn planted(kept: [u8; 512]) {}"),
+            in_price_strip("rows::planted([0; 512]);", "pub fn planted(kept: [u8; 512]) {}"),
         ),
         ("cells::bit keeps [u8; 3] 0 times, and 1 are named", change("tests/pricing.py", r'"cells::weight"', '"cells::bit"')),
         ("has no place for a word", change("tests/pricing.py", r'(?<="\[u32; 64\]"\): \(1, )"a state"', '"a word"')),
@@ -263,6 +267,8 @@ FAULTS = {
         ("FAILED: rt ci ended in", change("bin/rt", "0 failed", "1 failed")),
         ("FAILED: rt ci tried every crate and every edit", change("bin/rt", f"{PROVED} passed", f"{PROVED - 1} passed")),
         ("FAILED: every must-fail edit is refused", delete(LOG)),
+        ("FAILED: these checks find planted faults", append("tests/planted.py", "raise SystemExit(1)\n")),
+        ("FAILED: comparison with Boost.Graph", append("tests/build", '[ "$1" != compare ] || exit 1\n')),
         ("FAILED: the count", change("tests/gate", r"^    passed=.*", "    :")),
     ],
 }

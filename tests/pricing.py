@@ -29,17 +29,17 @@ KEPT = {
     ("cells::weight", "[u8; 3]"): (1, "a step"),
     ("codes::Code::generators", "[codes::CodeRow; 2]"): (2, "a code"),  # the table stands in each arm
     ("page::writing::price", "[u8; 3]"): (1, "a step"),
-    ("page::writing::price_strips", "[u32; 256]"): (1, "a word of a row"),
+    ("page_rewriting::price_strips", "[u32; 256]"): (1, "a word of a row"),
+    ("prices::row_prices", "[u32; 8]"): (1, "a kind of cell"),
+    ("prices::rows_of", "[u32; 256]"): (1, "a word of a row"),
+    ("prices::rows_of", "[u32; 4]"): (1, "a word"),
     ("refusals::free_step", "[u8; 3]"): (1, "a step"),
-    ("stages::blocks::run_long", "[u8; 64]"): (1, "a state"),
-    ("stages::blocks::run_short", "[u32; 4]"): (1, "a word"),
+    ("stage_blocks::run_long", "[u8; 64]"): (1, "a state"),
+    ("stage_blocks::run_short", "[u32; 4]"): (1, "a word"),
     ("stages::stage::price_of", "[u32; 4]"): (1, "a word"),
     ("stages::stage::stage", "[u32; 4]"): (1, "a word"),
     ("stages::stage::stage", "[u32; 64]"): (1, "a state"),
     ("trellis::backward::price_strip", "[u32; 64]"): (1, "a state"),
-    ("trellis::rows::row_prices", "[u32; 8]"): (1, "a kind of cell"),
-    ("trellis::rows::rows_of", "[u32; 256]"): (1, "a word of a row"),
-    ("trellis::rows::rows_of", "[u32; 4]"): (1, "a word"),
 }
 
 

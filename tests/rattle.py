@@ -119,6 +119,12 @@ def of_crate(crate):
             sys.exit(f"{path}: {seen} functions are understood, and the word fn stands there {words} times")
 
 
+def handed_on(crate):
+    """The names of the functions of other crates that a crate hands on by `pub use`; a type's name begins with a capital letter."""
+    lines = (line for _, _, text in sources(crate) for line in re.findall(r"^\s*pub use ([\w:]+);$", text, re.M))
+    return {name for name in lines if not name.split("::")[-1][0].isupper()}
+
+
 def functions():
     """Every function of every crate."""
     return [function for crate in crates() for function in of_crate(crate)]

@@ -21,7 +21,7 @@ use native.Mathlib.Nat.{not-suc-le-zero, add-div-right, add-mul-div-right, mod-l
 use lib.Pow.{pow-add, pow-pos, shr-shr}
 use lib.ListN.{length, getD, take, drop, length-set}
 use lib.Seq.{getD-take, getD-drop, getD-set-same, getD-set-other}
-use Rattle.cells.specs.Places.{number}
+use Rattle.cells.specs.Places.{fromBits}
 use Rattle.cells.specs.Bytes.{bitOf, bytesOf, Octets, Unset, withBit}
 use Rattle.cells.proofs.Places.{length-listOf, listOf-at, listOf-same, listOf-getD, number-same, number-less, half-power, same?}
 
@@ -31,29 +31,29 @@ unfolding bitOf
 bit-bound bytes k = mod-lt _ (zero-lt-suc 1)
 
 -- NUMBERS. The bits of the number of some bits are these
-pub number-bit : (n : ℕ) (f : ℕ → ℕ) → ((i : ℕ) → i < n → f i < 2) → (j : ℕ) → j < n → (number n f / 2 ^ j) % 2 ≡ f j
-unfolding number
+pub number-bit : (n : ℕ) (f : ℕ → ℕ) → ((i : ℕ) → i < n → f i < 2) → (j : ℕ) → j < n → (fromBits n f / 2 ^ j) % 2 ≡ f j
+unfolding fromBits
 number-bit zero f b j h = absurd (not-suc-le-zero h)
 number-bit (suc n) f b zero h =
     let k : f 0 < 2 = b 0 (omega arith) in
-    let e : (f 0 + 2 * number n (λ i. f (suc i))) / 1 ≡ f 0 + 2 * number n (λ i. f (suc i)) = omega arith in
+    let e : (f 0 + 2 * fromBits n (λ i. f (suc i))) / 1 ≡ f 0 + 2 * fromBits n (λ i. f (suc i)) = omega arith in
     omega arith
 number-bit (suc n) f b (suc j) h =
     let k : f 0 < 2 = b 0 (omega arith) in
-    let e : (f 0 + 2 * number n (λ i. f (suc i))) / 2 ≡ number n (λ i. f (suc i)) = omega arith in
+    let e : (f 0 + 2 * fromBits n (λ i. f (suc i))) / 2 ≡ fromBits n (λ i. f (suc i)) = omega arith in
     ap (λ (x : ℕ). x % 2) (half-power _ j ∙ ap (λ (x : ℕ). x / 2 ^ j) e)
     ∙ number-bit n (λ i. f (suc i)) (λ i h. b (suc i) (omega arith)) j (omega arith)
 
 -- a number below 2 ^ n is the number of its n bits
-pub number-bits : (n x : ℕ) → x < 2 ^ n → number n (λ j. (x / 2 ^ j) % 2) ≡ x
-unfolding number
+pub number-bits : (n x : ℕ) → x < 2 ^ n → fromBits n (λ j. (x / 2 ^ j) % 2) ≡ x
+unfolding fromBits
 number-bits zero x h = omega arith
 number-bits (suc n) x h =
     let p : 2 ^ suc n ≡ 2 * 2 ^ n = omega arith in
     let q : x / 2 < 2 ^ n = omega arith in
     let r : x / 1 ≡ x = omega arith in
     let s = number-same n _ _ (λ j k. ap (λ (y : ℕ). y % 2) (half-power x j)) in
-    let e : number n (λ j. (x / 2 ^ suc j) % 2) ≡ x / 2 = s ∙ number-bits n (x / 2) q in
+    let e : fromBits n (λ j. (x / 2 ^ suc j) % 2) ≡ x / 2 = s ∙ number-bits n (x / 2) q in
     omega arith
 
 -- a statement of each number below 8 holds of a number below 8
@@ -98,7 +98,7 @@ unfolding bytesOf
 bytesOf-same n f g e = listOf-same n _ _ (λ q h. number-same 8 _ _ (λ i l. e (8 * q + i) (omega arith)))
 
 -- a byte is the number of its bits
-pub byte-bits : (bytes : List ℕ) (q : ℕ) → getD bytes q 0 < 256 → number 8 (λ i. bitOf bytes (8 * q + i)) ≡ getD bytes q 0
+pub byte-bits : (bytes : List ℕ) (q : ℕ) → getD bytes q 0 < 256 → fromBits 8 (λ i. bitOf bytes (8 * q + i)) ≡ getD bytes q 0
 unfolding bitOf
 byte-bits bytes q b =
     number-same 8 _ (λ i. (getD bytes q 0 / 2 ^ i) % 2) (λ i l.
@@ -113,8 +113,8 @@ unfolding bytesOf
 bytes-bits n bytes e b = listOf-same n _ (λ q. getD bytes q 0) (λ q h. byte-bits bytes q (b q h)) ∙ listOf-getD n bytes 0 e
 
 -- sixteen bits are two bytes
-two-bytes : (f : ℕ → ℕ) → number 16 f ≡ number 8 f + number 8 (λ i. f (8 + i)) * 256
-unfolding number
+two-bytes : (f : ℕ → ℕ) → fromBits 16 f ≡ fromBits 8 f + fromBits 8 (λ i. f (8 + i)) * 256
+unfolding fromBits
 two-bytes f = omega arith
 
 -- the bits of two bytes that follow each other, as one number
@@ -124,10 +124,10 @@ word-bit bytes q l h p r =
     ap (λ (w : ℕ). (w / 2 ^ p) % 2) (sym word)
     ∙ number-bit 16 (λ i. bitOf bytes (8 * q + i)) (λ i k. bit-bound bytes (8 * q + i)) p r
   where
-    high : number 8 (λ i. bitOf bytes (8 * q + (8 + i))) ≡ getD bytes (q + 1) 0
+    high : fromBits 8 (λ i. bitOf bytes (8 * q + (8 + i))) ≡ getD bytes (q + 1) 0
     high = number-same 8 _ _ (λ i k. ap (bitOf bytes) (omega arith)) ∙ byte-bits bytes (q + 1) h
 
-    word : number 16 (λ i. bitOf bytes (8 * q + i)) ≡ getD bytes q 0 + getD bytes (q + 1) 0 * 256
+    word : fromBits 16 (λ i. bitOf bytes (8 * q + i)) ≡ getD bytes q 0 + getD bytes (q + 1) 0 * 256
     word = two-bytes (λ i. bitOf bytes (8 * q + i)) ∙ ap₂ (λ (x y : ℕ). x + y * 256) (byte-bits bytes q l) high
 
 -- PARTS. A part of m bytes from byte n on has the bits from 8·n on

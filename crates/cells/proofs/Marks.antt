@@ -22,7 +22,7 @@ use native.Mathlib.Nat.{zero-div}
 use lib.Dec.{eqb, ltb}
 use lib.ListN.{length, getD, replicate}
 use borrow.Author.Tests.{ltb-true, ltb-false, eq-eqb, ne-eqb}
-use Rattle.cells.specs.Places.{listOf, sumOf, number}
+use Rattle.cells.specs.Places.{listOf, sumOf, fromBits}
 use Rattle.cells.specs.Bytes.{bitOf, bytesOf}
 use Rattle.cells.specs.Levels.{level, raisesOf, SameLevels}
 use Rattle.cells.specs.Raising.{triple}
@@ -117,7 +117,7 @@ zeros zero = refl
 zeros (suc n) = ap (λ (l : List ℕ). 0 ∷ l) (zeros n)
 
 pub emptied-none : (page : List ℕ) → emptied (λ c. false) page ≡ replicate (length page) 0
-unfolding emptied bytesOf number
+unfolding emptied bytesOf fromBits
 emptied-none page = zeros (length page)
 
 -- THE SAME. It depends on the marks of the page's own cells alone
@@ -157,7 +157,7 @@ module _ (byte marked third j : ℕ) where
 
 -- a byte none of whose cells is marked is 0
 pub keptByte-none : (byte third : ℕ) → keptByte byte 0 third ≡ 0
-unfolding keptByte number
+unfolding keptByte fromBits
 keptByte-none byte third =
     number-same 8 _ (λ j. 0) (λ j h. keptBit-other byte 0 third j (λ e. omega (arith, zero-div (2 ^ ((8 * third + j) / 3)))))
 

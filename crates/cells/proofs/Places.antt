@@ -27,7 +27,7 @@ use lib.Seq.{ext-getD, getD-set-same, getD-set-other}
 use lib.Dec.{eqb}
 use borrow.Author.Count.{below-more}
 use borrow.Author.Tests.{eqb-true}
-use Rattle.cells.specs.Places.{listOf, sumOf, number, Each, and-each, sameList}
+use Rattle.cells.specs.Places.{listOf, sumOf, fromBits, Each, and-each, sameList}
 
 module _ {A : Type 0} where
   -- n places
@@ -65,8 +65,8 @@ sumOf-same zero f g e = refl
 sumOf-same (suc n) f g e = omega (arith, e 0 (omega arith), sumOf-same n (λ i. f (suc i)) (λ i. g (suc i)) (λ i h. e (suc i) (omega arith)))
 
 -- the same places, the same number
-pub number-same : (n : ℕ) (f g : ℕ → ℕ) → ((i : ℕ) → i < n → f i ≡ g i) → number n f ≡ number n g
-unfolding number
+pub number-same : (n : ℕ) (f g : ℕ → ℕ) → ((i : ℕ) → i < n → f i ≡ g i) → fromBits n f ≡ fromBits n g
+unfolding fromBits
 number-same zero f g e = refl
 number-same (suc n) f g e =
     omega (arith, e 0 (omega arith), number-same n (λ i. f (suc i)) (λ i. g (suc i)) (λ i h. e (suc i) (omega arith)))
@@ -120,14 +120,14 @@ double-power : (x n : ℕ) → x * 2 ^ suc n ≡ 2 * (x * 2 ^ n)
 double-power x n = ap (λ (y : ℕ). x * y) (pow-suc 2 n) ∙ sym (mul-assoc x (2 ^ n) 2) ∙ mul-comm (x * 2 ^ n) 2
 
 -- a number grows by its last bit
-number-more : (n : ℕ) (f : ℕ → ℕ) → number (suc n) f ≡ number n f + f n * 2 ^ n
-unfolding number
+number-more : (n : ℕ) (f : ℕ → ℕ) → fromBits (suc n) f ≡ fromBits n f + f n * 2 ^ n
+unfolding fromBits
 number-more zero f = omega arith
 number-more (suc n) f = omega (arith, double-power (f (suc n)) n, number-more n (λ i. f (suc i)))
 
 -- n bits make a number below 2 ^ n
-pub number-less : (n : ℕ) (f : ℕ → ℕ) → ((i : ℕ) → f i < 2) → number n f < 2 ^ n
-unfolding number
+pub number-less : (n : ℕ) (f : ℕ → ℕ) → ((i : ℕ) → f i < 2) → fromBits n f < 2 ^ n
+unfolding fromBits
 number-less zero f b = omega arith
 number-less (suc n) f b = omega (arith, b 0, number-less n (λ i. f (suc i)) (λ i. b (suc i)))
 
@@ -140,15 +140,15 @@ pub one-shl : (i w : ℕ) → i < w → (1 * 2 ^ i) % 2 ^ w ≡ 2 ^ i
 one-shl i w l = let e : 1 * 2 ^ i ≡ 2 ^ i = omega arith in bit-shl 1 i w (omega arith) l ∙ e
 
 -- i bits added up and the next make i + 1 bits added up
-pub number-next : (i w d b : ℕ) (f : ℕ → ℕ) → ((k : ℕ) → f k < 2) → i < w → d ≡ number i f → b ≡ f i
-    → d + (b * 2 ^ i) % 2 ^ w ≡ number (i + 1) f
+pub number-next : (i w d b : ℕ) (f : ℕ → ℕ) → ((k : ℕ) → f k < 2) → i < w → d ≡ fromBits i f → b ≡ f i
+    → d + (b * 2 ^ i) % 2 ^ w ≡ fromBits (i + 1) f
 number-next i w d b f h l p q =
     let e : (b * 2 ^ i) % 2 ^ w ≡ f i * 2 ^ i = bit-shl b i w (rw q (h i)) l ∙ ap (λ (y : ℕ). y * 2 ^ i) q in
     let s : suc i ≡ i + 1 = omega arith in
-    ap₂ _+_ p e ∙ sym (number-more i f) ∙ ap (λ (k : ℕ). number k f) s
+    ap₂ _+_ p e ∙ sym (number-more i f) ∙ ap (λ (k : ℕ). fromBits k f) s
 
 -- at most w bits fit w bits
-pub number-fits : (i w : ℕ) (f : ℕ → ℕ) → ((k : ℕ) → f k < 2) → i ≤ w → number i f < 2 ^ w
+pub number-fits : (i w : ℕ) (f : ℕ → ℕ) → ((k : ℕ) → f k < 2) → i ≤ w → fromBits i f < 2 ^ w
 number-fits i w f h l = omega (arith, number-less i f h, pow-mono l)
 
 -- halving drops bit 0

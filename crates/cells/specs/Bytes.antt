@@ -8,7 +8,7 @@ use mathlib.Core.Path.{_≡_}
 use mathlib.Core.List.{List}
 use Prim.Native.Nat.{ℕ, _+_, _*_, _/_, _%_, _^_, _<_}
 use lib.ListN.{getD, length, set}
-use Rattle.cells.specs.Places.{listOf, number}
+use Rattle.cells.specs.Places.{listOf, fromBits}
 
 -- 'Bit number k of a strip or of its data is bit k mod 8 of byte k div 8, bit 0 being worth 1.'
 unfoldable pub bitOf : List ℕ → ℕ → ℕ
@@ -16,7 +16,7 @@ bitOf bytes k = (getD bytes (k / 8) 0 / 2 ^ (k % 8)) % 2
 
 -- the n bytes of these bits
 unfoldable pub bytesOf : ℕ → (ℕ → ℕ) → List ℕ
-bytesOf n f = listOf n (λ q. number 8 (λ i. f (8 * q + i)))
+bytesOf n f = listOf n (λ q. fromBits 8 (λ i. f (8 * q + i)))
 
 -- each number is a byte
 pub record Octets (bytes : List ℕ) : Type 0 where

@@ -2,9 +2,11 @@
 --   climb weight from to           the cost of one cell's climb
 --   costOf weight n before after   the cost of a change of n cells
 --   house, weightOf                16, 20, 28, and three weights as a function of the level
+--   Weights                        three weights of a byte each
+use mathlib.Core.Path.{_≡_}
 use mathlib.Core.List.{List, [], _∷_}
-use Prim.Native.Nat.{ℕ, _+_, _-_}
-use lib.ListN.{getD}
+use Prim.Native.Nat.{ℕ, _+_, _-_, _≤_}
+use lib.ListN.{length, getD}
 use Rattle.cells.specs.Places.{sumOf}
 use Rattle.cells.specs.Levels.{level}
 
@@ -23,3 +25,8 @@ house = 16 ∷ 20 ∷ 28 ∷ []
 -- the step from each level by a list of weights; no step leads on from the last
 unfoldable pub weightOf : List ℕ → ℕ → ℕ
 weightOf weights l = getD weights l 0
+
+-- 'three weights, one byte each'
+pub record Weights (W : List ℕ) : Type 0 where
+  pub three : length W ≡ 3
+  pub bytes : (i : ℕ) → getD W i 0 ≤ 255

@@ -7,7 +7,7 @@ use mathlib.Core.List.{List}
 use Prim.Native.Nat.{ℕ, _+_, _*_, _/_, _%_, _^_}
 use lib.Dec.{eqb}
 use lib.ListN.{length}
-use Rattle.cells.specs.Places.{number}
+use Rattle.cells.specs.Places.{fromBits}
 use Rattle.cells.specs.Bytes.{bitOf, bytesOf}
 
 -- 'A map with one bit for each cell of the page (strip by strip, .. bits numbered as in document 01, a one marks the cell)' (document 02,
@@ -26,4 +26,4 @@ keptBit byte marked third j = cond (eqb ((marked / 2 ^ ((8 * third + j) / 3)) % 
 
 -- the byte of these bits
 unfoldable pub keptByte : ℕ → ℕ → ℕ → ℕ
-keptByte byte marked third = number 8 (keptBit byte marked third)
+keptByte byte marked third = fromBits 8 (keptBit byte marked third)

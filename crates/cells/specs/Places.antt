@@ -1,7 +1,7 @@
 -- Lists, sums and numbers, made place by place.
 --   listOf n f   the list f 0, f 1, .. f (n - 1)
 --   sumOf n f    their sum
---   number n f   the number whose bit i is f i
+--   fromBits n f the number whose bit i is f i
 --   Each P l     every element of a list has the property P
 --   sameList     whether two lists are the same
 --   Untouched    a buffer whose places from the n-th on are as they were
@@ -24,9 +24,9 @@ sumOf zero f = 0
 sumOf (suc n) f = f 0 + sumOf n (λ i. f (suc i))
 
 -- f 0 · 1 + f 1 · 2 + .. + f (n - 1) · 2 ^ (n - 1): the number of these n bits, 'bit 0 being worth 1'
-unfoldable pub number : ℕ → (ℕ → ℕ) → ℕ
-number zero f = 0
-number (suc n) f = f 0 + 2 * number n (λ i. f (suc i))
+unfoldable pub fromBits : ℕ → (ℕ → ℕ) → ℕ
+fromBits zero f = 0
+fromBits (suc n) f = f 0 + 2 * fromBits n (λ i. f (suc i))
 
 -- every element of a list has the property P
 pub data Each {G : Type 0} (P : G → Type 0) : List G → Type 0 where
@@ -46,4 +46,4 @@ pub record Untouched (n : ℕ) (before after : List ℕ) : Type 0 where
 
 -- a buffer that is lent as working storage: what it holds afterwards is free
 pub record Free (before after : List ℕ) : Type 0 where
-  pub long : length after ≡ length before
+  pub size : length after ≡ length before

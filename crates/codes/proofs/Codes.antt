@@ -5,11 +5,12 @@
 --   second-leads                G2's first digit is 1
 --   two-generators              G2 is the only generator after G1
 --   short-when, long-unless     which of the two a code is, by its memory
+--   short-coded, long-coded     the code of given generators
 use mathlib.Core.Path.{_≡_, refl}
 use mathlib.Core.List.{[], _∷_}
 use Prim.Native.Nat.{_≤_}
 use native.Mathlib.Omega.{arith}
-use Rattle.codes.specs.Generators.{g2, short, long, digit}
+use Rattle.codes.specs.Generators.{Generators, g2, short, long, digit}
 use Rattle.codes.specs.Codes.{named, generatorsOf}
 use Rattle.codes.specs.Encoders.{Proper}
 use Rattle.codes.specs.declared.Code.{Code}
@@ -71,3 +72,15 @@ long-unless c = by-name (c .name)
     by-name : (n : Name) → (named n .memory ≡ 2 → ⊥) → named n ≡ long
     by-name Short e = absurd (e refl)
     by-name Long e = refl
+
+-- CODES of given generators
+pub record Coded (G : Generators) : Type 0 where
+  pub code : Code
+  pub is : generatorsOf code ≡ G
+
+-- both have one
+pub short-coded : Coded short
+short-coded = record { code = record { name = Short }; is = refl }
+
+pub long-coded : Coded long
+long-coded = record { code = record { name = Long }; is = refl }

@@ -9,7 +9,7 @@ use mathlib.Core.Path.{_≡_, refl}
 use mathlib.Core.List.{[], _∷_}
 use Prim.Native.Nat.{ℕ, _<_}
 use native.Mathlib.Nat.{mod-lt, zero-lt-suc}
-use Rattle.cells.specs.Places.{listOf, sumOf, number}
+use Rattle.cells.specs.Places.{listOf, sumOf, fromBits}
 use Rattle.cells.specs.Bytes.{bitOf, bytesOf}
 use Rattle.cells.specs.Levels.{level}
 use Rattle.codes.specs.Generators.{short, long, digit}
@@ -43,19 +43,19 @@ long-g2 = refl
 
 -- the first cell alone at level 1 reads 6d with code 7: the digits of 133 from the present stage on, bit 0 first
 pub first-cell-long : readStrip oneBit long 1 (1 ∷ 0 ∷ 0 ∷ 0 ∷ 0 ∷ 0 ∷ []) ≡ 0x6d ∷ []
-unfolding readStrip bytesOf listOf number dataBit sumBit codeBit sumOf digit ago level bitOf
+unfolding readStrip bytesOf listOf fromBits dataBit sumBit codeBit sumOf digit ago level bitOf
 first-cell-long = refl
 
 -- the second cell alone reads 4f with code 7: the digits of 171
 pub second-cell-long : readStrip oneBit long 1 (8 ∷ 0 ∷ 0 ∷ 0 ∷ 0 ∷ 0 ∷ []) ≡ 0x4f ∷ []
-unfolding readStrip bytesOf listOf number dataBit sumBit codeBit sumOf digit ago level bitOf
+unfolding readStrip bytesOf listOf fromBits dataBit sumBit codeBit sumOf digit ago level bitOf
 second-cell-long = refl
 
 -- the first cell alone reads 05 with code 3, and the second 07
 pub first-cell-short : readStrip oneBit short 1 (1 ∷ 0 ∷ 0 ∷ 0 ∷ 0 ∷ 0 ∷ []) ≡ 0x05 ∷ []
-unfolding readStrip bytesOf listOf number dataBit sumBit codeBit sumOf digit ago level bitOf
+unfolding readStrip bytesOf listOf fromBits dataBit sumBit codeBit sumOf digit ago level bitOf
 first-cell-short = refl
 
 pub second-cell-short : readStrip oneBit short 1 (8 ∷ 0 ∷ 0 ∷ 0 ∷ 0 ∷ 0 ∷ []) ≡ 0x07 ∷ []
-unfolding readStrip bytesOf listOf number dataBit sumBit codeBit sumOf digit ago level bitOf
+unfolding readStrip bytesOf listOf fromBits dataBit sumBit codeBit sumOf digit ago level bitOf
 second-cell-short = refl

@@ -15,7 +15,7 @@ use lib.Pow.{pow-pos}
 use lib.Bits.{bitAnd, and-step, and-zero-l, and-zero-r}
 use lib.Count.{ones}
 use lib.ListN.{getD, take, replicate}
-use Rattle.cells.specs.Places.{listOf, number}
+use Rattle.cells.specs.Places.{listOf, fromBits}
 use Rattle.codes.specs.Generators.{digit}
 use Rattle.codes.specs.Taps.{tapsOf, parityOf}
 use Rattle.codes.specs.Sequences.{_+₂_, odd}
@@ -105,8 +105,8 @@ parity-dot G s =
     (odd-mod-two (ones (bitAnd (value G) (value s))) ∙ ones-dot G s ∙ sym (odd-one-if (dot G s)))
 
 -- a number of bits is the value of the bits
-number-value : (n : ℕ) (f : ℕ → ℕ) → ((i : ℕ) → f i < 2) → number n f ≡ value (listOf n (λ i. odd (f i)))
-unfolding number value listOf
+number-value : (n : ℕ) (f : ℕ → ℕ) → ((i : ℕ) → f i < 2) → fromBits n f ≡ value (listOf n (λ i. odd (f i)))
+unfolding fromBits value listOf
 number-value zero f h = refl
 number-value (suc n) f h = ap₂ (λ (x y : ℕ). x + 2 * y) (sym (one-if-odd (f 0) (h 0))) (number-value n (λ i. f (suc i)) (λ i. h (suc i)))
 

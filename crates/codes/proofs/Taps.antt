@@ -19,7 +19,7 @@ use lib.Bits.{bitAnd, and-step, and-zero-l}
 use lib.Count.{ones, ones-step}
 use lib.Pow.{pow-pos, field, mod-mod-pow}
 use lib.ListN.{length, getD}
-use Rattle.cells.specs.Places.{sumOf, number}
+use Rattle.cells.specs.Places.{sumOf, fromBits}
 use Rattle.cells.specs.Bytes.{bytesOf}
 use Rattle.cells.specs.Levels.{level}
 use Rattle.cells.proofs.Places.{listOf-same, listOf-getD, sumOf-same, sumOf-add, number-same, number-less, half-power}
@@ -161,7 +161,7 @@ module _ (v : ℕ → ℕ) (q i : ℕ) where
 -- READING A STRIP. Bytes of data bits by the taps of a code are what the strip reads as
 pub read-bytes : (G : Generators) (n : ℕ) (strip bytes : List ℕ) → G .memory ≤ 6 → length bytes ≡ n
     → ((k : ℕ) → k < n → getD bytes k 0
-    ≡ number 8 (λ i. tappedBit (tapsOf (G .memory) (G .g1)) (tapsOf (G .memory) (g2 G)) (level strip) (8 * k + i)))
+    ≡ fromBits 8 (λ i. tappedBit (tapsOf (G .memory) (G .g1)) (tapsOf (G .memory) (g2 G)) (level strip) (8 * k + i)))
     → bytes ≡ readStrip oneBit G n strip
 unfolding readStrip bytesOf
 read-bytes G n strip bytes m e b =

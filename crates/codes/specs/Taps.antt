@@ -8,12 +8,12 @@
 use Prim.Native.Nat.{ℕ, zero, suc, _+_, _*_, _%_, _^_}
 use lib.Bits.{bitAnd}
 use lib.Count.{ones}
-use Rattle.cells.specs.Places.{number}
+use Rattle.cells.specs.Places.{fromBits}
 use Rattle.codes.specs.Generators.{Generators, g2, digit}
 
 -- the generator's digits from the present stage back, digit i worth 2 ^ i
 unfoldable pub tapsOf : ℕ → ℕ → ℕ
-tapsOf m g = number (suc m) (digit m g)
+tapsOf m g = fromBits (suc m) (digit m g)
 
 -- how many taps meet a one of the window, mod 2
 unfoldable pub parityOf : ℕ → ℕ → ℕ

@@ -37,7 +37,7 @@ fn tapped(taps: u32, step: u32, w: u32) -> u32
     sum
 }
 
-// The same the other way: from the last tap back, of eight bits.
+// What the taps make of a window of eight bits the other way, from the last tap back.
 fn lifted(taps: u32, memory: u32, step: u32, w: u32) -> u32
     requires { ⌜ (memory ≤ 6) × (step ≤ 4) × (w < 256) ⌝ }
     ensures { λ r. ⌜ (r ≡ liftedOf taps memory step w (suc memory)) × (r < 256) ⌝ }

@@ -14,10 +14,10 @@ ghost use Rattle.codes.specs.Codes.{generatorsOf, nextOf, TableRow};
 // The bytes of a strip for each byte of its data: `byteCount` of `oneBit`.
 pub const STRIP_BYTES: usize = 6;
 
-// And its cells: `cellCount` of `oneBit`.
+// The cells of a strip for each byte of its data: `cellCount` of `oneBit`.
 pub const STRIP_CELLS: u32 = 16;
 
-// And the bytes of its part of a map with one bit for each cell: `mapCount` of `oneBit`.
+// The bytes of a strip's part of a map, with one bit for each cell, for each byte of its data: `mapCount` of `oneBit`.
 pub const MAP_BYTES: usize = 2;
 
 enum Name {

@@ -7,7 +7,7 @@ use crate::parities::parity;
 ghost use mathlib.Core.Path.{_≡_};
 ghost use Prim.Native.Nat.{_+_, _*_, _<_, _≤_};
 ghost use lib.ListN.{length};
-ghost use Rattle.cells.specs.Places.{number};
+ghost use Rattle.cells.specs.Places.{fromBits};
 ghost use Rattle.cells.specs.Levels.{level};
 ghost use Rattle.codes.specs.Layouts.{oneBit, cellCount, byteCount, mapCount};
 ghost use Rattle.codes.specs.Reading.{readStrip};
@@ -29,7 +29,7 @@ struct ByteRead {
 // Reads byte q of a strip's data, from the windows before it.
 fn read_byte(g1: u32, g2: u32, strip: &[u8], q: usize, windows: Windows) -> ByteRead
     requires { ⌜ (q < 64) × WindowsBefore (now strip) q windows ⌝ }
-    ensures { λ r. ⌜ r .byte ≡ number 8 (λ i. tappedBit g1 g2 (level (now (strip .entry))) (8 * q + i)) ⌝ }
+    ensures { λ r. ⌜ r .byte ≡ fromBits 8 (λ i. tappedBit g1 g2 (level (now (strip .entry))) (8 * q + i)) ⌝ }
     ensures { λ r. ⌜ WindowsBefore (now (strip .entry)) (q + 1) (r .windows) ⌝ }
 {
     let mut a = windows.first;

@@ -130,7 +130,7 @@ module _ (J : Job) (I : InOrder J) where
       (levels-all J (I .sound) (I .whole) (levelsOf (pageCells J) other) (length-levels (pageCells J) other) (record {
         up = λ c h. rw (level-there (pageCells J) other c h) (p .no-lower c h);
         high = λ c h. rw (level-there (pageCells J) other c h) (level-bound other c);
-        kept = λ c h m. level-there (pageCells J) other c h ∙ p .marked-stay c h m;
+        marked-stays = λ c h m. level-there (pageCells J) other c h ∙ p .marked-stay c h m;
         reads = λ j h t l.
             cells-same (J .layout) (J .code) (J .bytes) (I .whole) _ _ t l
             (λ c m. level-there (pageCells J) other (width J * j + c) (place-inside (width J) j c m (J .strips) h))
@@ -175,7 +175,7 @@ module _ (start : ℕ → ℕ) (J : Job) (I : InOrder J) where
         (λ c m. raised-level y v (width J * j + c) (place-inside (width J) j c m (J .strips) h))
         ∙ v .reads j h t l);
     no-lower = λ c h. rw (raised-level y v c h) (v .up c h);
-    marked-stay = λ c h m. raised-level y v c h ∙ v .kept c h m;
+    marked-stay = λ c h m. raised-level y v c h ∙ v .marked-stays c h m;
   }
 
   -- the page raised to a solution's levels has them
@@ -272,6 +272,6 @@ module _ (J : Job) (I : InOrder J) where
       record {
         inside = f .inside;
         no-page = no-page J I e;
-        no-pattern = λ other p. pattern-write (spentStrip J) (f .inside) other p (f .closed);
+        no-pattern = λ other p. pattern-write (spentStrip J) (f .inside) other p (f .unsolved);
         lowest = λ j h. write-pattern j (omega (arith, f .inside)) (f .open-cost j) (f .open-levels j) (f .open-before j h);
       }

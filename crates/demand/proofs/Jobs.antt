@@ -6,6 +6,7 @@
 --   part-marks                 the marks of strip k by its part of the map
 --   part-level                 cell c of strip k is cell n·k + c of the page
 --   part-raised                strip k of a page raised is strip k raised
+--   oneBit-whole               every L goes with one bit a cell
 use mathlib.Core.Path.{_≡_, sym, _∙_, ap, ap₂}
 use mathlib.Core.List.{List, [], _∷_}
 use Prim.Native.Nat.{ℕ, _<_, _≤_, _+_, _*_, _-_, _/_, _%_}
@@ -22,7 +23,9 @@ use Rattle.cells.proofs.Places.{length-listOf, listOf-at, number-same}
 use Rattle.cells.proofs.Bytes.{part-bit, length-bytesOf, bytesOf-same}
 use Rattle.cells.proofs.Levels.{level-same}
 use Rattle.cells.proofs.Parts.{within, part-number, part-place}
-use Rattle.demand.specs.Jobs.{part}
+use Rattle.codes.specs.Layouts.{oneBit}
+use Rattle.codes.proofs.Layouts.{oneBit-stages, oneBit-cells, oneBit-bytes}
+use Rattle.demand.specs.Jobs.{part, Whole}
 
 -- PARTS. One of S parts of n bytes has n bytes
 pub part-length : (n S k : ℕ) (x : List ℕ) → length x ≡ n * S → k < S → length (part n k x) ≡ n
@@ -127,3 +130,7 @@ module _ (n b : ℕ) (fill : 3 * n ≡ 8 * b) (k : ℕ) where
           ∙ bytesOf-same b _ (bit-raised (λ c. start (n * k + c)) (part b k page) (λ c. to (n * k + c))) part-bit-raised
           ∙ ap (λ (m : ℕ). bytesOf m (bit-raised (λ c. start (n * k + c)) (part b k page) (λ c. to (n * k + c))))
           (sym (part-length b S k page e h))
+
+-- ONE BIT A CELL. 16·L cells fill 6·L bytes, and 8·L stages take the data
+pub oneBit-whole : (L : ℕ) → Whole oneBit L
+oneBit-whole L = record { cells-fill = omega (arith, oneBit-cells L, oneBit-bytes L); stages-fill = omega (arith, oneBit-stages L) }

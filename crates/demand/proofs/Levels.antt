@@ -58,7 +58,7 @@ climbs J v c = climb (weightOf (J .weights)) (level (J .page) c) (v c)
 pub record PageLevels (J : Job) (v : ℕ → ℕ) : Type 0 where
   pub up : (c : ℕ) → c < pageCells J → level (J .page) c ≤ v c
   pub high : (c : ℕ) → c < pageCells J → v c ≤ 3
-  pub kept : (c : ℕ) → c < pageCells J → J .marks c ≡ true → v c ≡ level (J .page) c
+  pub marked-stays : (c : ℕ) → c < pageCells J → J .marks c ≡ true → v c ≡ level (J .page) c
   pub reads : (j : ℕ) → j < J .strips → (t : ℕ) → t < 8 * J .bytes
       → dataBit (J .layout) (J .code) (λ c. v (width J * j + c)) t ≡ bitOf (J .content) (8 * J .bytes * j + t)
 
@@ -137,7 +137,7 @@ module _ (J : Job) (Z : Sound (J .layout) (J .code)) (F : Whole (J .layout) (J .
           rw (own-level y j i m) (record {
             up = omega (arith, p .up (width J * j + i) n, cell-level j i m);
             high = p .high (width J * j + i) n;
-            kept = λ q. p .kept (width J * j + i) n (sym (cell-mark j i m) ∙ q) ∙ sym (cell-level j i m);
+            marked-stays = λ q. p .marked-stays (width J * j + i) n (sym (cell-mark j i m) ∙ q) ∙ sym (cell-level j i m);
           })
 
       valid : (j : ℕ) → j < J .strips → stripProblem J j (sumOf (width J) (λ c. climbs J (levelAt y) (width J * j + c))) (own y j)
@@ -161,8 +161,8 @@ module _ (J : Job) (Z : Sound (J .layout) (J .code)) (F : Whole (J .layout) (J .
       up = λ c h. by-place c h (λ i. level (J .page) i ≤ levelAt y i)
           (λ j i m n. omega (arith, rises j i m n .up, own-level y j i n, cell-level j i n));
       high = λ c h. by-place c h (λ i. levelAt y i ≤ 3) (λ j i m n. omega (arith, rises j i m n .high, own-level y j i n));
-      kept = λ c h. by-place c h (λ i. J .marks i ≡ true → levelAt y i ≡ level (J .page) i) (λ j i m n k.
-          sym (own-level y j i n) ∙ rises j i m n .kept (cell-mark j i n ∙ k) ∙ cell-level j i n);
+      marked-stays = λ c h. by-place c h (λ i. J .marks i ≡ true → levelAt y i ≡ level (J .page) i) (λ j i m n k.
+          sym (own-level y j i n) ∙ rises j i m n .marked-stays (cell-mark j i n ∙ k) ∙ cell-level j i n);
       reads = λ j h t l. cells-same (J .layout) (J .code) (J .bytes) F _ _ t l (λ c m. sym (own-level y j c m))
           ∙ could j h .0 .reads t (rw (F .stages-fill) l) ∙ part-data (J .bytes) j (J .content) t l;
     },

@@ -81,7 +81,7 @@ module _ (problem : ℕ → Problem) (w : ℕ) where
 -- the first closed part: it lies within, nothing is valid for it, and something is for each before it
 pub record ClosedAt (problem : ℕ → Problem) (S : ℕ) (f : ℕ → ℕ) (k : ℕ) : Type 0 where
   pub inside : k < S
-  pub closed : (d : ℕ) (y : List ℕ) → problem (f k) d y → ⊥
+  pub unsolved : (d : ℕ) (y : List ℕ) → problem (f k) d y → ⊥
   pub open-cost : ℕ → ℕ
   pub open-levels : ℕ → List ℕ
   pub open-before : (j : ℕ) → j < k → problem (f j) (open-cost j) (open-levels j)
@@ -94,12 +94,18 @@ cons-list y g (suc j) = g j
 pub closed-at : (problem : ℕ → Problem) (S : ℕ) (f : ℕ → ℕ) (k : ℕ) → FirstClosed problem (listOf S f) k → ClosedAt problem S f k
 unfolding listOf cons cons-list
 closed-at problem (suc S) f zero (here p) =
-    record { inside = omega arith; closed = p; open-cost = λ j. 0; open-levels = λ j. []; open-before = λ j h. absurd (not-suc-le-zero h) }
+    record {
+      inside = omega arith;
+      unsolved = p;
+      open-cost = λ j. 0;
+      open-levels = λ j. [];
+      open-before = λ j h. absurd (not-suc-le-zero h);
+    }
 closed-at problem (suc S) f (suc k) (later d y p q) =
     let r : ClosedAt problem S (λ i. f (suc i)) k = closed-at problem S (λ i. f (suc i)) k q in
     record {
       inside = omega (arith, r .inside);
-      closed = r .closed;
+      unsolved = r .unsolved;
       open-cost = cons d (r .open-cost);
       open-levels = cons-list y (r .open-levels);
       open-before = before r;

@@ -11,7 +11,7 @@ use native.Mathlib.Omega.{arith}
 use lib.Dec.{ltb}
 use borrow.Author.Tests.{ltb-true, ltb-false}
 use Rattle.demand.specs.Jobs.{Job, stripJob}
-use Rattle.demand.specs.Demand.{Could, Fits, SpentAt}
+use Rattle.demand.specs.Demand.{Could, SpentAt}
 
 -- a job with other weights
 abbrev pub reweighed : List ℕ → Job → Job

@@ -1,57 +1,22 @@
 // The calls for the relay's firmware, which is in C: numbers and byte slices go in, one number comes out. The declarations for C are in
 // include/segrunov.h.
-use page::Answer;
-use page::Completion;
-use page::ListAnswer;
-use page::answers;
+use words::answer_word;
+use words::completion_word;
+use words::list_word;
 ghost use mathlib.Core.Path.{_≡_};
 ghost use mathlib.Core.List.{[], _∷_};
 ghost use mathlib.Core.Option.{none, some};
-ghost use Prim.Native.Nat.{_+_, _*_, _%_, _≤_};
+ghost use Prim.Native.Nat.{_%_, _≤_};
 ghost use lib.ListN.{length, replicate};
 ghost use Rattle.cells.specs.Marks.{marksIn, emptied};
 ghost use Rattle.cells.specs.Raising.{startOf};
 ghost use Rattle.cells.specs.Climbs.{house};
-ghost use Rattle.page.specs.Reading.{readPage};
-ghost use Rattle.refusals.specs.Refusals.{shapeGround, eraseGround, erasingGround, first-of, ground, numbered, completionOf};
-ghost use Rattle.page.specs.Answers.{kept, answerWith, pageWith, answerOf, pageOf, largestCost, largestWeightedCost};
-ghost use Rattle.page.specs.Promise.{WroteWith, Wrote};
-ghost use Rattle.page.specs.Lists.{listAnswer, listPage, ListBounds, WroteList};
-ghost use Rattle.firmware.specs.Words.{answerWord, completionWord, listWord, Fields};
-
-// A number and a value in one word.
-fn packed(number: u32, value: u32) -> u64
-    ensures { λ r. ⌜ r ≡ number * 4294967296 + value ⌝ }
-{
-    number as u64 * 4294967296 + value as u64
-}
-
-// A write's answer in one word.
-fn answer_word(answer: Answer) -> u64
-    ensures { λ r. ⌜ r ≡ answerWord answer ⌝ }
-{
-    packed(answers::number(answer), answers::value(answer))
-}
-
-// A list's answer in one word.
-fn list_word(answer: ListAnswer) -> u64
-    requires { ⌜ ListBounds answer ⌝ }
-    ensures { λ r. ⌜ r ≡ listWord answer ⌝ }
-    ensures { λ r. ⌜ Fields r answer ⌝ }
-{
-    let end = answer.end;
-    let strip = answers::end_strip(end);
-    packed(answers::end_number(end), answer.cost)
-        + answer.written as u64 * 1099511627776
-        + strip as u64 * 281474976710656
-}
-
-// The answer of a call that has no cost, in one word.
-fn completion_word(completion: Completion) -> u64
-    ensures { λ r. ⌜ r ≡ completionWord completion ⌝ }
-{
-    packed(refusals::completion_number(completion), 0)
-}
+ghost use Rattle.demand.specs.Reading.{readPage};
+ghost use Rattle.refusals.specs.Refusals.{shapeGround, eraseGround, erasingGround, first-of, ground, numbered, completionOf, kept};
+ghost use Rattle.page_promises.specs.Writes.{answerWith, pageWith, answerOf, pageOf, largestCost, largestWeightedCost};
+ghost use Rattle.page_promises.specs.Promise.{WroteWith, Wrote};
+ghost use Rattle.page_promises.specs.Lists.{listAnswer, listPage, WroteList};
+ghost use Rattle.words.specs.Words.{answerWord, completionWord, listWord, Fields};
 
 // Fills a buffer of L·S bytes with what the page reads as.
 #[no_mangle]
@@ -62,8 +27,10 @@ pub extern "C" fn segrunov_read(
     page: &[u8],
     data: &mut [u8],
 ) -> u64
-    ensures { λ r. ⌜ r ≡ completionWord (completionOf (ground code bytes strips (length (now (page .entry))) (length (now («data» .entry))))) ⌝ }
-    ensures { λ _. ⌜ now («data» .exit) ≡ kept (ground code bytes strips (length (now (page .entry))) (length (now («data» .entry)))) (readPage (numbered code) bytes strips (now (page .entry))) (now («data» .entry)) ⌝ }
+    ensures { λ r. ⌜ r ≡ completionWord (completionOf (ground code bytes strips (length (now (page .entry)))
+        (length (now («data» .entry))))) ⌝ }
+    ensures { λ _. ⌜ now («data» .exit) ≡ kept (ground code bytes strips (length (now (page .entry))) (length (now («data» .entry))))
+        (readPage (numbered code) bytes strips (now (page .entry))) (now («data» .entry)) ⌝ }
 {
     completion_word(page::reading::read(code, bytes, strips, page, data))
 }
@@ -78,7 +45,9 @@ pub extern "C" fn segrunov_price(
     data: &[u8],
 ) -> u64
     ensures { λ r. ⌜ r ≡ answerWord (answerOf house code bytes strips (now (page .entry)) (now («data» .entry))) ⌝ }
-    ensures { λ _. ⌜ Wrote house code bytes strips (now (page .entry)) (now («data» .entry)) (pageOf house code bytes strips (now (page .entry)) (now («data» .entry))) (answerOf house code bytes strips (now (page .entry)) (now («data» .entry))) ⌝ }
+    ensures { λ _. ⌜ Wrote house code bytes strips (now (page .entry)) (now («data» .entry))
+        (pageOf house code bytes strips (now (page .entry)) (now («data» .entry)))
+        (answerOf house code bytes strips (now (page .entry)) (now («data» .entry))) ⌝ }
     ensures { λ r. ⌜ r % 4294967296 ≤ largestCost ⌝ }
 {
     answer_word(page::writing::price(code, bytes, strips, page, data))
@@ -95,7 +64,8 @@ pub extern "C" fn segrunov_write(
 ) -> u64
     ensures { λ r. ⌜ r ≡ answerWord (answerOf house code bytes strips (now (page .entry)) (now («data» .entry))) ⌝ }
     ensures { λ _. ⌜ now (page .exit) ≡ pageOf house code bytes strips (now (page .entry)) (now («data» .entry)) ⌝ }
-    ensures { λ _. ⌜ Wrote house code bytes strips (now (page .entry)) (now («data» .entry)) (now (page .exit)) (answerOf house code bytes strips (now (page .entry)) (now («data» .entry))) ⌝ }
+    ensures { λ _. ⌜ Wrote house code bytes strips (now (page .entry)) (now («data» .entry)) (now (page .exit))
+        (answerOf house code bytes strips (now (page .entry)) (now («data» .entry))) ⌝ }
     ensures { λ r. ⌜ r % 4294967296 ≤ largestCost ⌝ }
 {
     answer_word(page::writing::write(code, bytes, strips, page, data))
@@ -114,7 +84,9 @@ pub extern "C" fn segrunov_price_weighted(
     data: &[u8],
 ) -> u64
     ensures { λ r. ⌜ r ≡ answerWord (answerOf (w1 ∷ w2 ∷ w3 ∷ []) code bytes strips (now (page .entry)) (now («data» .entry))) ⌝ }
-    ensures { λ _. ⌜ Wrote (w1 ∷ w2 ∷ w3 ∷ []) code bytes strips (now (page .entry)) (now («data» .entry)) (pageOf (w1 ∷ w2 ∷ w3 ∷ []) code bytes strips (now (page .entry)) (now («data» .entry))) (answerOf (w1 ∷ w2 ∷ w3 ∷ []) code bytes strips (now (page .entry)) (now («data» .entry))) ⌝ }
+    ensures { λ _. ⌜ Wrote (w1 ∷ w2 ∷ w3 ∷ []) code bytes strips (now (page .entry)) (now («data» .entry))
+        (pageOf (w1 ∷ w2 ∷ w3 ∷ []) code bytes strips (now (page .entry)) (now («data» .entry)))
+        (answerOf (w1 ∷ w2 ∷ w3 ∷ []) code bytes strips (now (page .entry)) (now («data» .entry))) ⌝ }
     ensures { λ r. ⌜ r % 4294967296 ≤ largestWeightedCost ⌝ }
 {
     let answer = page::writing::price_weighted(code, bytes, strips, w1, w2, w3, page, data);
@@ -135,7 +107,8 @@ pub extern "C" fn segrunov_write_weighted(
 ) -> u64
     ensures { λ r. ⌜ r ≡ answerWord (answerOf (w1 ∷ w2 ∷ w3 ∷ []) code bytes strips (now (page .entry)) (now («data» .entry))) ⌝ }
     ensures { λ _. ⌜ now (page .exit) ≡ pageOf (w1 ∷ w2 ∷ w3 ∷ []) code bytes strips (now (page .entry)) (now («data» .entry)) ⌝ }
-    ensures { λ _. ⌜ Wrote (w1 ∷ w2 ∷ w3 ∷ []) code bytes strips (now (page .entry)) (now («data» .entry)) (now (page .exit)) (answerOf (w1 ∷ w2 ∷ w3 ∷ []) code bytes strips (now (page .entry)) (now («data» .entry))) ⌝ }
+    ensures { λ _. ⌜ Wrote (w1 ∷ w2 ∷ w3 ∷ []) code bytes strips (now (page .entry)) (now («data» .entry)) (now (page .exit))
+        (answerOf (w1 ∷ w2 ∷ w3 ∷ []) code bytes strips (now (page .entry)) (now («data» .entry))) ⌝ }
     ensures { λ r. ⌜ r % 4294967296 ≤ largestWeightedCost ⌝ }
 {
     let answer = page::writing::write_weighted(code, bytes, strips, w1, w2, w3, page, data);
@@ -155,8 +128,11 @@ pub extern "C" fn segrunov_price_mapped(
     map: &[u8],
     data: &[u8],
 ) -> u64
-    ensures { λ r. ⌜ r ≡ answerWord (answerWith (some (now (map .entry))) (w1 ∷ w2 ∷ w3 ∷ []) code bytes strips (now (page .entry)) (now («data» .entry))) ⌝ }
-    ensures { λ _. ⌜ WroteWith (some (now (map .entry))) (w1 ∷ w2 ∷ w3 ∷ []) code bytes strips (now (page .entry)) (now («data» .entry)) (pageWith (some (now (map .entry))) (w1 ∷ w2 ∷ w3 ∷ []) code bytes strips (now (page .entry)) (now («data» .entry)) startOf) (answerWith (some (now (map .entry))) (w1 ∷ w2 ∷ w3 ∷ []) code bytes strips (now (page .entry)) (now («data» .entry))) ⌝ }
+    ensures { λ r. ⌜ r ≡ answerWord (answerWith (some (now (map .entry))) (w1 ∷ w2 ∷ w3 ∷ []) code bytes strips (now (page .entry))
+        (now («data» .entry))) ⌝ }
+    ensures { λ _. ⌜ WroteWith (some (now (map .entry))) (w1 ∷ w2 ∷ w3 ∷ []) code bytes strips (now (page .entry)) (now («data» .entry))
+        (pageWith (some (now (map .entry))) (w1 ∷ w2 ∷ w3 ∷ []) code bytes strips (now (page .entry)) (now («data» .entry)) startOf)
+        (answerWith (some (now (map .entry))) (w1 ∷ w2 ∷ w3 ∷ []) code bytes strips (now (page .entry)) (now («data» .entry))) ⌝ }
     ensures { λ r. ⌜ r % 4294967296 ≤ largestWeightedCost ⌝ }
 {
     let answer = page::writing::price_mapped(code, bytes, strips, w1, w2, w3, page, map, data);
@@ -176,9 +152,13 @@ pub extern "C" fn segrunov_write_mapped(
     map: &[u8],
     data: &[u8],
 ) -> u64
-    ensures { λ r. ⌜ r ≡ answerWord (answerWith (some (now (map .entry))) (w1 ∷ w2 ∷ w3 ∷ []) code bytes strips (now (page .entry)) (now («data» .entry))) ⌝ }
-    ensures { λ _. ⌜ now (page .exit) ≡ pageWith (some (now (map .entry))) (w1 ∷ w2 ∷ w3 ∷ []) code bytes strips (now (page .entry)) (now («data» .entry)) startOf ⌝ }
-    ensures { λ _. ⌜ WroteWith (some (now (map .entry))) (w1 ∷ w2 ∷ w3 ∷ []) code bytes strips (now (page .entry)) (now («data» .entry)) (now (page .exit)) (answerWith (some (now (map .entry))) (w1 ∷ w2 ∷ w3 ∷ []) code bytes strips (now (page .entry)) (now («data» .entry))) ⌝ }
+    ensures { λ r. ⌜ r ≡ answerWord (answerWith (some (now (map .entry))) (w1 ∷ w2 ∷ w3 ∷ []) code bytes strips (now (page .entry))
+        (now («data» .entry))) ⌝ }
+    ensures { λ _. ⌜ now (page .exit) ≡ pageWith (some (now (map .entry))) (w1 ∷ w2 ∷ w3 ∷ []) code bytes strips (now (page .entry))
+        (now («data» .entry)) startOf ⌝ }
+    ensures { λ _. ⌜ WroteWith (some (now (map .entry))) (w1 ∷ w2 ∷ w3 ∷ []) code bytes strips (now (page .entry)) (now («data» .entry))
+        (now (page .exit)) (answerWith (some (now (map .entry))) (w1 ∷ w2 ∷ w3 ∷ []) code bytes strips (now (page .entry))
+        (now («data» .entry))) ⌝ }
     ensures { λ r. ⌜ r % 4294967296 ≤ largestWeightedCost ⌝ }
 {
     let answer = page::writing::write_mapped(code, bytes, strips, w1, w2, w3, page, map, data);
@@ -198,16 +178,19 @@ pub extern "C" fn segrunov_write_list(
     page: &mut [u8],
     data: &[u8],
 ) -> u64
-    ensures { λ r. ⌜ r ≡ listWord (listAnswer none (w1 ∷ w2 ∷ w3 ∷ []) code bytes strips count (now (page .entry)) (now («data» .entry))) ⌝ }
-    ensures { λ _. ⌜ now (page .exit) ≡ listPage none (w1 ∷ w2 ∷ w3 ∷ []) code bytes strips count (now (page .entry)) (now («data» .entry)) ⌝ }
-    ensures { λ _. ⌜ WroteList none (w1 ∷ w2 ∷ w3 ∷ []) code bytes strips count (now (page .entry)) (now («data» .entry)) (now (page .exit)) (listAnswer none (w1 ∷ w2 ∷ w3 ∷ []) code bytes strips count (now (page .entry)) (now («data» .entry))) ⌝ }
+    ensures { λ r. ⌜ r ≡ listWord (listAnswer none (w1 ∷ w2 ∷ w3 ∷ []) code bytes strips count
+        (now (page .entry)) (now («data» .entry))) ⌝ }
+    ensures { λ _. ⌜ now (page .exit) ≡ listPage none (w1 ∷ w2 ∷ w3 ∷ []) code bytes strips count
+        (now (page .entry)) (now («data» .entry)) ⌝ }
+    ensures { λ _. ⌜ WroteList none (w1 ∷ w2 ∷ w3 ∷ []) code bytes strips count (now (page .entry)) (now («data» .entry)) (now (page .exit))
+        (listAnswer none (w1 ∷ w2 ∷ w3 ∷ []) code bytes strips count (now (page .entry)) (now («data» .entry))) ⌝ }
     ensures { λ r. ⌜ Fields r (listAnswer none (w1 ∷ w2 ∷ w3 ∷ []) code bytes strips count (now (page .entry)) (now («data» .entry))) ⌝ }
 {
     let answer = page::writing::write_list(code, bytes, strips, w1, w2, w3, count, page, data);
     list_word(answer)
 }
 
-// The same, and raises no cell that the map marks.
+// Writes the datas one after another, each at the least cost in these weights, and raises no cell that the map marks.
 #[no_mangle]
 pub extern "C" fn segrunov_write_list_mapped(
     code: u32,
@@ -221,10 +204,15 @@ pub extern "C" fn segrunov_write_list_mapped(
     map: &[u8],
     data: &[u8],
 ) -> u64
-    ensures { λ r. ⌜ r ≡ listWord (listAnswer (some (now (map .entry))) (w1 ∷ w2 ∷ w3 ∷ []) code bytes strips count (now (page .entry)) (now («data» .entry))) ⌝ }
-    ensures { λ _. ⌜ now (page .exit) ≡ listPage (some (now (map .entry))) (w1 ∷ w2 ∷ w3 ∷ []) code bytes strips count (now (page .entry)) (now («data» .entry)) ⌝ }
-    ensures { λ _. ⌜ WroteList (some (now (map .entry))) (w1 ∷ w2 ∷ w3 ∷ []) code bytes strips count (now (page .entry)) (now («data» .entry)) (now (page .exit)) (listAnswer (some (now (map .entry))) (w1 ∷ w2 ∷ w3 ∷ []) code bytes strips count (now (page .entry)) (now («data» .entry))) ⌝ }
-    ensures { λ r. ⌜ Fields r (listAnswer (some (now (map .entry))) (w1 ∷ w2 ∷ w3 ∷ []) code bytes strips count (now (page .entry)) (now («data» .entry))) ⌝ }
+    ensures { λ r. ⌜ r ≡ listWord (listAnswer (some (now (map .entry))) (w1 ∷ w2 ∷ w3 ∷ []) code bytes strips count (now (page .entry))
+        (now («data» .entry))) ⌝ }
+    ensures { λ _. ⌜ now (page .exit) ≡ listPage (some (now (map .entry))) (w1 ∷ w2 ∷ w3 ∷ []) code bytes strips count (now (page .entry))
+        (now («data» .entry)) ⌝ }
+    ensures { λ _. ⌜ WroteList (some (now (map .entry))) (w1 ∷ w2 ∷ w3 ∷ []) code bytes strips count (now (page .entry))
+        (now («data» .entry)) (now (page .exit)) (listAnswer (some (now (map .entry))) (w1 ∷ w2 ∷ w3 ∷ []) code bytes strips count
+        (now (page .entry)) (now («data» .entry))) ⌝ }
+    ensures { λ r. ⌜ Fields r (listAnswer (some (now (map .entry))) (w1 ∷ w2 ∷ w3 ∷ []) code bytes strips count (now (page .entry))
+        (now («data» .entry))) ⌝ }
 {
     let answer = page::writing::write_list_mapped(
         code,
@@ -244,8 +232,10 @@ pub extern "C" fn segrunov_write_list_mapped(
 // Makes every byte of the page 0 at a temperature from 50 to 400 tenths of a degree.
 #[no_mangle]
 pub extern "C" fn segrunov_erase(bytes: u32, strips: u32, page: &mut [u8], tenths: i16) -> u64
-    ensures { λ r. ⌜ r ≡ completionWord (completionOf (first-of (shapeGround bytes strips (length (now (page .entry)))) (eraseGround tenths))) ⌝ }
-    ensures { λ _. ⌜ now (page .exit) ≡ kept (first-of (shapeGround bytes strips (length (now (page .entry)))) (eraseGround tenths)) (replicate (length (now (page .entry))) 0) (now (page .entry)) ⌝ }
+    ensures { λ r. ⌜ r ≡ completionWord (completionOf (first-of (shapeGround bytes strips (length (now (page .entry))))
+        (eraseGround tenths))) ⌝ }
+    ensures { λ _. ⌜ now (page .exit) ≡ kept (first-of (shapeGround bytes strips (length (now (page .entry)))) (eraseGround tenths))
+        (replicate (length (now (page .entry))) 0) (now (page .entry)) ⌝ }
 {
     completion_word(page::erasing::erase(bytes, strips, page, tenths))
 }
@@ -259,8 +249,10 @@ pub extern "C" fn segrunov_erase_mapped(
     map: &[u8],
     tenths: i16,
 ) -> u64
-    ensures { λ r. ⌜ r ≡ completionWord (completionOf (erasingGround (some (length (now (map .entry)))) bytes strips (length (now (page .entry))) tenths)) ⌝ }
-    ensures { λ _. ⌜ now (page .exit) ≡ kept (erasingGround (some (length (now (map .entry)))) bytes strips (length (now (page .entry))) tenths) (emptied (marksIn (now (map .entry))) (now (page .entry))) (now (page .entry)) ⌝ }
+    ensures { λ r. ⌜ r ≡ completionWord (completionOf (erasingGround (some (length (now (map .entry)))) bytes strips
+        (length (now (page .entry))) tenths)) ⌝ }
+    ensures { λ _. ⌜ now (page .exit) ≡ kept (erasingGround (some (length (now (map .entry)))) bytes strips (length (now (page .entry)))
+        tenths) (emptied (marksIn (now (map .entry))) (now (page .entry))) (now (page .entry)) ⌝ }
 {
     completion_word(page::erasing::erase_mapped(bytes, strips, page, map, tenths))
 }

@@ -302,7 +302,7 @@ fn show_shapes() {
     show_strip(2, 3);
 }
 
-// Writes with weights one after the other on one page, with L not S, and a weight of 0 in each place.
+// Writes with weights one after the other on one page, with L not S.
 fn show_weights() {
     let mut page = [0u8; 36];
     show_weighted_on(
@@ -342,6 +342,10 @@ fn show_weights() {
         &mut [0xfe, 0xed, 0xc0, 0xff, 0xee, 0x42],
     );
     show_census(3, 2, &page);
+}
+
+// A weight of 0 in each place.
+fn show_zero_weights() {
     let mut strip = [0u8; 6];
     show_weighted_on(
         b"weights 0 1 1",
@@ -373,8 +377,8 @@ fn show_weights() {
 }
 
 // A page under one map, which marks the cells 7 and 10 of strip 1 where L = 2, and cells of strip 0 where L = 3: an erase that leaves their
-// bits, then writes. A map that is a byte short. And a page all of whose cells are marked at level 0. By write_page, the model in
-// tests/run.py, the map with the bits of each byte or the bytes of each pair turned round, or another strip's, gives other costs.
+// bits, then writes. A map that is a byte short. By write_page, the model in tests/run.py, the map with the bits of each byte or the bytes
+// of each pair turned round, or another strip's, gives other costs.
 fn show_maps() {
     let map = [0u8, 0, 0, 0, 0x80, 0x04, 0, 0, 0, 0, 0, 0];
     let mut page = [0x5au8; 36];
@@ -416,6 +420,10 @@ fn show_maps() {
         &mut [0u8; 6],
     );
     show_mapped_erase(b"erase, a map of 11 bytes", 3, 2, &mut page, &[0u8; 11]);
+}
+
+// A page all of whose cells are marked at level 0.
+fn show_marked() {
     let mut strip = [0u8; 6];
     show_mapped_on(
         b"every cell marked at level 0",
@@ -440,8 +448,7 @@ fn show_maps() {
 }
 
 // Lists of writes: the paper's seven; one for whose third data strip 1 is spent, while its fourth would fit; lists where L is not S, with
-// other weights, on one page; 64 datas: answers and pages by write_list, the model in tests/run.py. Then those that are refused, by the
-// paper: nothing is written, and the page stays.
+// other weights, on one page; 64 datas: answers and pages by write_list, the model in tests/run.py.
 fn show_lists() {
     let house = cells::house_weights();
     let seven = [0x80, 0, 0x80, 0, 0x80, 0, 0x80];
@@ -482,6 +489,12 @@ fn show_lists() {
         &mut [0u8; 6],
         &[0x80u8; 64],
     );
+}
+
+// Those that are refused, by the paper: nothing is written, and the page stays.
+fn show_refused_lists() {
+    let house = cells::house_weights();
+    let seven = [0x80, 0, 0x80, 0, 0x80, 0, 0x80];
     show_list(
         b"65 writes",
         3,
@@ -571,23 +584,27 @@ fn show_calls() {
     show_call(b"S = 65", 3, 1, 65, &mut [0u8; 6]);
     show_call(b"a page of 5 bytes", 3, 1, 1, &mut [0u8; 5]);
     show_call(b"a page of 7 bytes", 3, 1, 1, &mut [0u8; 7]);
+}
+
+// Erases at both ends of the flash's temperatures, and beyond.
+fn show_erases() {
     show_erase(b"erase at 49", 49);
     show_erase(b"erase at 50", 50);
     show_erase(b"erase at 400", 400);
     show_erase(b"erase at 401", 401);
     show_erase(b"erase at -1", -1);
     show_erase(b"erase at -32768", -32768);
+}
+
+// Rows of strips.
+fn show_counts() {
     show_census(1, 1, &[0x01, 0x03, 0, 0, 0, 0]);
     show_census(1, 1, &[0x41, 0x02, 0, 0, 0, 0]);
     show_census(1, 1, &[0xff, 0xff, 0xff, 0xff, 0xff, 0xff]);
-    show_shapes();
-    show_weights();
-    show_maps();
-    show_lists();
-    show_mapped_lists();
 }
 
-fn main() {
+// What strips read as.
+fn show_readings() {
     show_reading(Code::short(), b"code 3 ", [0, 0, 0, 0, 0, 0]);
     show_reading(Code::short(), b"code 3 ", [1, 0, 0, 0, 0, 0]);
     show_reading(Code::short(), b"code 3 ", [8, 0, 0, 0, 0, 0]);
@@ -605,6 +622,10 @@ fn main() {
         b"code 7 ",
         [0xff, 0xff, 0xff, 0xff, 0xff, 0xff],
     );
+}
+
+// Cells raised, and the cost of a climb.
+fn show_raises() {
     show_raise([0, 0, 0, 0, 0, 0], 0);
     show_raise([0, 0, 0, 0, 0, 0], 1);
     show_raise([0, 0, 0, 0, 0, 0], 3);
@@ -618,5 +639,20 @@ fn main() {
         cells::climb(cells::house_weights(), 0, 3) as u64,
     );
     io::write_all(STDOUT_FILENO, b"\n");
+}
+
+fn main() {
+    show_readings();
+    show_raises();
     show_calls();
+    show_erases();
+    show_counts();
+    show_shapes();
+    show_weights();
+    show_zero_weights();
+    show_maps();
+    show_marked();
+    show_lists();
+    show_refused_lists();
+    show_mapped_lists();
 }

@@ -3,8 +3,9 @@
 --   limits-in-order, limits-most, sizes-limits   L and S where the limits have no ground
 --   shape-limits, shape-in-order, in-order       a call without a ground
 --   weights-dear                                 no step is free where the weights have no ground
---   none-of-six, no-free-step, same-weights      a price or write, of one data or a list, with weights that are permitted
---   permitted-ground                             is refused as a read is
+--   Measured                                     L, S and the lengths where a call has no ground
+--   NoGround, no-grounds                         a price or write, of one data or a list, without a ground
+--   same-weights, permitted-ground               with weights that are permitted it is refused as a read is
 --   house-ground                                 with the house's weights it is refused as a read is
 --   weighted-in-order, map-in-order              a price or write without a ground, with a map or without
 --   count-in-order, single-ground                a list without a ground: its count, and each of its writes
@@ -13,19 +14,27 @@
 --   sizes-number                                 the code, L and S are refused by 1 to 3
 --   done-none, refused-some                      an answer tells its ground
 --   refused-first, done-next                     grounds tested one after the other
+--   numbered-code                                the code of a number
+--   product-most                                    L·S is at most 4,096
 use mathlib.Core.Path.{_≡_, refl, sym, _∙_}
 use mathlib.Core.Bool.{Bool, true, false, cond, _||_}
 use mathlib.Core.List.{List}
 use mathlib.Core.Option.{Option, none, some}
 use Prim.Native.Nat.{ℕ, zero, suc, _*_, _<_, _≤_}
 use native.Mathlib.Omega.{arith}
+use native.Mathlib.Nat.{mul-le-mul}
 use lib.Dec.{eqb, leb}
 use lib.IntN.{ℤ}
 use borrow.Author.Tests.{eq-eqb, eqb-true, eqb-false, le-leb, lt-leb, leb-true}
 use Rattle.cells.specs.Climbs.{house, weightOf}
 use Rattle.cells.proofs.Places.{and-both}
+use Rattle.codes.specs.Generators.{short, long}
 use Rattle.codes.specs.Layouts.{oneBit, byteCount, mapCount}
-use Rattle.refusals.specs.Refusals.{oneTo64, isCode, freeStep, first-of, codeGround, bytesGround, stripsGround, weightsGround, countGround, pageGround, mapGround, dataCount, datasGround, dataGround, lengthsGround, limitsGround, sizesGround, shapeGround, ground, listGround, callGround, writeGround, eraseGround, erasingGround, completionOf, refusalNumber}
+use Rattle.codes.proofs.Codes.{Coded, short-coded, long-coded}
+use Rattle.refusals.specs.Refusals.{oneTo64, isCode, freeStep, first-of, codeGround, bytesGround, stripsGround, weightsGround}
+use Rattle.refusals.specs.Refusals.{countGround, pageGround, mapGround, dataCount, datasGround, lengthsGround}
+use Rattle.refusals.specs.Refusals.{limitsGround, sizesGround, shapeGround, ground, listGround, callGround, writeGround, eraseGround}
+use Rattle.refusals.specs.Refusals.{erasingGround, completionOf, refusalNumber, numbered}
 use Rattle.refusals.specs.declared.Refusal.{Refusal}
 use Rattle.refusals.specs.declared.Refusal.the-variants.{CodeUnknown, BytesOutside, StripsOutside, WeightZero}
 use Rattle.refusals.specs.declared.Completion.{Completion}
@@ -77,6 +86,13 @@ limits-in-order L S e =
 pub limits-most : (L S : ℕ) → limitsGround L S ≡ none → (L ≤ 64) × (S ≤ 64)
 limits-most L S e = let l = limits-in-order L S e in (one-to-64 L (l .0) .1, one-to-64 S (l .1) .1)
 
+-- L·S is at most 4,096
+pub product-most : (L S : ℕ) → oneTo64 L ≡ true → oneTo64 S ≡ true → L * S ≤ 4096
+product-most L S l s = mul-le-mul {n₁ = L} {m₁ = S} {n₂ = 64} {m₂ = 64} (one-to-64 L l .1) (one-to-64 S s .1)
+
+pub limits-size : (L S : ℕ) → limitsGround L S ≡ none → L * S ≤ 4096
+limits-size L S e = let l = limits-in-order L S e in product-most L S (l .0) (l .1)
+
 -- the limits are kept where the shape has no ground
 pub shape-limits : (L S page : ℕ) → shapeGround L S page ≡ none → limitsGround L S ≡ none
 unfolding shapeGround
@@ -96,15 +112,34 @@ pub sizes-limits : (code L S : ℕ) → sizesGround code L S ≡ none → limits
 unfolding sizesGround
 sizes-limits code L S e = neither (codeGround code) (limitsGround L S) e .1
 
--- L, S and both lengths where a call has no ground
-pub in-order : (code L S page content : ℕ) → ground code L S page content ≡ none
-    → (oneTo64 L ≡ true) × (oneTo64 S ≡ true) × (page ≡ byteCount oneBit L * S) × (content ≡ L * S)
-unfolding ground lengthsGround pageGround datasGround
+-- L, S and the lengths of page and data of a call that is in order
+pub record Measured (count : Option ℕ) (L S page content : ℕ) : Type 0 where
+  pub bytes-in : oneTo64 L ≡ true
+  pub strips-in : oneTo64 S ≡ true
+  pub page-is : page ≡ byteCount oneBit L * S
+  pub data-is : content ≡ dataCount count L S
+
+-- by the grounds of the limits and of the lengths
+measured : (count map : Option ℕ) (L S page content : ℕ) → limitsGround L S ≡ none → lengthsGround count map L S page content ≡ none
+    → Measured count L S page content
+unfolding lengthsGround pageGround datasGround
+measured count map L S page content e f =
+    let l = limits-in-order L S e in
+    let p = neither (pageGround oneBit L S page) _ f in
+    let q = neither (mapGround oneBit L S map) (datasGround count L S content) (p .1) in
+    record {
+      bytes-in = l .0;
+      strips-in = l .1;
+      page-is = same-length page (byteCount oneBit L * S) _ (p .0);
+      data-is = same-length content (dataCount count L S) _ (q .1);
+    }
+
+-- a read without a ground
+pub in-order : (code L S page content : ℕ) → ground code L S page content ≡ none → Measured none L S page content
+unfolding ground
 in-order code L S page content e =
-    let p = neither (sizesGround code L S) (lengthsGround L S page content) e in
-    let q = neither (pageGround oneBit L S page) (dataGround L S content) (p .1) in
-    let l = limits-in-order L S (sizes-limits code L S (p .0)) in
-    (l .0, l .1, same-length page (byteCount oneBit L * S) _ (q .0), same-length content (L * S) _ (q .1))
+    let p = neither (sizesGround code L S) (lengthsGround none none L S page content) e in
+    measured none none L S page content (sizes-limits code L S (p .0)) (p .1)
 
 -- THE WEIGHTS. No step is free where they have no ground
 weights-told : (a b c : Bool) → cond (a || b || c) (some WeightZero) none ≡ none → (a ≡ false) × (b ≡ false) × (c ≡ false)
@@ -128,62 +163,58 @@ weights-dear W e l h = go l h (weights-told (eqb (weightOf W 0) 0) (eqb (weightO
     go (suc (suc zero)) h p = above _ (p .2)
     go (suc (suc (suc l))) h p = absurd (let z : ⊥ = omega arith in z)
 
--- A PRICE OR A WRITE, of one data or a list, without a ground has none of the six
-none-of-six : (count map : Option ℕ) (W : List ℕ) (code L S page content : ℕ) → listGround count map W code L S page content ≡ none
-    → (sizesGround code L S ≡ none)
-    × (weightsGround W ≡ none)
-    × (countGround count ≡ none)
-    × (pageGround oneBit L S page ≡ none)
-    × (mapGround oneBit L S map ≡ none)
-    × (datasGround count L S content ≡ none)
+-- A PRICE OR A WRITE, of one data or a list, without a ground has none of these
+pub record NoGround (count map : Option ℕ) (W : List ℕ) (code L S page content : ℕ) : Type 0 where
+  pub sizes : sizesGround code L S ≡ none
+  pub weights : weightsGround W ≡ none
+  pub counted : countGround count ≡ none
+  pub lengths : lengthsGround count map L S page content ≡ none
+
+pub no-grounds : (count map : Option ℕ) (W : List ℕ) (code L S page content : ℕ) → listGround count map W code L S page content ≡ none
+    → NoGround count map W code L S page content
 unfolding listGround
-none-of-six count map W code L S page content e =
+no-grounds count map W code L S page content e =
     let p = neither (sizesGround code L S) _ e in
     let q = neither (weightsGround W) _ (p .1) in
     let r = neither (countGround count) _ (q .1) in
-    let s = neither (pageGround oneBit L S page) _ (r .1) in
-    let t = neither (mapGround oneBit L S map) (datasGround count L S content) (s .1) in
-    (p .0, q .0, r .0, s .0, t .0, t .1)
-
--- so no step is free
-pub no-free-step : (count map : Option ℕ) (W : List ℕ) (code L S page content : ℕ) → listGround count map W code L S page content ≡ none
-    → weightsGround W ≡ none
-no-free-step count map W code L S page content e = none-of-six count map W code L S page content e .1
+    record { sizes = p .0; weights = q .0; counted = r .0; lengths = r .1 }
 
 -- with other weights that are permitted it has no ground either
 pub same-weights : (map : Option ℕ) (U W : List ℕ) (code L S page content : ℕ) → weightsGround W ≡ none
     → callGround map U code L S page content ≡ none → callGround map U code L S page content ≡ callGround map W code L S page content
 unfolding listGround
-same-weights map U W code L S page content w e = rw (no-free-step none map U code L S page content e, w)
+same-weights map U W code L S page content w e = rw (no-grounds none map U code L S page content e .weights, w)
 
--- L, S and both lengths are in order
+-- L, S and the lengths are in order
 pub weighted-in-order : (count map : Option ℕ) (W : List ℕ) (code L S page content : ℕ)
-    → listGround count map W code L S page content ≡ none
-    → (oneTo64 L ≡ true) × (oneTo64 S ≡ true) × (page ≡ byteCount oneBit L * S) × (content ≡ dataCount count L S)
-unfolding pageGround datasGround
+    → listGround count map W code L S page content ≡ none → Measured count L S page content
 weighted-in-order count map W code L S page content e =
-    let p = none-of-six count map W code L S page content e in
-    let l = limits-in-order L S (sizes-limits code L S (p .0)) in
-    (l .0, l .1, same-length page (byteCount oneBit L * S) _ (p .3), same-length content (dataCount count L S) _ (p .5))
+    let p = no-grounds count map W code L S page content e in
+    measured count map L S page content (sizes-limits code L S (p .sizes)) (p .lengths)
 
 -- and the map's length, where there is a map
 pub map-in-order : (map : ℕ) (W : List ℕ) (code L S page content : ℕ) → callGround (some map) W code L S page content ≡ none
     → map ≡ mapCount oneBit L * S
+unfolding lengthsGround
 map-in-order map W code L S page content e =
-    same-length map (mapCount oneBit L * S) _ (none-of-six none (some map) W code L S page content e .4)
+    let p = neither (pageGround oneBit L S page) _ (no-grounds none (some map) W code L S page content e .lengths) in
+    same-length map (mapCount oneBit L * S) _ (neither (mapGround oneBit L S (some map)) (datasGround none L S content) (p .1) .0)
 
 -- A LIST without a ground: its count
 pub count-in-order : (count : ℕ) (map : Option ℕ) (W : List ℕ) (code L S page content : ℕ)
     → listGround (some count) map W code L S page content ≡ none → oneTo64 count ≡ true
-count-in-order count map W code L S page content e = no-ground (oneTo64 count) _ (none-of-six (some count) map W code L S page content e .2)
+count-in-order count map W code L S page content e =
+    no-ground (oneTo64 count) _ (no-grounds (some count) map W code L S page content e .counted)
 
 -- and each of its writes has none, on a page of the same length with L·S bytes of data
 pub single-ground : (count : ℕ) (map : Option ℕ) (W : List ℕ) (code L S page content : ℕ)
     → listGround (some count) map W code L S page content ≡ none → callGround map W code L S page (L * S) ≡ none
-unfolding listGround datasGround
+unfolding listGround lengthsGround datasGround
 single-ground count map W code L S page content e =
-    let p = none-of-six (some count) map W code L S page content e in
-    rw (p .0, p .1, p .3, p .4, eq-eqb (L * S) (L * S) refl)
+    let p = no-grounds (some count) map W code L S page content e in
+    let q = neither (pageGround oneBit L S page) _ (p .lengths) in
+    let r = neither (mapGround oneBit L S map) _ (q .1) in
+    rw (p .sizes, p .weights, q .0, r .0, eq-eqb (L * S) (L * S) refl)
 
 -- a map of the right length refuses nothing more
 right-map : (L S : ℕ) → mapGround oneBit L S (some (mapCount oneBit L * S)) ≡ none
@@ -191,7 +222,7 @@ right-map L S = rw (eq-eqb (mapCount oneBit L * S) (mapCount oneBit L * S) refl)
 
 pub same-ground : (count : Option ℕ) (W : List ℕ) (code L S page content : ℕ)
     → listGround count (some (mapCount oneBit L * S)) W code L S page content ≡ listGround count none W code L S page content
-unfolding listGround
+unfolding listGround lengthsGround
 same-ground count W code L S page content = rw (right-map L S)
 
 -- AN ERASE without a ground: the lengths of its page and of its map
@@ -212,7 +243,7 @@ same-erasing L S page tenths = rw (right-map L S)
 -- WITHOUT A MAP a price or a write is refused as a read is, where no step is free
 pub permitted-ground : (W : List ℕ) (code L S page content : ℕ) → weightsGround W ≡ none
     → writeGround W code L S page content ≡ ground code L S page content
-unfolding listGround ground lengthsGround
+unfolding listGround ground
 permitted-ground W code L S page content e = rw e
 
 -- as with the house's weights, none of which is 0
@@ -253,3 +284,12 @@ refused-first (some s) h c e f = e
 pub done-next : (g h : Option Refusal) {c d : Completion} → c ≡ completionOf g → c ≡ Done → d ≡ completionOf h
     → d ≡ completionOf (first-of g h)
 done-next g h e f k = rw (done-none g (sym e ∙ f)) k
+
+-- THE CODE of a number: its generators are those of a code
+pub numbered-code : (code : ℕ) → Coded (numbered code)
+unfolding numbered
+numbered-code code = go (eqb code 3)
+  where
+    go : (b : Bool) → Coded (cond b short long)
+    go true = short-coded
+    go false = long-coded

@@ -3,7 +3,8 @@
 --   first-of                    of two grounds, the one that is tested first
 --   limitsGround, sizesGround   the grounds of L and S; of the code, L and S
 --   freeStep, weightsGround     whether a weight is 0, and the ground of that
---   shapeGround, lengthsGround  the grounds of erase and census; of both lengths
+--   shapeGround, lengthsGround  the grounds of erase and census; of the lengths
+--   countGiven, mapGiven        the count and the length of the map that a call has, or none
 --   mapGround                   the ground of a map's length, where there is a map
 --   countGround                 the ground of a list's count, where there is a list
 --   dataCount                   the bytes of data: of one write, or of a list of so many
@@ -16,6 +17,7 @@
 --   refusalNumber               the paper's number of a refusal
 --   textNumber                  the number of the refusal that no call has
 --   completionOf                done, or the refusal; completionNumber, the paper's number of it
+--   kept                        what a refusal leaves as it was
 use mathlib.Core.Bool.{Bool, cond, _&&_, _||_}
 use mathlib.Core.List.{List}
 use mathlib.Core.Option.{Option, none, some}
@@ -27,7 +29,12 @@ use Rattle.cells.specs.Climbs.{weightOf}
 use Rattle.codes.specs.Generators.{Generators, short, long}
 use Rattle.codes.specs.Layouts.{Layout, oneBit, byteCount, mapCount}
 use Rattle.refusals.specs.declared.Refusal.{Refusal}
-use Rattle.refusals.specs.declared.Refusal.the-variants.{CodeUnknown, BytesOutside, StripsOutside, WeightZero, CountOutside, PageLength, MapLength, DataLength, EraseTemperature}
+use Rattle.refusals.specs.declared.Refusal.the-variants.{CodeUnknown, BytesOutside, StripsOutside, WeightZero, CountOutside}
+use Rattle.refusals.specs.declared.Refusal.the-variants.{PageLength, MapLength, DataLength, EraseTemperature}
+use Rattle.refusals.specs.declared.Count.{Count}
+use Rattle.refusals.specs.declared.Count.the-variants as N
+use Rattle.refusals.specs.declared.Map.{Map}
+use Rattle.refusals.specs.declared.Map.the-variants as M
 use Rattle.refusals.specs.declared.Completion.{Completion}
 use Rattle.refusals.specs.declared.Completion.the-variants as C
 
@@ -60,6 +67,16 @@ stripsGround S = cond (oneTo64 S) none (some StripsOutside)
 unfoldable pub pageGround : Layout → ℕ → ℕ → ℕ → Option Refusal
 pageGround lay L S size = cond (eqb size (byteCount lay L * S)) none (some PageLength)
 
+-- a call's count, where it writes a list
+abbrev pub countGiven : Count → Option ℕ
+countGiven N.One = none
+countGiven (N.List n) = some n
+
+-- the length of a call's map, where it has one
+abbrev pub mapGiven : Map → Option ℕ
+mapGiven M.Nothing = none
+mapGiven (M.Length n) = some n
+
 -- '11, the map has another length, tested after 4 and before 5'; 'calls without one mean a map with no cell marked'
 abbrev pub mapGround : Layout → ℕ → ℕ → Option ℕ → Option Refusal
 mapGround lay L S none = none
@@ -78,10 +95,6 @@ dataCount (some count) L S = count * (L * S)
 -- '5: the data, or the buffer for it, is not L·S bytes long'; for a list, not the count times that
 unfoldable pub datasGround : Option ℕ → ℕ → ℕ → ℕ → Option Refusal
 datasGround count L S size = cond (eqb size (dataCount count L S)) none (some DataLength)
-
--- that of one data
-abbrev pub dataGround : ℕ → ℕ → ℕ → Option Refusal
-dataGround L S size = datasGround none L S size
 
 -- whether one of three weights is 0, so that a step is free
 unfoldable pub freeStep : List ℕ → Bool
@@ -103,22 +116,21 @@ sizesGround code L S = first-of (codeGround code) (limitsGround L S)
 unfoldable pub shapeGround : ℕ → ℕ → ℕ → Option Refusal
 shapeGround L S page = first-of (limitsGround L S) (pageGround oneBit L S page)
 
--- 4 and 5: both lengths
-unfoldable pub lengthsGround : ℕ → ℕ → ℕ → ℕ → Option Refusal
-lengthsGround L S page content = first-of (pageGround oneBit L S page) (dataGround L S content)
+-- 4, 11 and 5, the lengths: of the page, perhaps of a map, and of the data of one write or a list
+unfoldable pub lengthsGround : (count map : Option ℕ) → ℕ → ℕ → ℕ → ℕ → Option Refusal
+lengthsGround count map L S page content =
+    first-of (pageGround oneBit L S page) (first-of (mapGround oneBit L S map) (datasGround count L S content))
 
 -- 1 to 5, for read
 unfoldable pub ground : ℕ → ℕ → ℕ → ℕ → ℕ → Option Refusal
-ground code L S page content = first-of (sizesGround code L S) (lengthsGround L S page content)
+ground code L S page content = first-of (sizesGround code L S) (lengthsGround none none L S page content)
 
 -- for price and write, with the weights W, perhaps a list's count and perhaps a map: 9 is 'tested after 3 and before 4', 10 'after 3 and 9
 -- and before 4', 11 'after 4 and before 5'
 unfoldable pub listGround : (count map : Option ℕ) → List ℕ → ℕ → ℕ → ℕ → ℕ → ℕ → Option Refusal
 listGround count map W code L S page content =
     first-of (sizesGround code L S)
-    (first-of (weightsGround W)
-    (first-of (countGround count)
-    (first-of (pageGround oneBit L S page) (first-of (mapGround oneBit L S map) (datasGround count L S content)))))
+    (first-of (weightsGround W) (first-of (countGround count) (lengthsGround count map L S page content)))
 
 -- of one data
 abbrev pub callGround : Option ℕ → List ℕ → ℕ → ℕ → ℕ → ℕ → ℕ → Option Refusal
@@ -172,3 +184,8 @@ completionOf (some r) = C.Refused r
 abbrev pub completionNumber : Completion → ℕ
 completionNumber C.Done = 0
 completionNumber (C.Refused r) = refusalNumber r
+
+-- 'Page, data and buffers are unchanged' with any refusal
+abbrev pub kept : {A : Type 0} → Option Refusal → A → A → A
+kept none done before = done
+kept (some r) done before = before

@@ -1,10 +1,10 @@
-// Which input is in order: the grounds of a refusal, each tested in one place, in the paper's order.
-use codes::Code;
+// The grounds of a refusal, each tested in one place; `judges` puts them in the paper's order.
 ghost use mathlib.Core.Path.{_≡_};
-ghost use mathlib.Core.Option.{Option, none, some};
+ghost use mathlib.Core.Option.{Option, none};
 ghost use Rattle.codes.specs.Layouts.{oneBit};
-ghost use Rattle.codes.specs.Codes.{generatorsOf};
-ghost use Rattle.refusals.specs.Refusals.{oneTo64, isCode, tooCold, tooWarm, freeStep, limitsGround, sizesGround, weightsGround, countGround, pageGround, mapGround, datasGround, dataGround, lengthsGround, shapeGround, ground, listGround, callGround, writeGround, eraseGround, erasingGround, first-of, numbered, refusalNumber, completionOf, completionNumber};
+ghost use Rattle.refusals.specs.Refusals.{oneTo64, isCode, tooCold, tooWarm, freeStep, limitsGround, sizesGround, weightsGround};
+ghost use Rattle.refusals.specs.Refusals.{countGiven, mapGiven, countGround, pageGround, mapGround, datasGround, eraseGround};
+ghost use Rattle.refusals.specs.Refusals.{first-of, refusalNumber, completionOf, completionNumber};
 
 // Why a call is refused, in the order of the tests; the paper's numbers are 1, 2, 3, 9, 10, 4, 11, 5 and 8.
 pub enum Refusal {
@@ -25,6 +25,18 @@ pub enum Completion {
     Refused(Refusal),
 }
 
+// How many datas a call writes: one, or a list of so many.
+pub enum Count {
+    One,
+    List(u32),
+}
+
+// The map that a call has: none, or one of so many bytes.
+pub enum Map {
+    Nothing,
+    Length(usize),
+}
+
 // Whether n is from 1 to 64.
 fn one_to_64(n: u32) -> bool
     ensures { λ r. ⌜ r ≡ oneTo64 n ⌝ }
@@ -36,7 +48,7 @@ fn one_to_64(n: u32) -> bool
 }
 
 // Judges L and S, in this order.
-fn judge_limits(bytes: u32, strips: u32) -> Completion
+pub fn judge_limits(bytes: u32, strips: u32) -> Completion
     ensures { λ r. ⌜ r ≡ completionOf (limitsGround bytes strips) ⌝ }
 {
     if !one_to_64(bytes) {
@@ -68,81 +80,6 @@ pub fn judge_sizes(code: u32, bytes: u32, strips: u32) -> Completion
     judge_limits(bytes, strips)
 }
 
-// Judges the page's length, where L and S are within their limits.
-fn judge_page(bytes: u32, strips: u32, page: usize) -> Completion
-    requires { ⌜ limitsGround bytes strips ≡ none ⌝ }
-    ensures { λ r. ⌜ r ≡ completionOf (pageGround oneBit bytes strips page) ⌝ }
-{
-    if page != codes::STRIP_BYTES * (bytes as usize) * (strips as usize) {
-        return Completion::Refused(Refusal::PageLength);
-    }
-    Completion::Done
-}
-
-// Judges the map's length.
-fn judge_map(bytes: u32, strips: u32, map: usize) -> Completion
-    requires { ⌜ limitsGround bytes strips ≡ none ⌝ }
-    ensures { λ r. ⌜ r ≡ completionOf (mapGround oneBit bytes strips (some map)) ⌝ }
-{
-    if map != codes::MAP_BYTES * (bytes as usize) * (strips as usize) {
-        return Completion::Refused(Refusal::MapLength);
-    }
-    Completion::Done
-}
-
-// Judges the length of the data, or of the buffer for it.
-fn judge_data(bytes: u32, strips: u32, data: usize) -> Completion
-    requires { ⌜ limitsGround bytes strips ≡ none ⌝ }
-    ensures { λ r. ⌜ r ≡ completionOf (dataGround bytes strips «data») ⌝ }
-{
-    if data != (bytes as usize) * (strips as usize) {
-        return Completion::Refused(Refusal::DataLength);
-    }
-    Completion::Done
-}
-
-// Of two that were judged, the first where it is refused, else the later one.
-fn earlier(first: Completion, later: Completion) -> Completion
-    ensures { λ r. ⌜ ((g h : Option Refusal) → first ≡ completionOf g → later ≡ completionOf h → r ≡ completionOf (first-of g h)) ⌝ }
-{
-    match first {
-        Completion::Done => later,
-        Completion::Refused(_) => first,
-    }
-}
-
-// Judges L, S and the page's length, in this order.
-pub fn judge_shape(bytes: u32, strips: u32, page: usize) -> Completion
-    ensures { λ r. ⌜ r ≡ completionOf (shapeGround bytes strips page) ⌝ }
-{
-    let judged = judge_limits(bytes, strips);
-    let Completion::Done = judged else {
-        return judged;
-    };
-    judge_page(bytes, strips, page)
-}
-
-// Judges both lengths, the page's first.
-fn judge_lengths(bytes: u32, strips: u32, page: usize, data: usize) -> Completion
-    requires { ⌜ limitsGround bytes strips ≡ none ⌝ }
-    ensures { λ r. ⌜ r ≡ completionOf (lengthsGround bytes strips page «data») ⌝ }
-{
-    let of_page = judge_page(bytes, strips, page);
-    let of_data = judge_data(bytes, strips, data);
-    earlier(of_page, of_data)
-}
-
-// Judges what a read is given: the code, then the shape, then the data's length.
-pub fn judge(code: u32, bytes: u32, strips: u32, page: usize, data: usize) -> Completion
-    ensures { λ r. ⌜ r ≡ completionOf (ground code bytes strips page «data») ⌝ }
-{
-    let sizes = judge_sizes(code, bytes, strips);
-    let Completion::Done = sizes else {
-        return sizes;
-    };
-    judge_lengths(bytes, strips, page, data)
-}
-
 // Whether one of the weights is 0.
 fn free_step(weights: [u8; 3]) -> bool
     ensures { λ r. ⌜ r ≡ freeStep weights ⌝ }
@@ -157,7 +94,7 @@ fn free_step(weights: [u8; 3]) -> bool
 }
 
 // Judges the weights.
-fn judge_weights(weights: [u8; 3]) -> Completion
+pub fn judge_weights(weights: [u8; 3]) -> Completion
     ensures { λ r. ⌜ r ≡ completionOf (weightsGround weights) ⌝ }
 {
     if free_step(weights) {
@@ -167,164 +104,66 @@ fn judge_weights(weights: [u8; 3]) -> Completion
 }
 
 // Judges the count of a list.
-fn judge_count(count: u32) -> Completion
-    ensures { λ r. ⌜ r ≡ completionOf (countGround (some count)) ⌝ }
+pub fn judge_count(count: Count) -> Completion
+    ensures { λ r. ⌜ r ≡ completionOf (countGround (countGiven count)) ⌝ }
 {
-    if !one_to_64(count) {
-        return Completion::Refused(Refusal::CountOutside);
+    match count {
+        Count::One => Completion::Done,
+        Count::List(n) => {
+            if !one_to_64(n) {
+                return Completion::Refused(Refusal::CountOutside);
+            }
+            Completion::Done
+        }
+    }
+}
+
+// Judges the page's length, where L and S are within their limits.
+pub fn judge_page(bytes: u32, strips: u32, page: usize) -> Completion
+    requires { ⌜ limitsGround bytes strips ≡ none ⌝ }
+    ensures { λ r. ⌜ r ≡ completionOf (pageGround oneBit bytes strips page) ⌝ }
+{
+    if page != codes::STRIP_BYTES * (bytes as usize) * (strips as usize) {
+        return Completion::Refused(Refusal::PageLength);
     }
     Completion::Done
 }
 
-// Judges the length of the datas of a list.
-fn judge_datas(count: u32, bytes: u32, strips: u32, data: usize) -> Completion
+// Judges the map's length, where there is a map.
+pub fn judge_map(bytes: u32, strips: u32, map: Map) -> Completion
     requires { ⌜ limitsGround bytes strips ≡ none ⌝ }
-    ensures { λ r. ⌜ r ≡ completionOf (datasGround (some count) bytes strips «data») ⌝ }
+    ensures { λ r. ⌜ r ≡ completionOf (mapGround oneBit bytes strips (mapGiven map)) ⌝ }
 {
-    if data != (count as usize) * ((bytes as usize) * (strips as usize)) {
-        return Completion::Refused(Refusal::DataLength);
+    match map {
+        Map::Nothing => Completion::Done,
+        Map::Length(size) => {
+            if size != codes::MAP_BYTES * (bytes as usize) * (strips as usize) {
+                return Completion::Refused(Refusal::MapLength);
+            }
+            Completion::Done
+        }
     }
-    Completion::Done
 }
 
-// Judges the weights, the count, then the lengths of page, map and data. The count and the lengths of map and data are judged already: done
-// where there is no list, and no map.
-fn judge_weighted(
-    bytes: u32,
-    strips: u32,
-    weights: [u8; 3],
-    counted: Completion,
-    page: usize,
-    mapped: Completion,
-    sized: Completion,
-) -> Completion
+// Judges the length of the data, or of the buffer for it; of a list, that of all its datas.
+pub fn judge_data(bytes: u32, strips: u32, count: Count, data: usize) -> Completion
     requires { ⌜ limitsGround bytes strips ≡ none ⌝ }
-    ensures { λ r. ⌜ ((g h i : Option Refusal) → counted ≡ completionOf g → mapped ≡ completionOf h → sized ≡ completionOf i
-        → r ≡ completionOf (first-of (weightsGround weights)
-        (first-of g (first-of (pageGround oneBit bytes strips page) (first-of h i))))) ⌝ }
+    ensures { λ r. ⌜ r ≡ completionOf (datasGround (countGiven count) bytes strips «data») ⌝ }
 {
-    let steps = judge_weights(weights);
-    let of_page = judge_page(bytes, strips, page);
-    let lengths = earlier(of_page, earlier(mapped, sized));
-    earlier(steps, earlier(counted, lengths))
-}
-
-// Judges what a price or a write is given: the code, L and S, then the weights, then both lengths.
-pub fn judge_write(
-    code: u32,
-    bytes: u32,
-    strips: u32,
-    weights: [u8; 3],
-    page: usize,
-    data: usize,
-) -> Completion
-    ensures { λ r. ⌜ r ≡ completionOf (writeGround weights code bytes strips page «data») ⌝ }
-{
-    let sizes = judge_sizes(code, bytes, strips);
-    let Completion::Done = sizes else {
-        return sizes;
-    };
-    let of_data = judge_data(bytes, strips, data);
-    judge_weighted(
-        bytes,
-        strips,
-        weights,
-        Completion::Done,
-        page,
-        Completion::Done,
-        of_data,
-    )
-}
-
-// And with a map, whose length is judged between the page's and the data's.
-pub fn judge_mapped(
-    code: u32,
-    bytes: u32,
-    strips: u32,
-    weights: [u8; 3],
-    page: usize,
-    map: usize,
-    data: usize,
-) -> Completion
-    ensures { λ r. ⌜ r ≡ completionOf (callGround (some map) weights code bytes strips page «data») ⌝ }
-{
-    let sizes = judge_sizes(code, bytes, strips);
-    let Completion::Done = sizes else {
-        return sizes;
-    };
-    let of_map = judge_map(bytes, strips, map);
-    let of_data = judge_data(bytes, strips, data);
-    judge_weighted(
-        bytes,
-        strips,
-        weights,
-        Completion::Done,
-        page,
-        of_map,
-        of_data,
-    )
-}
-
-// Judges what a list of writes is given: its count is judged between the weights and the page's length.
-pub fn judge_list(
-    code: u32,
-    bytes: u32,
-    strips: u32,
-    weights: [u8; 3],
-    count: u32,
-    page: usize,
-    data: usize,
-) -> Completion
-    ensures { λ r. ⌜ r ≡ completionOf (listGround (some count) none weights code bytes strips page «data») ⌝ }
-{
-    let sizes = judge_sizes(code, bytes, strips);
-    let Completion::Done = sizes else {
-        return sizes;
-    };
-    let of_count = judge_count(count);
-    let of_data = judge_datas(count, bytes, strips, data);
-    judge_weighted(
-        bytes,
-        strips,
-        weights,
-        of_count,
-        page,
-        Completion::Done,
-        of_data,
-    )
-}
-
-// And with a map.
-pub fn judge_list_mapped(
-    code: u32,
-    bytes: u32,
-    strips: u32,
-    weights: [u8; 3],
-    count: u32,
-    page: usize,
-    map: usize,
-    data: usize,
-) -> Completion
-    ensures { λ r. ⌜ r ≡ completionOf (listGround (some count) (some map) weights code bytes strips page «data») ⌝ }
-{
-    let sizes = judge_sizes(code, bytes, strips);
-    let Completion::Done = sizes else {
-        return sizes;
-    };
-    let of_count = judge_count(count);
-    let of_map = judge_map(bytes, strips, map);
-    let of_data = judge_datas(count, bytes, strips, data);
-    judge_weighted(bytes, strips, weights, of_count, page, of_map, of_data)
-}
-
-// The code of a number that is 3 or 7.
-pub fn code_of(code: u32) -> Code
-    ensures { λ r. ⌜ generatorsOf r ≡ numbered code ⌝ }
-{
-    if code == 3 {
-        Code::short()
-    } else {
-        Code::long()
+    let one = (bytes as usize) * (strips as usize);
+    match count {
+        Count::One => {
+            if data != one {
+                return Completion::Refused(Refusal::DataLength);
+            }
+            Completion::Done
+        }
+        Count::List(n) => {
+            if data != (n as usize) * one {
+                return Completion::Refused(Refusal::DataLength);
+            }
+            Completion::Done
+        }
     }
 }
 
@@ -335,7 +174,7 @@ fn too_cold(tenths: i16) -> bool
     tenths < 50
 }
 
-// And too warm.
+// Whether it is too warm for an erase, in tenths of a degree Celsius.
 fn too_warm(tenths: i16) -> bool
     ensures { λ r. ⌜ r ≡ tooWarm tenths ⌝ }
 {
@@ -343,7 +182,7 @@ fn too_warm(tenths: i16) -> bool
 }
 
 // Judges the temperature.
-fn judge_tenths(tenths: i16) -> Completion
+pub fn judge_tenths(tenths: i16) -> Completion
     ensures { λ r. ⌜ r ≡ completionOf (eraseGround tenths) ⌝ }
 {
     if too_cold(tenths) {
@@ -355,34 +194,14 @@ fn judge_tenths(tenths: i16) -> Completion
     Completion::Done
 }
 
-// Judges the shape, then the temperature.
-pub fn judge_erase(bytes: u32, strips: u32, page: usize, tenths: i16) -> Completion
-    ensures { λ r. ⌜ r ≡ completionOf (first-of (shapeGround bytes strips page) (eraseGround tenths)) ⌝ }
+// Of two that were judged, the first where it is refused, else the later one.
+pub fn earlier(first: Completion, later: Completion) -> Completion
+    ensures { λ r. ⌜ ((g h : Option Refusal) → first ≡ completionOf g → later ≡ completionOf h → r ≡ completionOf (first-of g h)) ⌝ }
 {
-    let judged = judge_shape(bytes, strips, page);
-    let Completion::Done = judged else {
-        return judged;
-    };
-    judge_tenths(tenths)
-}
-
-// And with a map, whose length is judged between them.
-pub fn judge_mapped_erase(
-    bytes: u32,
-    strips: u32,
-    page: usize,
-    map: usize,
-    tenths: i16,
-) -> Completion
-    ensures { λ r. ⌜ r ≡ completionOf (erasingGround (some map) bytes strips page tenths) ⌝ }
-{
-    let judged = judge_shape(bytes, strips, page);
-    let Completion::Done = judged else {
-        return judged;
-    };
-    let of_map = judge_map(bytes, strips, map);
-    let of_tenths = judge_tenths(tenths);
-    earlier(of_map, of_tenths)
+    match first {
+        Completion::Done => later,
+        Completion::Refused(_) => first,
+    }
 }
 
 // The number of a refusal.

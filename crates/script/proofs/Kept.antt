@@ -20,7 +20,7 @@ cut-more (suc m) (a ∷ x) y = ap (λ (l : List ℕ). a ∷ l) (cut-more m x y)
 -- no byte yet
 pub kept-none : (line : List ℕ) (used : ℕ) → used ≤ length line → KeptPart (take used line ++ []) line used line
 kept-none line used h = record {
-  long = refl;
+  size = refl;
   inside = h;
   part-is = sym (rw (append-nil (take used line)) (take-all (length line) (take used line) (rw (length-take-le used line h) h)));
   others = refl;
@@ -30,7 +30,7 @@ kept-none line used h = record {
 pub kept-room : (line : List ℕ) (used b : ℕ) → used < length line
     → KeptPart (take used line ++ b ∷ []) line (used + 1) (set line used b)
 kept-room line used b h = record {
-  long = length-set line used b;
+  size = length-set line used b;
   inside = rw (length-set line used b) (omega arith);
   part-is =
       rw (add-one used, take-suc-set line used b h)
@@ -42,7 +42,7 @@ kept-room line used b h = record {
 -- and none where there is none
 pub kept-full : (line : List ℕ) (used b : ℕ) → used ≤ length line → length line ≤ used → KeptPart (take used line ++ b ∷ []) line used line
 kept-full line used b h g = record {
-  long = refl;
+  size = refl;
   inside = h;
   part-is = sym (take-at (take used line) (b ∷ []) (length line) (length-take-le used line h ∙ omega arith));
   others = refl;
@@ -63,14 +63,14 @@ drop-later a b m n h e =
 kept-after : {part before line after : List ℕ} {used n : ℕ} (b : ℕ) → KeptPart part before used line
     → KeptPart (take used line ++ b ∷ []) line n after → KeptPart (part ++ b ∷ []) before n after
 kept-after {part} {before} {line} {after} {used} {n} b k m =
-    let l = k .long in
+    let l = k .size in
     let size : length (take used line ++ b ∷ []) ≡ used + 1 =
     length-append (take used line) (b ∷ []) ∙ rw (length-take-le used line (k .inside)) in
     let u : used ≤ n = omega (arith, kept-used m) in
     record {
-      long = m .long ∙ k .long;
+      size = m .size ∙ k .size;
       inside = m .inside;
-      part-is = m .part-is ∙ rw (k .part-is, k .long) (cut-more (length before) part (b ∷ []));
+      part-is = m .part-is ∙ rw (k .part-is, k .size) (cut-more (length before) part (b ∷ []));
       others = m .others ∙ drop-later line before used n u (k .others);
     }
 

@@ -18,15 +18,15 @@ use Rattle.codes.specs.Layouts.{oneBit, byteCount}
 use Rattle.refusals.specs.declared.Refusal.{Refusal}
 use Rattle.refusals.specs.Refusals.{sizesGround, refusalNumber, textNumber}
 use Rattle.refusals.proofs.Refusals.{sizes-number}
-use Rattle.page.proofs.Promise.{page-length}
+use Rattle.page_promises.proofs.Promise.{page-length}
 use Rattle.text.specs.declared.Values.{Values}
 use Rattle.text.specs.Text.{namesText, dataText, headText}
 use Rattle.text.specs.Lines.{noValues, valuesOf}
 use Rattle.text.specs.Hex.{pairs, isData}
-use Rattle.script.specs.Rows.{sizeOf, valuesPage, rowAfter, writeRow}
-use Rattle.script.specs.Turns.{Progress, atLine, halt, goes, namesTurn, judgedTurn, formTurn, valuesTurn, dataTurn, writeTurn, lineTurn}
+use Rattle.turn_rows.specs.Rows.{sizeOf, valuesPage, rowAfter, writeRow}
+use Rattle.turns.specs.Turns.{Progress, atLine, halt, goes, namesTurn, judgedTurn, formTurn, valuesTurn, dataTurn, writeTurn, lineTurn}
 use Rattle.script.specs.Runs.{linesOf, onward, runFrom, runOf, RowsFrom, no-more, fault, row, Output, faulted, refused, headed}
-use Rattle.script.proofs.Turns.{Begun, answers-0-or-7}
+use Rattle.turns.proofs.Turns.{Begun, answers-0-or-7}
 
 -- line 3 begins the writes with an erased page
 begun-starts : (v : Values) → sizesGround (v .code) (v .bytes) (v .strips) ≡ none

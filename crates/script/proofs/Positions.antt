@@ -14,11 +14,11 @@ use lib.Dec.{leb, eqb}
 use lib.ListN.{length, take, drop, getD, length-append}
 use lib.Seq.{take-all, length-take-le, take-add}
 use borrow.Author.Tests.{leb-true, leb-false, ne-eqb}
-use Rattle.script.specs.Turns.{Progress, lineTurn}
+use Rattle.turns.specs.Turns.{Progress, lineTurn}
 use Rattle.script.specs.Runs.{linesFrom, linesOf, runFrom, runOf}
 use Rattle.script.specs.Positions.{Position, start, printsFrom, Takes, Leads, InParts, ended, stopped, taken, wholeOf}
 use Rattle.script.specs.Buffers.{keptBytes}
-use Rattle.script.proofs.Turns.{long-line}
+use Rattle.turns.proofs.Turns.{long-line}
 
 -- THE RUN is what is printed from its start
 pub run-starts : (input : List ℕ) → printsFrom start input ≡ runOf input
@@ -99,8 +99,8 @@ module _ (p : Progress) where
 
   -- BYTES WITHIN A LINE print nothing
   pub part-takes : (part bytes : List ℕ) → ((k : ℕ) → k < length bytes → getD bytes k 0 ≡ 10 → ⊥)
-      → Takes (record { progress = p; part = part; on = true }) bytes []
-      (record { progress = p; part = take keptBytes (part ++ bytes); on = true })
+      → Takes (record { progress = p; begun = part; on = true }) bytes []
+      (record { progress = p; begun = take keptBytes (part ++ bytes); on = true })
   unfolding printsFrom
   part-takes part bytes h =
       record { whole = λ rest. ap (runFrom p) (lines-part bytes part rest h) ∙ kept-enough (part ++ bytes) rest }
@@ -108,8 +108,8 @@ module _ (p : Progress) where
   -- BYTES UP TO THE END OF A LINE print what the line's turn says
   pub line-takes : (part bytes : List ℕ) → ((k : ℕ) → k < length bytes → getD bytes k 0 ≡ 10 → ⊥) →
       let t = lineTurn p (take keptBytes (part ++ bytes)) in
-      Takes (record { progress = p; part = part; on = true }) (bytes ++ 10 ∷ []) (t .text)
-      (record { progress = t .after; part = []; on = t .on })
+      Takes (record { progress = p; begun = part; on = true }) (bytes ++ 10 ∷ []) (t .text)
+      (record { progress = t .after; begun = []; on = t .on })
   unfolding printsFrom linesFrom runFrom
   line-takes part bytes h =
       record { whole = λ rest. rw (append-assoc bytes (10 ∷ []) rest) (part-takes part bytes h .whole (10 ∷ rest)) }

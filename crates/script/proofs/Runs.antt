@@ -4,21 +4,20 @@
 use mathlib.Core.Path.{_≡_, refl, _∙_, ap₂}
 use mathlib.Core.List.{List, [], _∷_, _++_}
 use Prim.Native.Nat.{ℕ}
-use Rattle.cells.specs.Places.{sumOf, Each}
+use Rattle.cells.specs.Places.{sumOf, Each, sameList}
 use Rattle.cells.proofs.Places.{each-first, each-rest}
 use Rattle.cells.specs.Bytes.{bitOf}
 use Rattle.cells.specs.Levels.{level, raisesOf}
 use Rattle.codes.specs.Layouts.{stageCount, cellCount, byteCount}
 use Rattle.refusals.specs.Refusals.{oneTo64, isCode, codeGround, bytesGround, stripsGround, limitsGround, sizesGround}
-use Rattle.page.specs.declared.Answer.the-variants as A
-use Rattle.page.proofs.Known.{cases-hold}
+use Rattle.page_answers.specs.declared.Answer.the-variants as A
+use Rattle.page_ledger.proofs.Known.{cases-hold}
 use Rattle.text.specs.declared.Values.{Values}
 use Rattle.text.specs.Text.{onto, decimal, namesText, valuesText, headText, rowText, faultHead, faultText}
-use Rattle.cells.specs.Places.{sameList}
 use Rattle.text.specs.Lines.{stepOf, scanOf, fiveDigits, checked, valuesOf}
 use Rattle.text.specs.Hex.{isHex, allHex, nibble, pairs, isData}
-use Rattle.script.specs.Rows.{sizeOf, valuesAnswer, valuesPage, rowAfter, writeRow}
-use Rattle.script.specs.Turns.{namesTurn, valuesTurn, dataTurn, writeTurn, lineTurn}
+use Rattle.turn_rows.specs.Rows.{sizeOf, valuesAnswer, valuesPage, rowAfter, writeRow}
+use Rattle.turns.specs.Turns.{namesTurn, valuesTurn, dataTurn, writeTurn, lineTurn}
 use Rattle.script.specs.Runs.{linesFrom, linesOf, runFrom, runOf, exampleInput, exampleOutput}
 
 -- the example's values, and the page before each write and after the last

@@ -20,16 +20,17 @@ use Rattle.text.specs.declared.Values.{Values}
 use Rattle.text.specs.Text.{namesText, dataText, faultText}
 use Rattle.text.specs.Lines.{valuesOf}
 use Rattle.text.specs.Hex.{isData}
-use Rattle.script.specs.Rows.{sizeOf}
-use Rattle.script.specs.Turns.{Progress, halt, goes, namesTurn, judgedTurn, formTurn, valuesTurn, dataTurn, writeTurn, lineTurn, Told}
+use Rattle.turn_rows.specs.Rows.{sizeOf}
+use Rattle.turns.specs.Turns.{Progress, halt, goes, namesTurn, judgedTurn, formTurn, valuesTurn, dataTurn, writeTurn, lineTurn, Told}
 use Rattle.script.specs.Runs.{linesFrom, runFrom}
-use Rattle.script.specs.declared.Run.{Run}
-use Rattle.script.specs.declared.Turn.{Turn}
+use Rattle.turns.specs.declared.Run.{Run}
+use Rattle.turns.specs.declared.Turn.{Turn}
 use Rattle.text.proofs.Text.{nothing-put}
 use Rattle.script.specs.Positions.{Position, printsFrom, taken}
-use Rattle.script.specs.Buffers.{keptBytes, mostPage, Holds, positionOf, Ready, Blank, LineEnd, KeptPart, Stepped}
+use Rattle.script.specs.Buffers.{keptBytes, positionOf, Ready, Blank, LineEnd, KeptPart, Stepped}
+use Rattle.turns.specs.Buffers.{mostPage, Holds}
 use Rattle.script.proofs.Positions.{stopped-silent, stopped-takes, part-takes, line-takes}
-use Rattle.script.proofs.Held.{page-none, holds-none}
+use Rattle.turns.proofs.Held.{page-none, holds-none}
 
 -- THE END OF THE INPUT, by the program's values: nothing is printed once the run has stopped
 module _ (r : Run) (line page : List ℕ) where
@@ -105,7 +106,7 @@ module _ (r : Run) (bytes line page content buffer : List ℕ) (k : Ready r line
       Stepped s bytes buffer (record { run = r; at = 96; taken = length bytes }) s buffer
   stopped-step e = record {
     at-most = omega arith;
-    kept = refl;
+    front-same = refl;
     taken-most = omega arith;
     taken-some = λ h. h;
     takes = rw (nothing-put buffer b .text-is) (stopped-takes (positionOf r line page) (take (length bytes) bytes) e);
@@ -132,17 +133,17 @@ module _ (r : Run) (bytes line page content buffer : List ℕ) (k : Ready r line
     part-step e = (
       record {
         at-most = omega arith;
-        kept = refl;
+        front-same = refl;
         taken-most = l .inside;
         taken-some = λ h. omega arith;
         takes = rw (nothing-put buffer b .text-is, on, part-kept)
             (part-takes (positionOf r line page .progress) (take (r .used) line) (take end bytes) unended);
       },
       record {
-        line-long = g .long ∙ k .line-long;
+        line-long = g .size ∙ k .line-long;
         page-long = k .page-long;
         data-long = k .data-long;
-        used-most = let m = g .inside in omega (arith, g .long, k .line-long);
+        used-most = let m = g .inside in omega (arith, g .size, k .line-long);
         number-some = k .number-some;
         holds = k .holds;
       },
@@ -155,7 +156,7 @@ module _ (r : Run) (bytes line page content buffer : List ℕ) (k : Ready r line
       -- where the run is then
       reached : positionOf (t .run) after leaf ≡
           let u = lineTurn (positionOf r line page .progress) (take used after) in
-          record { progress = u .after; part = []; on = u .on }
+          record { progress = u .after; begun = []; on = u .on }
       reached = rw (told .run-is, holds .front)
 
       ended-by : take (end + 1) bytes ≡ take end bytes ++ 10 ∷ []
@@ -167,7 +168,7 @@ module _ (r : Run) (bytes line page content buffer : List ℕ) (k : Ready r line
           (positionOf (t .run) after leaf) text
       line-step = record {
         at-most = told .text-is .at-most;
-        kept = told .text-is .kept;
+        front-same = told .text-is .front-same;
         taken-most = let i = l .inside in omega arith;
         taken-some = λ h. omega arith;
         takes = rw (ended-by, reached, told .text-is .text-is, on, part-kept)
@@ -176,7 +177,7 @@ module _ (r : Run) (bytes line page content buffer : List ℕ) (k : Ready r line
 
       pub line-ready : length leaf ≡ mostPage → {free : List ℕ} → length free ≡ 4096 → Ready (t .run) after leaf free
       line-ready p d = record {
-        line-long = g .long ∙ k .line-long;
+        line-long = g .size ∙ k .line-long;
         page-long = p;
         data-long = d;
         used-most = rw (told .run-is) (omega arith);

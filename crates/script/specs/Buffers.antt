@@ -1,47 +1,29 @@
 -- The run's position in the program's values and buffers.
---   keptBytes, mostPage   the room for a line, and for a page
---   pageSize, Holds       the bytes of the page, and the buffer that holds it
+--   keptBytes             the room for a line
 --   positionOf            the position that the values and buffers stand for
 --   Ready, Blank          values and buffers that are in order; buffers before the first byte
 --   LineEnd               where a line ends within bytes
 --   KeptPart              the bytes of a line so far, in their buffer
---   LineAsked, Stepped    what a line asks, and what a step of the program gives
+--   Stepped               what a step of the program gives
 use mathlib.Core.Path.{_≡_}
-use mathlib.Core.Bool.{cond}
 use mathlib.Core.List.{List}
-use Prim.Native.Nat.{ℕ, _-_, _<_, _≤_}
-use lib.Dec.{ltb}
+use Prim.Native.Nat.{ℕ, _<_, _≤_}
 use lib.ListN.{length, take, drop, getD, replicate}
-use Rattle.codes.specs.Layouts.{oneBit, byteCount}
-use Rattle.text.specs.declared.Values.{Values}
-use Rattle.script.specs.Rows.{sizeOf}
-use Rattle.script.specs.Turns.{Progress, atLine}
-use Rattle.script.specs.declared.Run.{Run}
+use Rattle.turns.specs.Turns.{atLine}
+use Rattle.turns.specs.declared.Run.{Run}
 use Rattle.script.specs.declared.Step.{Step}
+use Rattle.turns.specs.Buffers.{mostPage, pageSize, Holds}
 use Rattle.script.specs.Positions.{Position, Takes}
 
 -- one byte more than the longest line in form has: what is cut off is in no form either
 abbrev pub keptBytes : ℕ
 keptBytes = 8193
 
--- the bytes of the largest page, 6·64·64
-abbrev pub mostPage : ℕ
-mostPage = 24576
-
--- the bytes of the page; there is none before line 4
-unfoldable pub pageSize : ℕ → Values → ℕ
-pageSize number v = cond (ltb 3 number) (byteCount oneBit (sizeOf v)) 0
-
--- a buffer that starts with the page; behind it stand zeros
-pub record Holds (p : Progress) (page : List ℕ) : Type 0 where
-  pub front : take (pageSize (p .number) (p .values)) page ≡ p .page
-  pub blank : drop (pageSize (p .number) (p .values)) page ≡ replicate (mostPage - pageSize (p .number) (p .values)) 0
-
 -- the program's buffers hold the bytes of the line so far and the page, each from its first byte on
 abbrev pub positionOf : Run → (line page : List ℕ) → Position
 positionOf r line page = record {
   progress = atLine (r .number) (r .values) (take (pageSize (r .number) (r .values)) page);
-  part = take (r .used) line;
+  begun = take (r .used) line;
   on = r .on;
 }
 
@@ -68,23 +50,15 @@ pub record LineEnd (bytes : List ℕ) (end : ℕ) : Type 0 where
 
 -- the first `used` bytes of the buffer are the bytes of a line so far, as many as it holds; the others are as they were
 pub record KeptPart (part before : List ℕ) (used : ℕ) (line : List ℕ) : Type 0 where
-  pub long : length line ≡ length before
+  pub size : length line ≡ length before
   pub inside : used ≤ length line
   pub part-is : take used line ≡ take (length before) part
   pub others : drop used line ≡ drop used before
 
--- what a whole line asks: its number, and buffers for the page, its data and the text
-pub record LineAsked (p : Progress) (page content buffer : List ℕ) : Type 0 where
-  pub number-some : 0 < p .number
-  pub page-long : length page ≡ mostPage
-  pub data-long : length content ≡ 4096
-  pub buffer-long : 96 ≡ length buffer
-  pub holds : Holds p page
-
 -- some of the bytes are taken, and all that they print stands at the end of the buffer; the bytes in front of it are as they were
 pub record Stepped (s : Position) (bytes before : List ℕ) (r : Step) (t : Position) (buffer : List ℕ) : Type 0 where
   pub at-most : r .at ≤ 96
-  pub kept : take (r .at) buffer ≡ take (r .at) before
+  pub front-same : take (r .at) buffer ≡ take (r .at) before
   pub taken-most : r .taken ≤ length bytes
   pub taken-some : 0 < length bytes → 0 < r .taken
   pub takes : Takes s (take (r .taken) bytes) (drop (r .at) buffer) t

@@ -8,21 +8,21 @@ use mathlib.Core.Bool.{Bool, true, false, cond}
 use mathlib.Core.List.{List, [], _∷_, _++_}
 use Prim.Native.Nat.{ℕ}
 use Rattle.text.specs.Lines.{noValues}
-use Rattle.script.specs.Turns.{Progress, atLine}
+use Rattle.turns.specs.Turns.{Progress, atLine}
 use Rattle.script.specs.Runs.{linesFrom, runFrom}
 
 pub record Position : Type 0 where
   pub progress : Progress
-  pub part : List ℕ
+  pub begun : List ℕ
   pub on : Bool
 
 -- before the first byte
 abbrev pub start : Position
-start = record { progress = atLine 1 noValues []; part = []; on = true }
+start = record { progress = atLine 1 noValues []; begun = []; on = true }
 
 -- what the run prints from here on; nothing once it has stopped
 unfoldable pub printsFrom : Position → List ℕ → List ℕ
-printsFrom s input = cond (s .on) (runFrom (s .progress) (linesFrom (s .part) input)) []
+printsFrom s input = cond (s .on) (runFrom (s .progress) (linesFrom (s .begun) input)) []
 
 -- the text that is printed, followed by what the run prints from the next position, is what it prints from this one, whatever follows the
 -- bytes

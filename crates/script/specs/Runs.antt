@@ -14,7 +14,7 @@ use lib.Dec.{ltb, eqb}
 use Rattle.refusals.specs.Refusals.{textNumber}
 use Rattle.text.specs.Text.{namesText, headText, rowText, faultText}
 use Rattle.text.specs.Lines.{noValues}
-use Rattle.script.specs.Turns.{Progress, atLine, Turned, lineTurn}
+use Rattle.turns.specs.Turns.{Progress, atLine, Turned, lineTurn}
 
 -- 'Every line ends in byte 10': the lines, where so much of the next one is known; what is left at the end is no line, and stands as none
 unfoldable pub linesFrom : List ℕ → List ℕ → List (Option (List ℕ))

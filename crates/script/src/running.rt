@@ -1,19 +1,16 @@
 // The run between two bytes of its input: it is handed the next bytes, as many as there are, and says what is printed.
-use crate::Run;
 use crate::Step;
-use crate::Turn;
-use crate::following;
-use crate::recording;
 use text::Values;
+use turns::Run;
+use turns::following;
+use turns::line_turn;
 ghost use mathlib.Core.Path.{_≡_};
 ghost use mathlib.Core.List.{List, [], _∷_, _++_};
 ghost use Prim.Native.Nat.{ℕ, _≤_};
 ghost use lib.ListN.{length, take};
-ghost use Rattle.cells.specs.Places.{Free};
 ghost use Rattle.text.specs.Text.{Tail};
-ghost use Rattle.script.specs.Turns.{atLine, lineTurn, Told};
 ghost use Rattle.script.specs.Positions.{start, printsFrom};
-ghost use Rattle.script.specs.Buffers.{pageSize, Holds, positionOf, Ready, LineEnd, KeptPart, LineAsked, Stepped};
+ghost use Rattle.script.specs.Buffers.{positionOf, Ready, LineEnd, KeptPart, Stepped};
 
 // The bytes of a line so far, and how many bytes were looked at.
 struct Part {
@@ -68,36 +65,6 @@ fn keep_part(bytes: &[u8], line: &mut [u8], used: usize) -> Part
         i += 1;
     }
     Part { used: n, end: i }
-}
-
-// A whole line: the first data line is line 4.
-fn line_turn(
-    number: u64,
-    values: Values,
-    line: &[u8],
-    page: &mut [u8],
-    data: &mut [u8],
-    buffer: &mut [u8],
-) -> Turn
-    requires { ⌜ LineAsked (atLine number values (take (pageSize number values) (now page))) (now page) (now «data») (now buffer) ⌝ }
-    ensures { λ r. ⌜ Told (lineTurn (atLine number values (take (pageSize number values) (now (page .entry)))) (now (line .entry)))
-        r (now (buffer .entry)) (now (buffer .exit)) ⌝ }
-    ensures { λ _. ⌜ Holds (lineTurn (atLine number values (take (pageSize number values) (now (page .entry)))) (now (line .entry)) .after)
-        (now (page .exit)) ⌝ }
-    ensures { λ _. ⌜ Free (now («data» .entry)) (now («data» .exit)) ⌝ }
-{
-    if number > 3 {
-        let n = recording::size(values);
-        let m = codes::STRIP_BYTES * n;
-        return following::write_turn(number, values, line, &mut page[..m], &mut data[..n], buffer);
-    }
-    if number == 3 {
-        return following::data_turn(values, line, buffer);
-    }
-    if number == 2 {
-        return following::values_turn(values, line, buffer);
-    }
-    following::names_turn(values, line, buffer)
 }
 
 // Takes bytes of the input: up to the end of a line, or all of them.

@@ -18,7 +18,8 @@ use mathlib.Core.Logic.{_⊎_, inl, inr, ⊎-elim, _↔_}
 use lib.Dec.{ltb, eqb}
 use lib.ListN.{length, getD}
 use borrow.Author.Tests.{ltb-true, ltb-false, eqb-true, eqb-false}
-use Rattle.search.specs.Best.{LexLe, done, lower, same, NoWorse, cheaper, tied, Problem, Solution, Best, Solves, nothing, just, Settles, closed, sole, Product, Width, Empty, empty, Either, digit, LexLower}
+use Rattle.search.specs.Best.{LexLe, done, lower, same, NoWorse, cheaper, tied, Problem, Solution, Best, Solves, nothing, just}
+use Rattle.search.specs.Best.{Settles, unsolved, sole, Product, Width, Empty, empty, Either, digit, LexLower}
 use Rattle.search.specs.Trellis.{before, lexltb, beats, better, joined, free}
 
 -- the order
@@ -192,14 +193,14 @@ best-strict {A} a v l = record { valid = v; least = λ d y w. ⊎-elim (λ p. ch
 
 -- STRICTLY: what settles a problem solves it; products, other words, and the empty problem
 pub settles-solves : {A : Problem} {r : Option Solution} → Settles A r → Solves A r
-settles-solves (closed p) = nothing p
+settles-solves (unsolved p) = nothing p
 settles-solves (sole {a = a} v l) = just (best-strict a v l)
 
 -- the product, strictly
 pub settles-product : {A B : Problem} {r s : Option Solution} → Settles A r → Settles B s → Settles (Product A B) (joined r s)
 unfolding joined
-settles-product (closed p) q = closed (λ d y w. p (w .cost₁) (w .levels₁) (w .valid₁))
-settles-product (sole v l) (closed q) = closed (λ d y w. q (w .cost₂) (w .levels₂) (w .valid₂))
+settles-product (unsolved p) q = unsolved (λ d y w. p (w .cost₁) (w .levels₁) (w .valid₁))
+settles-product (sole v l) (unsolved q) = unsolved (λ d y w. q (w .cost₂) (w .levels₂) (w .valid₂))
 settles-product {A} {B} (sole {a = a} v l) (sole {a = b} v′ l′) =
     sole (record {
       cost₁ = a .cost;
@@ -229,7 +230,7 @@ settles-empty = sole empty go
 
 -- a problem put in other words, strictly
 pub settles-iff : {A B : Problem} {r : Option Solution} → ((d : ℕ) (y : List ℕ) → A d y ↔ B d y) → Settles A r → Settles B r
-settles-iff f (closed p) = closed (λ d y w. p d y (f d y .1 w))
+settles-iff f (unsolved p) = unsolved (λ d y w. p d y (f d y .1 w))
 settles-iff f (sole v l) = sole (f _ _ .0 v) (λ d y w. l d y (f d y .1 w))
 
 -- a solution is not none

@@ -58,7 +58,7 @@ least-solves (suc n) A f s = solves-iff (either-any n A) (solves-either (either 
 record At (S : Steps) (x : Cell) (to : ℕ) (c : ℕ) (y : List ℕ) : Type 0 where
   one : y ≡ to ∷ []
   up : x .level ≤ to
-  kept : x .mark ≡ true → to ≡ x .level
+  marked-stays : x .mark ≡ true → to ≡ x .level
   cost : c ≡ climb (S .weight) (x .level) to
 
 -- the solution of one cell
@@ -70,7 +70,7 @@ at-solves S x to = go (leb (x .level) to) (x .mark) (eqb to (x .level)) refl ref
         → Solves (At S x to) (some (record { cost = climb (S .weight) (x .level) to; levels = to ∷ [] }))
     here h k =
         just (best-strict (record { cost = climb (S .weight) (x .level) to; levels = to ∷ [] })
-        (record { one = refl; up = h; kept = k; cost = refl })
+        (record { one = refl; up = h; marked-stays = k; cost = refl })
         (λ d y w. inr (sym (w .cost), sym (w .one))))
 
     go : (p m q : Bool) → leb (x .level) to ≡ p → x .mark ≡ m → eqb to (x .level) ≡ q
@@ -78,7 +78,7 @@ at-solves S x to = go (leb (x .level) to) (x .mark) (eqb to (x .level)) refl ref
     go false m q e f g = nothing (λ d y w. false≢true (sym e ∙ le-leb _ _ (w .up)))
     go true false q e f g = here (leb-true _ _ e) (λ k. absurd (false≢true (sym f ∙ k)))
     go true true true e f g = here (leb-true _ _ e) (λ k. eqb-true _ _ g)
-    go true true false e f g = nothing (λ d y w. false≢true (sym g ∙ eq-eqb _ _ (w .kept f)))
+    go true true false e f g = nothing (λ d y w. false≢true (sym g ∙ eq-eqb _ _ (w .marked-stays f)))
 
 -- THE CELLS of a stage at levels that pass a test
 record Allowed (S : Steps) (ok : List ℕ → Bool) (xs : List Cell) (c : ℕ) (y : List ℕ) : Type 0 where
@@ -98,7 +98,7 @@ module _ (S : Steps) where
       to : (v : ℕ) → v < suc (S .top) → Product (At S x v) (Allowed S (λ y. ok (v ∷ y)) xs) c y → Allowed S ok (x ∷ xs) c y
       to v h q =
           let e : y ≡ v ∷ q .levels₂ = q .append ∙ ap (λ (l : List ℕ). l ++ q .levels₂) (q .valid₁ .one) in
-          let r : Rise S x v = record { up = q .valid₁ .up; high = omega arith; kept = q .valid₁ .kept } in
+          let r : Rise S x v = record { up = q .valid₁ .up; high = omega arith; marked-stays = q .valid₁ .marked-stays } in
           rw e (record {
             raised = rise r (q .valid₂ .raised) (q .sum ∙ ap (λ (k : ℕ). k + q .cost₂) (q .valid₁ .cost));
             passes = q .valid₂ .passes;
@@ -113,7 +113,7 @@ module _ (S : Steps) where
           levels₁ = v ∷ [];
           cost₂ = k;
           levels₂ = new;
-          valid₁ = record { one = refl; up = p .up; kept = p .kept; cost = refl };
+          valid₁ = record { one = refl; up = p .up; marked-stays = p .marked-stays; cost = refl };
           valid₂ = record { raised = r; passes = f };
           sum = e;
           append = refl;

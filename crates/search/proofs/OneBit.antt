@@ -15,6 +15,9 @@ use Rattle.codes.specs.Taps.{wordOf}
 use Rattle.codes.specs.Sequences.{_+₂_, odd}
 use Rattle.codes.specs.Numbers.{one-if}
 use Rattle.codes.specs.Encoders.{encoderOf}
+use Rattle.codes.specs.Codes.{generatorsOf}
+use Rattle.codes.specs.declared.Code.{Code}
+use Rattle.codes.proofs.Codes.{proper, second-leads, two-generators}
 use Rattle.codes.proofs.Numbers.{taps-value}
 use Rattle.codes.proofs.Encoders.{first-digits}
 use Rattle.search.specs.Best.{Solution}
@@ -41,6 +44,10 @@ pub record Both (G : Generators) : Type 0 where
   pub g1-leads : digit (G .memory) (G .g1) 0 ≡ 1
   pub g2-leads : digit (G .memory) (g2 G) 0 ≡ 1
   pub two : G .others ≡ g2 G ∷ []
+
+-- which every code has
+pub code-both : (c : Code) → Both (generatorsOf c)
+code-both c = record { g1-leads = proper c .leads; g2-leads = second-leads c; two = two-generators c }
 
 -- nothing more to pay
 free-after : (r : Option Solution) → add (solutionCost r) (solutionCost (some free)) ≡ solutionCost r

@@ -21,7 +21,7 @@ use Rattle.codes.specs.Sequences.{_+₂_, odd}
 use Rattle.codes.specs.Numbers.{one-if}
 use Rattle.codes.proofs.Numbers.{odd-one-if}
 use Rattle.codes.proofs.Sequences.{odd-add}
-use Rattle.search.specs.Best.{Solution, Settles, closed, sole, Product, Empty, empty}
+use Rattle.search.specs.Best.{Solution, Settles, unsolved, sole, Product, Empty, empty}
 use Rattle.search.specs.Strip.{Steps, Dear, Cell, Raised, still, rise, Group, stepsOf}
 use Rattle.search.specs.Choices.{choiceOf}
 use Rattle.search.specs.Plan.{Decides, second-lower, first-lower}
@@ -79,7 +79,7 @@ module _ (S : Steps) (D : Dear S) (x : Cell) (b : Bool) where
       (record {
         to = from;
         one = refl;
-        rises = record { up = omega arith; high = h; kept = λ k. refl };
+        rises = record { up = omega arith; high = h; marked-stays = λ k. refl };
         bit = beq-true (odd from) b e;
         cost = sym (climb-stay (S .weight) from);
       })
@@ -92,7 +92,7 @@ module _ (S : Steps) (D : Dear S) (x : Cell) (b : Bool) where
       (record {
         to = suc from;
         one = refl;
-        rises = record { up = omega arith; high = h; kept = λ k. absurd (true≢false (sym k ∙ f)) };
+        rises = record { up = omega arith; high = h; marked-stays = λ k. absurd (true≢false (sym k ∙ f)) };
         bit = beq-false (odd from) b e;
         cost = sym (climb-step (S .weight) from);
       })
@@ -114,13 +114,13 @@ module _ (S : Steps) (D : Dear S) (x : Cell) (b : Bool) where
           (cond p none
           (cond q (some (record { cost = 0; levels = x .level ∷ [] }))
           (cond k none (cond r (some (record { cost = S .weight (x .level); levels = suc (x .level) ∷ [] })) none))))
-      go true q k r e f g h = closed (λ d y w. let a : x .level ≤ w .to = w .rises .up in let c : w .to ≤ S .top = w .rises .high in
+      go true q k r e f g h = unsolved (λ d y w. let a : x .level ≤ w .to = w .rises .up in let c : w .to ≤ S .top = w .rises .high in
           omega (arith, ltb-true (S .top) (x .level) e))
       go false true k r e f g h = stay (ltb-false (S .top) (x .level) e) f
-      go false false true r e f g h = closed (λ d y w. same f (w .to) (w .bit) (sym (w .rises .kept g)))
+      go false false true r e f g h = unsolved (λ d y w. same f (w .to) (w .bit) (sym (w .rises .marked-stays g)))
       go false false false true e f g h = raise (ltb-true (x .level) (S .top) h) g f
       go false false false false e f g h =
-          closed (λ d y w. let a : x .level ≤ w .to = w .rises .up in let c : w .to ≤ S .top = w .rises .high in
+          unsolved (λ d y w. let a : x .level ≤ w .to = w .rises .up in let c : w .to ≤ S .top = w .rises .high in
           same f (w .to) (w .bit) (omega (arith, ltb-false (x .level) (S .top) h)))
 
 -- a stage is its first cell and its others
@@ -156,11 +156,11 @@ module _ (S : Steps) (D : Dear S) (n : ℕ) where
 
       from : {c : ℕ} {y : List ℕ} → Raised S [] c y → Empty c y
       from still = empty
-  parity-settles [] (b ∷ w) = closed (λ d y g. no y (raised-length (g .raised)) (g .word))
+  parity-settles [] (b ∷ w) = unsolved (λ d y g. no y (raised-length (g .raised)) (g .word))
     where
       no : (y : List ℕ) → length y ≡ 0 → map odd y ≡ b ∷ w → ⊥
       no y e f = let k : length (map odd y) ≡ suc (length w) = ap length f in omega (arith, length-map y odd)
-  parity-settles (x ∷ xs) [] = closed (λ d y g. no y (raised-length (g .raised)) (g .word))
+  parity-settles (x ∷ xs) [] = unsolved (λ d y g. no y (raised-length (g .raised)) (g .word))
     where
       no : (y : List ℕ) → length y ≡ suc (length xs) → map odd y ≡ [] → ⊥
       no y e f = let k : length (map odd y) ≡ 0 = ap length f in omega (arith, length-map y odd)

@@ -27,7 +27,8 @@ use Rattle.codes.specs.Coset.{column, rest, codeWord, Written}
 use Rattle.codes.proofs.Coset.{written-reads, reads-written}
 use Rattle.search.proofs.Trellis.{best-solves}
 use Rattle.search.proofs.Best.{solves-iff, solves-unique}
-use Rattle.search.proofs.Strip.{Split, raised-split, raised-append, raised-length, full-raised, group-width, length-words, words-sized}
+use Rattle.search.proofs.Strip.{Split, raised-split, raised-append, raised-length, full-raised, group-width, length-words}
+use Rattle.search.proofs.Strip.{words-sized}
 
 -- a sequence with another bit at stage t
 upd : Bits → ℕ → Bool → Bits

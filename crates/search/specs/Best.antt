@@ -47,7 +47,7 @@ pub data Solves (A : Problem) : Option Solution → Type 0 where
 
 -- the same, strictly: every other valid level list costs more
 pub data Settles (A : Problem) : Option Solution → Type 0 where
-  closed : ((d : ℕ) (y : List ℕ) → A d y → ⊥) → Settles A none
+  unsolved : ((d : ℕ) (y : List ℕ) → A d y → ⊥) → Settles A none
   sole : {a : Solution} → A (a .cost) (a .levels) → ((d : ℕ) (y : List ℕ) → A d y → (a .cost < d) ⊎ ((a .cost ≡ d) × (a .levels ≡ y)))
       → Settles A (some a)
 

@@ -44,7 +44,7 @@ cellsOf n level mark = listOf n (λ c. record { level = level c; mark = mark c }
 pub record Rise (S : Steps) (x : Cell) (to : ℕ) : Type 0 where
   pub up : x .level ≤ to
   pub high : to ≤ S .top
-  pub kept : x .mark ≡ true → to ≡ x .level
+  pub marked-stays : x .mark ≡ true → to ≡ x .level
 
 -- the cells become these levels, at the sum of their climbs
 pub data Raised (S : Steps) : List Cell → ℕ → List ℕ → Type 0 where

@@ -1,6 +1,3 @@
--- The laws of the stages: one stage (`Stages`), eight of them (`Runs`), what their numbers tell (`Costs`), and that the marked search
--- is the plain one (`Trails`).
+-- The laws of one stage (`Stages`), and of sums of the numbers that decode to optional costs (`Sums`).
 pub mod Stages
-pub mod Runs
-pub mod Costs
-pub mod Trails
+pub mod Sums

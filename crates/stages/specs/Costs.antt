@@ -1,15 +1,15 @@
 -- Costs as a program holds them: a number for each optional cost. Closed is any number from `closed` on, never a cost, and no sum brings it
 -- back among the costs.
---   Tells     the number v tells an optional cost
+--   Decodes     the number v tells an optional cost
 --   Trailed   the same in `unit`ths, with the trail of k stages below the unit
 use mathlib.Core.Path.{_≡_}
 use Prim.Native.Nat.{ℕ, _+_, _*_, _^_, _≤_, _<_}
 use mathlib.Core.Option.{Option, none, some}
 
 -- the number v tells the optional cost: a cost up to `most` is itself, and from `closed` on there is none
-pub data Tells (closed most : ℕ) : ℕ → Option ℕ → Type 0 where
-  open-at : {c : ℕ} → c ≤ most → Tells closed most c (some c)
-  shut : {v : ℕ} → closed ≤ v → Tells closed most v none
+pub data Decodes (closed most : ℕ) : ℕ → Option ℕ → Type 0 where
+  open-at : {c : ℕ} → c ≤ most → Decodes closed most c (some c)
+  shut : {v : ℕ} → closed ≤ v → Decodes closed most v none
 
 -- the number v in `unit`ths tells the optional cost and, where there is one, the trail t of k stages
 pub data Trailed (unit closed most k : ℕ) : ℕ → Option ℕ → ℕ → Type 0 where

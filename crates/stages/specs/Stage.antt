@@ -4,7 +4,7 @@
 --   pick d x y   x for the digit 0, else y
 --   stageOf      what each state costs a stage earlier
 --   wordsOf G    the word that each state wants for the digit 0
---   StageAsked, HalfAsked, Staged   what a stage of 64 states asks and gives
+--   StageRequires, HalfRequires, Staged   what a stage of 64 states asks and gives
 use Prim.Native.Nat.{ℕ, zero, suc, _+_, _-_, _*_, _%_, _≤_, _<_, min}
 use mathlib.Core.List.{List}
 use mathlib.Core.Path.{_≡_}
@@ -17,15 +17,15 @@ abbrev pub closed : ℕ
 closed = 524288
 
 -- closed in 256ths
-abbrev pub top : ℕ
-top = 256 * closed
+abbrev pub ceiling : ℕ
+ceiling = 256 * closed
 
 -- the most that the number of a state may be before a stage, and that of a word's price: their sum stays below 2 ^ 31
 abbrev pub mostCost : ℕ
-mostCost = 12 * top
+mostCost = 12 * ceiling
 
 abbrev pub mostPrice : ℕ
-mostPrice = 2 * top
+mostPrice = 2 * ceiling
 
 -- the first for the digit 0, else the second
 abbrev pub pick : ℕ → ℕ → ℕ → ℕ
@@ -43,8 +43,8 @@ abbrev pub wordsOf : Generators → ℕ → ℕ
 wordsOf G s = wordOf G (2 * s)
 
 -- what a stage of 64 states asks: four words, and room for a sum
-pub record StageAsked (costs words prices : List ℕ) : Type 0 where
-  pub long : length costs ≡ 64
+pub record StageRequires (costs words prices : List ℕ) : Type 0 where
+  pub size : length costs ≡ 64
   pub words-le : (i : ℕ) → getD words i 0 ≤ 3
   pub costs-le : (i : ℕ) → getD costs i 0 ≤ mostCost
   pub prices-le : (i : ℕ) → getD prices i 0 ≤ mostPrice
@@ -54,8 +54,8 @@ unfoldable pub stagedAt : (after words prices : List ℕ) → ℕ → ℕ
 stagedAt after words prices = stageOf 64 (λ i. getD words i 0) (λ j. getD prices j 0) (λ i. getD after i 0)
 
 -- what half of it asks, its 32 states from the state `at` on: those before it are done; `others` has the prices of the complements
-pub record HalfAsked (costs after words prices others : List ℕ) (at : ℕ) : Type 0 where
-  pub long : length costs ≡ 64
+pub record HalfRequires (costs after words prices others : List ℕ) (at : ℕ) : Type 0 where
+  pub size : length costs ≡ 64
   pub whole : at % 32 ≡ 0
   pub place : at + 32 ≤ 64
   pub words-le : (i : ℕ) → getD words i 0 ≤ 3
@@ -67,5 +67,5 @@ pub record HalfAsked (costs after words prices others : List ℕ) (at : ℕ) : T
 
 -- the numbers of the first n states are a stage earlier
 pub record Staged (n : ℕ) (after words prices exit : List ℕ) : Type 0 where
-  pub long : length exit ≡ 64
+  pub size : length exit ≡ 64
   pub states : (k : ℕ) → k < n → getD exit k 0 ≡ stagedAt after words prices k

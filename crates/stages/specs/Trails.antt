@@ -15,7 +15,7 @@ use Rattle.codes.specs.Sequences.{odd}
 use Rattle.codes.specs.Numbers.{one-if}
 use Rattle.search.specs.Plan.{costs, digit-at}
 use Rattle.search.specs.Plain.{Prices, branchWord, branchPrice, branchTie}
-use Rattle.stages.specs.Costs.{Tells}
+use Rattle.stages.specs.Costs.{Decodes}
 
 -- k stages from stage t on
 unfoldable pub stagesFrom : {G : Type 0} → (ℕ → G) → ℕ → ℕ → List G
@@ -49,5 +49,5 @@ module _ {G : Type 0} (words : ℕ → ℕ) (quote : G → Prices) (next : G →
 pub record Quoted (unit closed most : ℕ) (rows : List ℕ) (r : ℕ) (q : Prices) : Type 0 where
   pub plain : ℕ → ℕ
   pub in-units : (j : ℕ) → j ≤ 3 → getD rows (4 * r + j) 0 ≡ unit * plain j
-  pub tells : (j : ℕ) → j ≤ 3 → Tells closed most (plain j) (q .of j)
+  pub tells : (j : ℕ) → j ≤ 3 → Decodes closed most (plain j) (q .of j)
   pub low : r % 2 ≡ one-if (q .stay)

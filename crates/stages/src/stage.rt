@@ -3,7 +3,7 @@ ghost use mathlib.Core.Path.{_≡_};
 ghost use Prim.Native.Nat.{_+_, _^_, _<_, _≤_, min};
 ghost use lib.ListN.{getD};
 ghost use Rattle.cells.specs.Places.{Untouched};
-ghost use Rattle.stages.specs.Stage.{pick, StageAsked, HalfAsked, Staged};
+ghost use Rattle.stages.specs.Stage.{pick, StageRequires, HalfRequires, Staged};
 
 // The first for the digit 0, else the second.
 pub fn pick(d: u8, x: u32, y: u32) -> u32
@@ -39,7 +39,7 @@ fn half(
     prices: [u32; 4],
     others: [u32; 4],
 )
-    requires { ⌜ HalfAsked (now costs) (now after) (now words) prices others at ⌝ }
+    requires { ⌜ HalfRequires (now costs) (now after) (now words) prices others at ⌝ }
     ensures { λ _. ⌜ Staged (at + 32) (now (after .entry)) (now (words .entry)) prices (now (costs .exit)) ⌝ }
     ensures { λ _. ⌜ Untouched (at + 32) (now (costs .entry)) (now (costs .exit)) ⌝ }
 {
@@ -55,7 +55,7 @@ fn half(
 
 // One stage of 64 states in place, by the prices of the four words.
 pub fn stage(costs: &mut [u32; 64], words: &[u8; 64], prices: [u32; 4])
-    requires { ⌜ StageAsked (now costs) (now words) prices ⌝ }
+    requires { ⌜ StageRequires (now costs) (now words) prices ⌝ }
     ensures { λ _. ⌜ Staged 64 (now (costs .entry)) (now (words .entry)) prices (now (costs .exit)) ⌝ }
 {
     let after = *costs;

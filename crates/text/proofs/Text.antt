@@ -121,7 +121,7 @@ kept-byte a b end v e = kept-more a b (set b (end - 1) v) (end - 1) end (omega a
 
 -- a buffer of 96 bytes as it is ends in no text
 pub nothing-put : (b : List ℕ) → 96 ≡ length b → Tail [] 96 b b
-nothing-put b e = record { at-most = omega arith; text-is = drop-of-length-le b {i = 96} (omega arith); kept = refl }
+nothing-put b e = record { at-most = omega arith; text-is = drop-of-length-le b {i = 96} (omega arith); front-same = refl }
 
 -- a text by another name
 pub tail-same : {text other : List ℕ} {at : ℕ} {before buffer : List ℕ} → other ≡ text → Tail text at before buffer

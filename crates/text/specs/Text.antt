@@ -58,10 +58,10 @@ pub record Put (most : ℕ) (text : List ℕ) (end at : ℕ) (before buffer : Li
   pub near : end ≤ at + most
   pub front : at ≤ end
   pub text-is : drop at buffer ≡ text
-  pub kept : take at buffer ≡ take at before
+  pub front-same : take at buffer ≡ take at before
 
 -- a buffer of 96 bytes ends in a text, from `at` on; the bytes in front of it are as they were
 pub record Tail (text : List ℕ) (at : ℕ) (before buffer : List ℕ) : Type 0 where
   pub at-most : at ≤ 96
   pub text-is : drop at buffer ≡ text
-  pub kept : take at buffer ≡ take at before
+  pub front-same : take at buffer ≡ take at before

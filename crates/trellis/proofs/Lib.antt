@@ -1,10 +1,4 @@
--- laws
-pub mod Costs
-pub mod Digits
-pub mod Shown
-pub mod Words
-pub mod Quotes
+-- The laws of the search of a strip: what the states keep of their ways, the digits that are followed, and the write that they make.
 pub mod Ways
-pub mod Labels
+pub mod Followed
 pub mod Plans
-pub mod Carried

@@ -45,12 +45,13 @@ use Rattle.search.proofs.Layouts.{oneBit-write}
 use Rattle.search.proofs.Windows.{mod-odd, firstOf, secondOf, parity-number, word-odd}
 use Rattle.stages.specs.Stage.{closed, wordsOf}
 use Rattle.stages.specs.Trails.{stagesFrom, priceBy, tieBy, missOf, digitOf, trailOf}
-use Rattle.trellis.specs.Ways.{encoderFor, labelFor, cellFor, stageFor, quoteFor, nextFor, stagesFor, costsFor, trailFor, Traced, Lows, Followed}
-use Rattle.trellis.specs.Carrying.{digitIn, wantedFirst, wantedSecond, wantedOf, carriedTo}
+use Rattle.rows.specs.Stages.{encoderFor, labelFor, cellFor, stageFor, quoteFor}
+use Rattle.trellis.specs.Ways.{nextFor, stagesFor, costsFor, trailFor, Traced, Lows, Followed}
+use Rattle.carrying.specs.Carrying.{digitIn, wantedFirst, wantedSecond, wantedOf, carriedTo}
 use Rattle.trellis.specs.Plans.{writeOf, Plans}
-use Rattle.trellis.proofs.Costs.{Below, at-most, below-told, below-add, below-lesser, below-some}
-use Rattle.trellis.proofs.Quotes.{price-told}
-use Rattle.trellis.proofs.Ways.{Suits, suits-sound, label-told, stages-pairs, stages-are, cost-start}
+use Rattle.stages.proofs.Sums.{Below, at-most, below-decoded, below-add, below-lesser, below-some}
+use Rattle.rows.proofs.Quotes.{price-decoded}
+use Rattle.trellis.proofs.Ways.{Suits, suits-sound, label-bit, stages-pairs, stages-are, cost-start}
 
 -- a bit as a number is below 2
 one-less : (b : Bool) → one-if b < 2
@@ -78,7 +79,7 @@ module _ (G : Generators) (strip : List ℕ) (marks : ℕ → Bool) (content : L
       let q : (2 * t + 1) / 2 ≡ t = omega arith in
       rw (p, q, e)
       (ap (λ (v : ℕ). level strip (2 * t + 1) + (level strip (2 * t + 1) + v) % 2)
-      (ap₂ (λ (v x : ℕ). (v + x) % 2) (parity-number _ (2 * s + one-if d)) (label-told G content t) ∙ sum-bits _ _)
+      (ap₂ (λ (v x : ℕ). (v + x) % 2) (parity-number _ (2 * s + one-if d)) (label-bit G content t) ∙ sum-bits _ _)
       ∙ raised-held (cellFor strip marks (2 * t + 1)) (secondOf G (2 * s + one-if d) +₂ labelFor G content t))
 
 -- THE PATH: the plan's states and digits from state 0
@@ -136,11 +137,6 @@ record Onward (G : Generators) (W strip : List ℕ) (marks : ℕ → Bool) (cont
       (2 * t + 1)
       ∷ rest .levels
 
--- the plan from stage t on has a solution
-record Opened (G : Generators) (W strip : List ℕ) (marks : ℕ → Bool) (content : List ℕ) (L t : ℕ) : Type 0 where
-  found : Solution
-  is-found : onward G W strip marks content L t ≡ some found
-
 module _ (G : Generators) (W : List ℕ) (K : Suits G W) (strip : List ℕ) (marks : ℕ → Bool) (content : List ℕ) (L : ℕ) where
   -- the digits of the path
   abbrev u : ℕ → ℕ
@@ -197,22 +193,20 @@ module _ (G : Generators) (W : List ℕ) (K : Suits G W) (strip : List ℕ) (mar
         let z : 2 * 0 + c ≡ c = omega arith in rw z at (onward-carried (8 * L) 0 (omega arith) a (onward-write ∙ e) c (omega arith))
 
     -- and along the plan every stage has a solution
-    opened : (a : Solution) → rewriteOf oneBit G W L strip marks content ≡ some a → (t : ℕ) → t ≤ 8 * L → Opened G W strip marks content L t
-    opened a e zero h = record { found = a; is-found = onward-write ∙ e }
-    opened a e (suc t) h =
-        let o = opened a e t (omega arith) in
-        let p = onward-step t (omega arith) (o .found) (o .is-found) in
-        record { found = p .rest; is-found = p .further }
+    opened : (a : Solution) → rewriteOf oneBit G W L strip marks content ≡ some a → (t : ℕ) → t ≤ 8 * L
+        → ((b : Solution) → onward G W strip marks content L t ≡ some b → ⊥) → ⊥
+    opened a e zero h k = k a (onward-write ∙ e)
+    opened a e (suc t) h k =
+        opened a e t (omega arith) (λ b q. let p = onward-step t (omega arith) b q in k (p .rest) (p .further))
 
     -- so every state on it has a cost
     pub path-open : (a : Solution) → rewriteOf oneBit G W L strip marks content ≡ some a → (t : ℕ) → t ≤ 8 * L
         → costsFor G W (stagesFor G strip marks content t (8 * L - t)) (pathState G W strip marks content L t) ≡ none → ⊥
     path-open a e t h f =
-        let o = opened a e t h in
-        some-none (o .found) (sym (o .is-found)
+        opened a e t h (λ b q. some-none b (sym q
         ∙ play-shut (branchN (encoderFor G) (parity-choice (stepsOf W))) (nextFor G) (priceBy (wordsOf G) (quoteFor W) (nextFor G)) Pair
         (oneBit-quotes (G .memory) G (K .both) (stepsOf W) .priced)
-        (stages-pairs G strip marks content t (8 * L - t)) (pathState G W strip marks content L t) _ f)
+        (stages-pairs G strip marks content t (8 * L - t)) (pathState G W strip marks content L t) _ f))
 
     -- THE FIRST CODE BITS. A bit that misses another, added to it
     missed : (a b : Bool) → (one-if (not (Bool·beq a b)) + one-if a) % 2 ≡ one-if b
@@ -291,7 +285,7 @@ path-followed G W K D strip marks content {lows} {history} T B a e = record {
         let w : s ≡ windowOf (G .memory) u (8 * q) = path-window G W strip marks content L (8 * q) in
         let l : s < 2 ^ G .memory = rw w (window-less (G .memory) u (8 * q)) in
         let k : getD history (64 * q + s) 0 ≡ trailFor G W 8 (stagesFor G strip marks content (8 * q) (8 * L - 8 * q)) s =
-        rw z at (T .kept q h s l (rw z (path-open G W K strip marks content L D a e (8 * q) (omega arith)))) in
+        rw z at (T .trails q h s l (rw z (path-open G W K strip marks content L D a e (8 * q) (omega arith)))) in
         rw (← w, y) (k ∙ trail-window G W K strip marks content L D 8 (8 * q) (omega arith))
 
     told : (q : ℕ) → q < L
@@ -350,8 +344,8 @@ price-below : (G : Generators) (W : List ℕ) → Suits G W → (strip : List �
     → Below 510 (quoteFor W (stageFor G strip marks content t) .of j)
 unfolding oneBitPrices cellAt
 price-below G W K strip marks content t j =
-    below-add (below-told (price-told W (K .three) (K .bytes) (level strip (2 * t)) (marks (2 * t)) _ (level-bound strip (2 * t))))
-    (below-told (price-told W (K .three) (K .bytes) (level strip (2 * t + 1)) (marks (2 * t + 1)) _ (level-bound strip (2 * t + 1))))
+    below-add (below-decoded (price-decoded W (K .weights) (level strip (2 * t)) (marks (2 * t)) _ (level-bound strip (2 * t))))
+    (below-decoded (price-decoded W (K .weights) (level strip (2 * t + 1)) (marks (2 * t + 1)) _ (level-bound strip (2 * t + 1))))
 
 -- THE COSTS of k stages are at most two steps a stage
 costs-below : (G : Generators) (W : List ℕ) → Suits G W → (strip : List ℕ) (marks : ℕ → Bool) (content : List ℕ) (k t s : ℕ)

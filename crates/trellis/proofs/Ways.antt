@@ -1,10 +1,10 @@
 -- The stages of a strip in the plain search, and what the numbers of the states tell over blocks of them, from the last block to the first.
 --   Suits, suits, suits-sound                     what the program asks of a code and its weights, and that every code has it
 --   words-le, state-inside, next-zero, next-one   the words and the next states of a code
---   label-told                                    the label of a stage
+--   label-bit                                    the label of a stage
 --   stages-pairs, stages-are                      the stages of a strip are those of the search
---   BlocksTold                                    what the loop over the blocks holds
---   blocks-last, block-told, blocks-more          at its start, and through a turn
+--   BlocksDecoded                                    what the loop over the blocks holds
+--   blocks-last, block-decoded, blocks-more          at its start, and through a turn
 --   blocks-first                                  at its end: the number of state 0 tells the strip's outcome
 --   block-quoted                                  the rows of a block tell the prices of its stages
 --   TracedFrom, traced-more                       the history of the blocks from q on
@@ -26,6 +26,7 @@ use borrow.Author.Tests.{lt-ltb, le-ltb}
 use Rattle.cells.specs.Places.{listOf, Each, no-more, and-each}
 use Rattle.cells.specs.Bytes.{bitOf}
 use Rattle.cells.specs.Levels.{level}
+use Rattle.cells.specs.Climbs.{Weights}
 use Rattle.cells.specs.Marks.{marksIn}
 use Rattle.cells.proofs.Places.{zeros-at, listOf-same}
 use Rattle.codes.specs.Generators.{Generators}
@@ -37,7 +38,7 @@ use Rattle.codes.specs.Numbers.{one-if}
 use Rattle.codes.specs.Taps.{wordOf, parityOf, windowOf, firstBit}
 use Rattle.codes.specs.Encoders.{encoderOf, Proper}
 use Rattle.codes.specs.Blocks.{labelAt}
-use Rattle.codes.proofs.Codes.{memory-bounds, proper, second-leads, two-generators}
+use Rattle.codes.proofs.Codes.{memory-bounds, proper}
 use Rattle.codes.proofs.Layouts.{oneBit-stages, oneBit-cells}
 use Rattle.codes.proofs.Windows.{window-byte, window-of-word, label-bound}
 use Rattle.search.specs.Best.{Solution}
@@ -49,38 +50,33 @@ use Rattle.search.specs.Numbered.{nextN}
 use Rattle.search.specs.OneBit.{oneBitPrices}
 use Rattle.search.specs.Layouts.{dataBits, stripCells, stagesOf, rewriteOf, Sound}
 use Rattle.search.proofs.Plain.{plain-cost}
-use Rattle.search.proofs.OneBit.{Pair, pair, Both, oneBit-quotes}
+use Rattle.search.proofs.OneBit.{Pair, pair, Both, code-both, oneBit-quotes}
 use Rattle.search.proofs.Layouts.{oneBit-sound, oneBit-write}
-use Rattle.stages.specs.Stage.{closed, top, wordsOf}
-use Rattle.stages.specs.Blocks.{pickAt, Ran, Settled, Kept}
-use Rattle.stages.specs.Costs.{Tells, open-at, shut, Trailed, open-with}
+use Rattle.stages.specs.Stage.{closed, ceiling, wordsOf}
+use Rattle.stage_blocks.specs.Blocks.{pickAt, Ran, Settled, Kept}
+use Rattle.stages.specs.Costs.{Decodes, open-at, shut, Trailed, open-with}
 use Rattle.stages.specs.Trails.{stagesFrom, Quoted}
-use Rattle.stages.proofs.Runs.{settled-le}
-use Rattle.stages.proofs.Costs.{told-settled, told-low, told-cost}
-use Rattle.stages.proofs.Trails.{run-told}
-use Rattle.trellis.specs.Rows.{Priced, stageRow, bitsAt, marksAt, packedOf}
-use Rattle.trellis.specs.Ways.{encoderFor, labelFor, cellFor, stageFor, quoteFor, nextFor, stagesFor, costsFor, trailFor, blocksFor}
-use Rattle.trellis.specs.Outcomes.{toldOutcome, solutionOutcome}
+use Rattle.stage_blocks.proofs.Runs.{settled-le}
+use Rattle.stage_blocks.proofs.Costs.{decoded-settled, decoded-low, decoded-cost}
+use Rattle.stage_blocks.proofs.Trails.{run-decoded}
+use Rattle.prices.specs.Prices.{Priced}
+use Rattle.rows.specs.Rows.{stageRow, bitsAt, marksAt, packedOf}
+use Rattle.rows.specs.Stages.{encoderFor, labelFor, cellFor, stageFor, quoteFor}
+use Rattle.trellis.specs.Ways.{nextFor, stagesFor, costsFor, trailFor, blocksFor}
+use Rattle.trellis.specs.Outcomes.{decodedOutcome, solutionOutcome}
 use Rattle.trellis.specs.Plans.{writeOf}
-use Rattle.trellis.proofs.Quotes.{picks-are, first-kind, row-quoted}
+use Rattle.rows.proofs.Quotes.{picks-are, first-kind, row-quoted}
 
 -- what the program asks of a code and its weights: two generators that begin with 1, and weights of three bytes
 pub record Suits (G : Generators) (W : List ℕ) : Type 0 where
   pub proper : Proper G
   pub both : Both G
   pub reach : G .memory ≤ 6
-  pub three : length W ≡ 3
-  pub bytes : (i : ℕ) → getD W i 0 ≤ 255
+  pub weights : Weights W
 
 -- every code suits weights of three bytes
-pub suits : (c : Code) (W : List ℕ) → length W ≡ 3 → ((i : ℕ) → getD W i 0 ≤ 255) → Suits (generatorsOf c) W
-suits c W three bytes = record {
-  proper = proper c;
-  both = record { g1-leads = proper c .leads; g2-leads = second-leads c; two = two-generators c };
-  reach = memory-bounds (c .name) .1;
-  three = three;
-  bytes = bytes;
-}
+pub suits : (c : Code) (W : List ℕ) → Weights W → Suits (generatorsOf c) W
+suits c W K = record { proper = proper c; both = code-both c; reach = memory-bounds (c .name) .1; weights = K }
 
 -- a code that suits goes with one bit a cell
 pub suits-sound : {G : Generators} {W : List ℕ} → Suits G W → Sound oneBit G
@@ -131,9 +127,9 @@ unfolding dataBits
 data-bits content = fun-ext λ t. ap (λ (n : ℕ). odd (bitOf content n)) (omega arith)
 
 -- the label of a stage
-pub label-told : (G : Generators) (content : List ℕ) (t : ℕ) → labelAt G content t ≡ one-if (labelFor G content t)
+pub label-bit : (G : Generators) (content : List ℕ) (t : ℕ) → labelAt G content t ≡ one-if (labelFor G content t)
 unfolding labelAt
-label-told G content t = rw (data-bits content)
+label-bit G content t = rw (data-bits content)
 
 -- THE STAGES of a strip: each has two cells and a label
 module _ (G : Generators) (strip : List ℕ) (marks : ℕ → Bool) (content : List ℕ) where
@@ -188,12 +184,12 @@ cost-start G W K D L strip marks content =
 
 -- A LOOP over the blocks from the last to the first holds, before block q, the eight labels before it and numbers that tell what the states
 -- cost from there on, for all weights whose table it has
-pub record BlocksTold (G : Generators) (rows strip : List ℕ) (marks : ℕ → Bool) (content : List ℕ) (q before : ℕ)
+pub record BlocksDecoded (G : Generators) (rows strip : List ℕ) (marks : ℕ → Bool) (content : List ℕ) (q before : ℕ)
     (numbers : List ℕ) : Type 0 where
   pub within : q ≤ length content
   pub labels-are : before ≡ windowOf 8 (labelAt G content) (8 * q)
-  pub long : length numbers ≡ 64
-  pub cut : (i : ℕ) → getD numbers i 0 ≤ top
+  pub size : length numbers ≡ 64
+  pub cut : (i : ℕ) → getD numbers i 0 ≤ ceiling
   pub told : (W : List ℕ) → Priced W rows → (s : ℕ) → s < 2 ^ G .memory
       → Trailed 256 closed (510 * (8 * (length content - q))) 0 (getD numbers s 0)
       (costsFor G W (blocksFor G strip marks content (length content) q) s) 0
@@ -205,28 +201,28 @@ module _ (G : Generators) (rows strip : List ℕ) (marks : ℕ → Bool) (conten
 
   -- after the last block nothing costs anything
   pub blocks-last : {before : ℕ} → before ≡ windowOf 8 (labelAt G content) (8 * n)
-      → BlocksTold G rows strip marks content n before (replicate 64 0)
+      → BlocksDecoded G rows strip marks content n before (replicate 64 0)
   unfolding stagesFrom costs
   blocks-last e =
       let z : 8 * (n - n) ≡ 0 = omega arith in record {
         within = omega arith;
         labels-are = e;
-        long = length-replicate {A = ℕ} 64 0;
+        size = length-replicate {A = ℕ} 64 0;
         cut = λ i. omega (arith, zeros-at 64 i);
         told = λ W P s h. rw (z, zeros-at 64 s) (open-with {v = 0} {c = 0} {t = 0} (omega arith) (omega arith) (omega arith));
       }
 
   -- A TURN goes from before block q + 1 to before block q, by the numbers before the block and after it is settled
   module _ (K : Proper G) (q picks : ℕ) {before : ℕ} {numbers ran : List ℕ} (most : n ≤ 64) (inside : q < n)
-      (h : BlocksTold G rows strip marks content (q + 1) before numbers)
+      (h : BlocksDecoded G rows strip marks content (q + 1) before numbers)
       (quoted : (W : List ℕ) → Priced W rows → (i : ℕ) → i < 8
       → Quoted 256 closed 510 rows (pickAt picks i) (quoteFor W (stageFor G strip marks content (8 * q + i))))
       (r : Ran (2 ^ G .memory) (wordsOf G) rows picks numbers ran) where
     -- the numbers before the block tell costs and trails
-    pub block-told : (W : List ℕ) → Priced W rows → (s : ℕ) → s < 2 ^ G .memory
+    pub block-decoded : (W : List ℕ) → Priced W rows → (s : ℕ) → s < 2 ^ G .memory
         → Trailed 256 closed (510 * (8 * (n - q))) 8 (getD ran s 0) (costsFor G W (blocksFor G strip marks content n q) s)
         (trailFor G W 8 (blocksFor G strip marks content n q) s)
-    block-told W P s l =
+    block-decoded W P s l =
         let later : ℕ = 8 * (n - (q + 1)) in
         let z : 8 * q + (8 - 8) ≡ 8 * q = omega arith in
         let e : 8 + later ≡ 8 * (n - q) = omega arith in
@@ -236,7 +232,7 @@ module _ (G : Generators) (rows strip : List ℕ) (marks : ℕ → Bool) (conten
         subst (λ (v : ℕ). Trailed 256 closed (510 * (8 * (n - q))) 8 v (costsFor G W (blocksFor G strip marks content n q) s)
         (trailFor G W 8 (blocksFor G strip marks content n q) s)) (sym (r .states s l))
         (rw (z, e, b) at
-        (run-told (2 ^ G .memory) (wordsOf G) (words-le G) (quoteFor W) (nextFor G) (state-inside G (K .some-memory))
+        (run-decoded (2 ^ G .memory) (wordsOf G) (words-le G) (quoteFor W) (nextFor G) (state-inside G (K .some-memory))
         (next-zero G (K .some-memory)) (next-one G (K .some-memory)) 8 256 closed 510 (510 * later) (8 * q) later
         (stageFor G strip marks content) rows picks (λ i. getD numbers i 0) (quoted W P) (rw f at (h .told W P)) room (omega arith)
         8 (omega arith) s l))
@@ -244,37 +240,37 @@ module _ (G : Generators) (rows strip : List ℕ) (marks : ℕ → Bool) (conten
     -- and once they are settled the turn is done
     pub blocks-more : {earlier : ℕ} {settled : List ℕ} → earlier ≡ windowOf 8 (labelAt G content) (8 * q)
         → Settled (2 ^ G .memory) ran settled
-        → BlocksTold G rows strip marks content q earlier settled
+        → BlocksDecoded G rows strip marks content q earlier settled
     blocks-more {settled = settled} e t = record {
       within = omega arith;
       labels-are = e;
-      long = t .long;
+      size = t .size;
       cut = settled-le t (λ i l. omega (arith, r .others i l, h .cut i));
       told = λ W P s l.
           subst (λ (v : ℕ). Trailed 256 closed (510 * (8 * (n - q))) 0 v (costsFor G W (blocksFor G strip marks content n q) s) 0)
-          (sym (t .states s l)) (told-settled (omega arith) (omega arith) (block-told W P s l));
+          (sym (t .states s l)) (decoded-settled (omega arith) (omega arith) (block-decoded W P s l));
     }
 
 -- AN OUTCOME by the number that tells the cost of a solution
-outcome-told : (m v : ℕ) (r : Option Solution) → m < closed → Tells closed m v (solutionCost r) → toldOutcome v ≡ solutionOutcome r
+outcome-decoded : (m v : ℕ) (r : Option Solution) → m < closed → Decodes closed m v (solutionCost r) → decodedOutcome v ≡ solutionOutcome r
 unfolding solutionCost solutionOutcome
-outcome-told m v none l (shut h) = rw (le-ltb v closed h)
-outcome-told m v (some a) l (open-at h) = rw (lt-ltb v closed (omega arith))
+outcome-decoded m v none l (shut h) = rw (le-ltb v closed h)
+outcome-decoded m v (some a) l (open-at h) = rw (lt-ltb v closed (omega arith))
 
 -- before the first block the number of state 0 tells the strip's outcome
 pub blocks-first : {G : Generators} {rows strip : List ℕ} {marks : ℕ → Bool} {content : List ℕ} {before : ℕ} {numbers : List ℕ}
     → length content ≤ 64
-    → BlocksTold G rows strip marks content 0 before numbers → (W : List ℕ) → Suits G W → Priced W rows
-    → toldOutcome (getD numbers 0 0 / 256) ≡ solutionOutcome (writeOf G W strip marks content)
+    → BlocksDecoded G rows strip marks content 0 before numbers → (W : List ℕ) → Suits G W → Priced W rows
+    → decodedOutcome (getD numbers 0 0 / 256) ≡ solutionOutcome (writeOf G W strip marks content)
 blocks-first {G} {rows} {strip} {marks} {content} {before} {numbers} most h W K P =
     let z : length content - 0 ≡ length content = omega arith in
-    outcome-told (510 * (8 * length content)) (getD numbers 0 0 / 256) (writeOf G W strip marks content) (omega arith)
-    (rw (z, cost-start G W K (P .dear) (length content) strip marks content) at (told-cost (h .told W P 0 (pow-pos (G .memory)))))
+    outcome-decoded (510 * (8 * length content)) (getD numbers 0 0 / 256) (writeOf G W strip marks content) (omega arith)
+    (rw (z, cost-start G W K (P .dear) (length content) strip marks content) at (decoded-cost (h .told W P 0 (pow-pos (G .memory)))))
 
 -- THE ROWS of block q, by its labels, its bits and its marks, tell the prices of its stages
 pub block-quoted : (G : Generators) {rows strip : List ℕ} (map : List ℕ) {content numbers : List ℕ} (q picks : ℕ) {before : ℕ}
     → ((k : ℕ) → getD strip k 0 < 256) → ((k : ℕ) → getD map k 0 < 256)
-    → BlocksTold G rows strip (marksIn map) content (q + 1) before numbers
+    → BlocksDecoded G rows strip (marksIn map) content (q + 1) before numbers
     → picks ≡ packedOf 8 (stageRow (bitsAt strip q) (marksAt map q) before) 8 → (W : List ℕ) → Priced W rows → (i : ℕ) → i < 8
     → Quoted 256 closed 510 rows (pickAt picks i) (quoteFor W (stageFor G strip (marksIn map) content (8 * q + i)))
 block-quoted G {rows} {strip} map {content} q picks {before} octets marks h p W P i l =
@@ -282,12 +278,12 @@ block-quoted G {rows} {strip} map {content} q picks {before} octets marks h p W 
     let m : 7 - i < 8 = omega arith in
     row-quoted W rows P strip map octets marks G content q i before picks l (picks-are _ _ _ picks p i l)
     (ap (λ (w : ℕ). w / 2 ^ (7 - i) % 2) (h .labels-are) ∙ window-byte (labelAt G content) (label-bound G content) q (7 - i) m
-    ∙ ap (labelAt G content) z ∙ label-told G content (8 * q + i))
+    ∙ ap (labelAt G content) z ∙ label-bit G content (8 * q + i))
 
 -- THE HISTORY has the trails of the blocks from q on
 pub record TracedFrom (G : Generators) (rows strip : List ℕ) (marks : ℕ → Bool) (content history : List ℕ) (q : ℕ) : Type 0 where
-  pub long : length history ≡ 4096
-  pub kept : (W : List ℕ) → Priced W rows → (k : ℕ) → q ≤ k → k < length content → (s : ℕ) → s < 2 ^ G .memory
+  pub size : length history ≡ 4096
+  pub trails : (W : List ℕ) → Priced W rows → (k : ℕ) → q ≤ k → k < length content → (s : ℕ) → s < 2 ^ G .memory
       → (costsFor G W (blocksFor G strip marks content (length content) k) s ≡ none → ⊥)
       → getD history (64 * k + s) 0 ≡ trailFor G W 8 (blocksFor G strip marks content (length content) k) s
 
@@ -300,10 +296,10 @@ pub traced-more : (G : Generators) {rows strip : List ℕ} {marks : ℕ → Bool
     (trailFor G W 8 (blocksFor G strip marks content (length content) q) s))
     → TracedFrom G rows strip marks content history′ q
 traced-more G {rows} {strip} {marks} {content} {history} {history′} {ran} q fits t k told = record {
-  long = k .long;
-  kept = λ W P j h l s b some-cost. ⊎-elim
-      (λ (e : q ≡ j). rw (← e) (k .here s b ∙ told-low (told W P s b) (rw e some-cost)))
-      (λ (e : q < j). k .after (64 * j + s) (omega arith) ∙ t .kept W P j (omega arith) l s b some-cost)
+  size = k .size;
+  trails = λ W P j h l s b some-cost. ⊎-elim
+      (λ (e : q ≡ j). rw (← e) (k .here s b ∙ decoded-low (told W P s b) (rw e some-cost)))
+      (λ (e : q < j). k .after (64 * j + s) (omega arith) ∙ t .trails W P j (omega arith) l s b some-cost)
       (eq-or-lt-of-le h);
 }
 

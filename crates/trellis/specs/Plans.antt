@@ -12,7 +12,7 @@ use Rattle.codes.specs.Layouts.{oneBit, cellCount}
 use Rattle.search.specs.Best.{Solution}
 use Rattle.search.specs.Levels.{levelAt}
 use Rattle.search.specs.Layouts.{rewriteOf}
-use Rattle.trellis.specs.Carrying.{digitIn, carriedTo}
+use Rattle.carrying.specs.Carrying.{digitIn, carriedTo}
 
 -- the write of a strip of bytes, of which some cells are marked
 abbrev pub writeOf : Generators → List ℕ → List ℕ → (ℕ → Bool) → List ℕ → Option Solution

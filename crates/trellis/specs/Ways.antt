@@ -1,5 +1,5 @@
 -- The stages of a strip in the plain search, and what the program keeps of the ways through them.
---   stageFor, quoteFor, nextFor   a stage of a strip, its prices, and the next state
+--   nextFor                       the next state
 --   stagesFor, costsFor           k stages from stage t on, and what they cost from each state
 --   Shaped                        what the search of a strip asks
 --   Traced                        the history has the trail of each state that has a cost, eight stages a byte
@@ -7,7 +7,7 @@
 --   Followed                      digits that the history and these bits give
 use mathlib.Core.Path.{_≡_}
 use mathlib.Core.Bool.{Bool}
-use mathlib.Core.List.{List, [], _∷_}
+use mathlib.Core.List.{List}
 use mathlib.Core.Option.{Option, none}
 use Prim.Native.Nat.{ℕ, _+_, _-_, _*_, _^_, _<_, _≤_}
 use lib.Bits.{bitXor}
@@ -15,40 +15,14 @@ use lib.ListN.{getD, length}
 use Rattle.cells.specs.Levels.{level}
 use Rattle.codes.specs.Generators.{Generators}
 use Rattle.codes.specs.Layouts.{oneBit, byteCount}
-use Rattle.codes.specs.Registers.{quotient}
-use Rattle.codes.specs.Encoders.{Encoder, encoderOf}
 use Rattle.codes.specs.Taps.{tapsOf, windowOf, firstBit}
 use Rattle.codes.specs.Blocks.{Gives}
-use Rattle.search.specs.Strip.{Cell, stepsOf}
-use Rattle.search.specs.Search.{Stage, withMemory}
-use Rattle.search.specs.Layouts.{dataBits}
+use Rattle.search.specs.Search.{Stage}
 use Rattle.search.specs.Plan.{costs}
 use Rattle.search.specs.Numbered.{nextN}
-use Rattle.search.specs.Plain.{Prices}
-use Rattle.search.specs.OneBit.{oneBitPrices}
-use Rattle.stages.specs.Stage.{top, wordsOf}
+use Rattle.stages.specs.Stage.{ceiling, wordsOf}
+use Rattle.rows.specs.Stages.{encoderFor, stageFor, quoteFor}
 use Rattle.stages.specs.Trails.{stagesFrom, priceBy, trailOf}
-
--- the encoder, its states as wide as the code's memory
-abbrev pub encoderFor : Generators → Encoder
-encoderFor G = withMemory (G .memory) (encoderOf G)
-
--- the label of stage t as a bit
-abbrev pub labelFor : Generators → List ℕ → ℕ → Bool
-labelFor G content t = quotient (G .memory) (encoderOf G .first) (dataBits oneBit content 0) t
-
--- cell c of a strip, by its level and its mark
-abbrev pub cellFor : List ℕ → (ℕ → Bool) → ℕ → Cell
-cellFor strip marks c = record { level = level strip c; mark = marks c }
-
--- stage t of a strip
-abbrev pub stageFor : Generators → List ℕ → (ℕ → Bool) → List ℕ → ℕ → Stage
-stageFor G strip marks content t =
-    record { adds = labelFor G content t ∷ []; cells = cellFor strip marks (2 * t) ∷ cellFor strip marks (2 * t + 1) ∷ [] }
-
--- the prices of its words
-abbrev pub quoteFor : List ℕ → Stage → Prices
-quoteFor W = oneBitPrices (stepsOf W)
 
 -- the state that follows
 abbrev pub nextFor : Generators → Stage → ℕ → Bool → ℕ
@@ -72,13 +46,13 @@ blocksFor G strip marks content n q = stagesFor G strip marks content (8 * q) (8
 
 -- what the search of a strip asks: a table that is cut off, data of at most 64 bytes and a strip for them
 pub record Shaped (rows strip content : List ℕ) : Type 0 where
-  pub cut : (k : ℕ) → getD rows k 0 ≤ top
+  pub cut : (k : ℕ) → getD rows k 0 ≤ ceiling
   pub size : length strip ≡ byteCount oneBit (length content)
   pub most : length content ≤ 64
 
 -- the history of n blocks: the trail of each state before block q that has a cost. What stands there for another state is free
 pub record Traced (G : Generators) (W strip : List ℕ) (marks : ℕ → Bool) (content history : List ℕ) : Type 0 where
-  pub kept : (q : ℕ) → q < length content → (s : ℕ) → s < 2 ^ G .memory
+  pub trails : (q : ℕ) → q < length content → (s : ℕ) → s < 2 ^ G .memory
       → (costsFor G W (blocksFor G strip marks content (length content) q) s ≡ none → ⊥)
       → getD history (64 * q + s) 0 ≡ trailFor G W 8 (blocksFor G strip marks content (length content) q) s
 

@@ -1,44 +1,36 @@
 // From the last block of eight stages to the first: what the data of a strip costs, and what the states keep of their ways.
 use crate::Outcome;
-use crate::rows::picks_at;
 use codes::Code;
 use codes::window;
+use rows::data_window;
+use rows::picks_at;
+use stage_blocks::keep;
+use stage_blocks::run;
+use stage_blocks::settle;
 use stages::CLOSED;
-use stages::blocks::keep;
-use stages::blocks::run;
-use stages::blocks::settle;
 ghost use mathlib.Core.Path.{_≡_};
 ghost use mathlib.Core.List.{List};
 ghost use Prim.Native.Nat.{ℕ, _+_, _*_, _<_, _≤_};
 ghost use lib.ListN.{length};
 ghost use Rattle.cells.specs.Places.{Untouched};
-ghost use Rattle.cells.specs.Bytes.{bitOf};
 ghost use Rattle.cells.specs.Marks.{marksIn};
 ghost use Rattle.codes.specs.Codes.{generatorsOf};
 ghost use Rattle.codes.specs.Taps.{windowOf};
 ghost use Rattle.codes.specs.Blocks.{labelAt};
-ghost use Rattle.trellis.specs.Rows.{Priced};
+ghost use Rattle.prices.specs.Prices.{Priced};
 ghost use Rattle.trellis.specs.Ways.{Shaped, Traced, Lows};
-ghost use Rattle.trellis.specs.Outcomes.{toldOutcome, solutionOutcome};
+ghost use Rattle.trellis.specs.Outcomes.{decodedOutcome, solutionOutcome};
 ghost use Rattle.trellis.specs.Plans.{writeOf};
 
 // What a number of the search says.
 fn outcome(cost: u32) -> Outcome
-    ensures { λ r. ⌜ r ≡ toldOutcome cost ⌝ }
+    ensures { λ r. ⌜ r ≡ decodedOutcome cost ⌝ }
 {
     if cost < CLOSED {
         Outcome::Done(cost)
     } else {
         Outcome::Spent
     }
-}
-
-// Eight stages of data as a window.
-pub fn data_window(data: &[u8], q: usize) -> u32
-    requires { ⌜ (q < length (now «data»)) × (length (now «data») ≤ 64) ⌝ }
-    ensures { λ r. ⌜ (r ≡ windowOf 8 (bitOf (now («data» .entry))) (8 * (q + 1))) × (r < 256) ⌝ }
-{
-    window(data[q] as u64, 1)
 }
 
 // The last eight labels of the data.
@@ -89,8 +81,8 @@ pub fn price_strip(code: Code, rows: &[u32; 256], strip: &[u8], map: &[u8], data
     outcome(costs[0] / 256)
 }
 
-// The same, with what the states keep of their ways, and the bits that the first cells show, eight stages a byte. What stands in the
-// history for a state without a cost, or beyond the code's states, is free.
+// What the data of a strip costs, what the states keep of their ways, and the bits that the first cells show, eight stages a byte. What
+// stands in the history for a state without a cost, or beyond the code's states, is free.
 pub fn decide(
     code: Code,
     rows: &[u32; 256],

@@ -10,7 +10,7 @@ ghost use Rattle.cells.specs.Places.{Free};
 ghost use Rattle.cells.specs.Marks.{marksIn};
 ghost use Rattle.codes.specs.Codes.{generatorsOf};
 ghost use Rattle.codes.specs.Taps.{windowOf};
-ghost use Rattle.trellis.specs.Rows.{Priced};
+ghost use Rattle.prices.specs.Prices.{Priced};
 ghost use Rattle.trellis.specs.Ways.{Shaped, Followed};
 ghost use Rattle.trellis.specs.Outcomes.{solutionOutcome};
 ghost use Rattle.trellis.specs.Plans.{writeOf, Plans};

@@ -1,8 +1,6 @@
-// The search of a strip: the rows of its stages, what its data costs, the digits of the cheapest way, and carrying them out.
+// The search of a strip: what its data costs, and the digits of the cheapest way.
 pub mod backward;
-pub mod carrying;
 pub mod forward;
-pub mod rows;
 
 // What a strip's data costs, or that no pattern takes it.
 pub enum Outcome {

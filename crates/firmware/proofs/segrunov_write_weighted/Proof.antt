@@ -1,6 +1,6 @@
 -- The answer is the call's, in one word.
 use borrow.Author.Needs.{needs}
-use Rattle.firmware.proofs.Words.{lower-half}
+use Rattle.words.proofs.Words.{lower-half}
 use Rattle.firmware.proofs.segrunov_write_weighted.Statement.{statement}
 use Rattle.firmware.proofs.segrunov_write_weighted.Tie as tie
 

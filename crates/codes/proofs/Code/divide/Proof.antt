@@ -2,7 +2,7 @@
 use mathlib.Core.Path.{sym, _∙_}
 use native.Mathlib.Omega.{arith}
 use borrow.Author.Needs.{needs}
-use Rattle.cells.specs.Places.{number}
+use Rattle.cells.specs.Places.{fromBits}
 use Rattle.codes.specs.Generators.{digit}
 use Rattle.codes.specs.Taps.{tapsOf}
 use Rattle.codes.proofs.Divisions.{divided-only, untapped-short, untapped-long}
@@ -22,7 +22,7 @@ divided-requires-2 : tie.Need-divided-requires-2
 divided-requires-2 c κs = search needs
 
 returns : tie.Need-returns
-unfolding tapsOf number digit
+unfolding tapsOf fromBits digit
 returns c =
     let a = c .before .before .before .args in
     let e = c .divided .ensures in
@@ -30,7 +30,7 @@ returns c =
     (e .1, λ y h g. divided-only 0o7 (a .before) (a .«data») y (omega arith) untapped-short (omega arith) h g ∙ sym (e .0))
 
 returns-2 : tie.Need-returns-2
-unfolding tapsOf number digit
+unfolding tapsOf fromBits digit
 returns-2 c =
     let a = c .before .before .before .args in
     let e = c .divided2 .ensures in

@@ -3,7 +3,7 @@ use mathlib.Core.Path.{_∙_, ap}
 use Prim.Native.Nat.{ℕ, _/_, _%_, _^_}
 use native.Mathlib.Omega.{arith}
 use borrow.Author.Needs.{needs}
-use Rattle.cells.specs.Places.{number}
+use Rattle.cells.specs.Places.{fromBits}
 use Rattle.codes.specs.Generators.{digit}
 use Rattle.codes.specs.Taps.{tapsOf}
 use Rattle.codes.proofs.Divisions.{tapped-bit}
@@ -23,14 +23,14 @@ tapped-requires-2 : tie.Need-tapped-requires-2
 tapped-requires-2 c κs = search needs
 
 returns : tie.Need-returns
-unfolding tapsOf number digit
+unfolding tapsOf fromBits digit
 returns c =
     let w = c .before .before .before .args .window in
     let e = c .tapped .ensures in
     rw (c .before .enum-told .given .1) (e .1, λ p. ap (λ (x : ℕ). x / 2 ^ p % 2) (e .0) ∙ tapped-bit 0o7 w p (omega arith))
 
 returns-2 : tie.Need-returns-2
-unfolding tapsOf number digit
+unfolding tapsOf fromBits digit
 returns-2 c =
     let w = c .before .before .before .args .window in
     let e = c .tapped2 .ensures in

@@ -5,7 +5,7 @@ use native.Mathlib.Omega.{arith}
 use native.Mathlib.Nat.{not-suc-le-zero}
 use lib.ListN.{length, getD, length-set}
 use borrow.Author.Needs.{needs}
-use Rattle.cells.specs.Places.{number}
+use Rattle.cells.specs.Places.{fromBits}
 use Rattle.cells.specs.Levels.{level}
 use Rattle.codes.specs.Codes.{generatorsOf, WindowsBefore}
 use Rattle.codes.specs.Taps.{windowOf, tappedBit}
@@ -21,7 +21,7 @@ Inv-loop strip data₀ g1 g2 windows₀ q₀ «data» windows q =
     (length «data» ≡ length data₀)
     × (q ≤ length data₀)
     × WindowsBefore strip q windows
-    × ((k : ℕ) → k < q → getD «data» k 0 ≡ number 8 (λ i. tappedBit g1 g2 (level strip) (8 * k + i)))
+    × ((k : ℕ) → k < q → getD «data» k 0 ≡ fromBits 8 (λ i. tappedBit g1 g2 (level strip) (8 * k + i)))
 
 abbrev μ-loop : tie.MeasureT-loop
 μ-loop strip data₀ g1 g2 windows₀ q₀ «data» windows q = length data₀ - q

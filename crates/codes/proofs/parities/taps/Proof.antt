@@ -3,7 +3,7 @@ use mathlib.Core.Path.{_≡_, refl, ap, _∙_}
 use Prim.Native.Nat.{ℕ, suc, _≤_, _+_, _*_, _-_, _/_, _%_, _^_}
 use native.Mathlib.Omega.{arith}
 use borrow.Author.Needs.{needs}
-use Rattle.cells.specs.Places.{number}
+use Rattle.cells.specs.Places.{fromBits}
 use Rattle.codes.specs.Generators.{digit}
 use Rattle.codes.specs.Taps.{tapsOf}
 use Rattle.cells.proofs.Places.{number-next, number-fits}
@@ -12,7 +12,7 @@ use Rattle.codes.proofs.parities.taps.Statement.{statement}
 use Rattle.codes.proofs.parities.taps.Tie as tie
 
 abbrev Inv-loop : tie.InvT-loop
-Inv-loop memory generator sum₀ i₀ sum i = (i ≤ memory + 1) × (sum ≡ number i (digit memory generator))
+Inv-loop memory generator sum₀ i₀ sum i = (i ≤ memory + 1) × (sum ≡ fromBits i (digit memory generator))
 
 abbrev μ-loop : tie.MeasureT-loop
 μ-loop memory generator sum₀ i₀ sum i = memory + 1 - i
@@ -21,7 +21,7 @@ abbrev μ-loop : tie.MeasureT-loop
 next-digit : (c : tie.In-loop Inv-loop μ-loop) →
     let a = c .before .before .args in
     let l = c .before .loop in
-    l .sum + (a .generator / 2 ^ (a .memory - l .i) % 2 * 2 ^ l .i) % 2 ^ 32 ≡ number (l .i + 1) (digit (a .memory) (a .generator))
+    l .sum + (a .generator / 2 ^ (a .memory - l .i) % 2 * 2 ^ l .i) % 2 ^ 32 ≡ fromBits (l .i + 1) (digit (a .memory) (a .generator))
 unfolding digit
 next-digit c =
     let a = c .before .before .args in
@@ -32,7 +32,7 @@ loop-again : tie.Need-loop-again Inv-loop μ-loop
 loop-again c = (omega arith, next-digit c)
 
 loop-holds : tie.Need-loop-holds Inv-loop μ-loop
-unfolding number
+unfolding fromBits
 loop-holds c = search needs
 
 shr-sum : tie.Need-shr-sum Inv-loop μ-loop
@@ -60,7 +60,7 @@ returns c =
     let l = c .before .loop in
     let e : l .i ≡ suc (a .memory) = omega arith in
     let h = number-fits (l .i) 7 _ (digit-bound (a .memory) (a .generator)) (omega arith) in
-    (l .inv .1 ∙ ap (λ (n : ℕ). number n (digit (a .memory) (a .generator))) e, omega arith)
+    (l .inv .1 ∙ ap (λ (n : ℕ). fromBits n (digit (a .memory) (a .generator))) e, omega arith)
 
 pub taps-spec : {M : Type 1} → statement M
 taps-spec =

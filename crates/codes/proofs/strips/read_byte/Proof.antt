@@ -3,7 +3,7 @@ use mathlib.Core.Path.{_≡_, refl, ap, _∙_}
 use Prim.Native.Nat.{ℕ, _≤_, _+_, _*_, _-_, _%_, _^_}
 use native.Mathlib.Omega.{arith}
 use borrow.Author.Needs.{needs}
-use Rattle.cells.specs.Places.{number}
+use Rattle.cells.specs.Places.{fromBits}
 use Rattle.cells.specs.Levels.{level}
 use Rattle.codes.specs.Taps.{windowOf, firstBit, secondBit, tappedBit}
 use Rattle.cells.proofs.Places.{number-next, number-fits}
@@ -16,7 +16,7 @@ Inv-loop g1 g2 strip q a₀ b₀ byte₀ i₀ a b byte i =
     (i ≤ 8)
     × (a ≡ windowOf 7 (firstBit (level strip)) (8 * q + i))
     × (b ≡ windowOf 7 (secondBit (level strip)) (8 * q + i))
-    × (byte ≡ number i (λ k. tappedBit g1 g2 (level strip) (8 * q + k)))
+    × (byte ≡ fromBits i (λ k. tappedBit g1 g2 (level strip) (8 * q + k)))
 
 abbrev μ-loop : tie.MeasureT-loop
 μ-loop g1 g2 strip q a₀ b₀ byte₀ i₀ a b byte i = 8 - i
@@ -46,7 +46,7 @@ byte-next : (c : tie.After-parity2 Inv-loop μ-loop) →
     let a = c .before .before .before .before .before .before .before .args in
     let l = c .before .before .before .before .before .loop in
     l .byte + ((c .before .parity .result + c .parity2 .result) % 2 * 2 ^ l .i) % 2 ^ 32
-    ≡ number (l .i + 1) (λ k. tappedBit (a .g1) (a .g2) (level (a .strip .now)) (8 * a .q + k))
+    ≡ fromBits (l .i + 1) (λ k. tappedBit (a .g1) (a .g2) (level (a .strip .now)) (8 * a .q + k))
 byte-next c =
     let a = c .before .before .before .before .before .before .before .args in
     let l = c .before .before .before .before .before .loop in
@@ -57,7 +57,7 @@ byte-next c =
     (data-next v (a .q) (l .i) (a .g1) (a .g2) _ _ _ _ e f (c .before .parity .ensures .0) (c .parity2 .ensures .0))
 
 loop-holds : tie.Need-loop-holds Inv-loop μ-loop
-unfolding number
+unfolding fromBits
 loop-holds c =
     let a = c .before .args in
     let s : 8 * a .q ≡ 8 * a .q + 0 = omega arith in
@@ -158,7 +158,7 @@ returns c =
     let v = level (a .strip .now) in
     let e : l .i ≡ 8 = omega arith in
     let s : 8 * a .q + l .i ≡ 8 * (a .q + 1) = omega arith in (
-      l .inv .3 ∙ ap (λ (n : ℕ). number n (λ k. tappedBit (a .g1) (a .g2) v (8 * a .q + k))) e,
+      l .inv .3 ∙ ap (λ (n : ℕ). fromBits n (λ k. tappedBit (a .g1) (a .g2) v (8 * a .q + k))) e,
       record { first-is = l .inv .1 ∙ ap (windowOf 7 (firstBit v)) s; second-is = l .inv .2 ∙ ap (windowOf 7 (secondBit v)) s },
     )
 

@@ -3,7 +3,7 @@ use mathlib.Core.Option.{none}
 use native.Mathlib.Omega.{arith}
 use borrow.Author.Needs.{needs}
 use Rattle.cells.specs.Bytes.{Octets}
-use Rattle.page.proofs.Bounds.{house-largest}
+use Rattle.page_promises.proofs.Bounds.{house-largest}
 use Rattle.page.proofs.writing.write.Statement.{statement}
 use Rattle.page.proofs.writing.write.Tie as tie
 

@@ -1,6 +1,6 @@
 -- The values are those before line 1.
 use mathlib.Core.Path.{refl}
-use Rattle.script.specs.Buffers.{pageSize}
+use Rattle.turns.specs.Buffers.{pageSize}
 use Rattle.script.proofs.running.begin.Statement.{statement}
 use Rattle.script.proofs.running.begin.Tie as tie
 

@@ -22,7 +22,7 @@ abbrev μ-loop : tie.MeasureT-loop
 μ-loop costs₀ after words at prices others i₀ costs i = 32 - i
 
 loop-holds : tie.Need-loop-holds Inv-loop μ-loop
-loop-holds c = (search needs, c .pre .long, (λ k h. c .pre .before k (omega arith)), λ k h. refl)
+loop-holds c = (search needs, c .pre .size, (λ k h. c .pre .before k (omega arith)), λ k h. refl)
 
 add-j : tie.Need-add-j Inv-loop μ-loop
 add-j c = search needs
@@ -123,7 +123,7 @@ loop-again c =
 returns : tie.Need-returns Inv-loop μ-loop
 returns c =
     let l = c .before .loop in
-    (record { long = l .inv .1; states = λ k h. l .inv .2 k (omega arith) }, record { others = λ k h. l .inv .3 k (omega arith) })
+    (record { size = l .inv .1; states = λ k h. l .inv .2 k (omega arith) }, record { others = λ k h. l .inv .3 k (omega arith) })
 
 pub half-spec : {M : Type 1} → statement M
 half-spec =

@@ -23,7 +23,7 @@ half-requires c κs =
     let s = c .before .before .before in
     let p = s .pre .prices-le in
     record {
-      long = s .pre .long;
+      size = s .pre .size;
       whole = search needs;
       place = search needs;
       words-le = s .pre .words-le;
@@ -40,7 +40,7 @@ half-requires-2 c κs =
     let p = s .pre .prices-le in
     let h = c .before .before .half .ensures .0 in
     record {
-      long = h .long;
+      size = h .size;
       whole = search needs;
       place = search needs;
       words-le = s .pre .words-le;

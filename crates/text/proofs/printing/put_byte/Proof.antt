@@ -21,7 +21,7 @@ returns c =
       near = omega arith;
       front = omega arith;
       text-is = put-before _ _ _ (c .pre .0) (c .pre .1);
-      kept = kept-byte _ _ (c .args .end) _ refl;
+      front-same = kept-byte _ _ (c .args .end) _ refl;
     }
 
 pub put-byte-spec : {M : Type 1} → statement M

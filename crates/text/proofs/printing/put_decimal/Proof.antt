@@ -77,7 +77,7 @@ returns c =
       text-is =
           put-before _ (l .at) _ (omega arith) (omega arith) ∙ sym (onto-last (l .n) (l .n) _ (omega arith)) ∙ sym (l .inv .3)
           ∙ onto-append (suc (s .number)) (s .number) _;
-      kept = kept-byte _ _ (l .at) _ (l .inv .4);
+      front-same = kept-byte _ _ (l .at) _ (l .inv .4);
     }
 
 pub put-decimal-spec : {M : Type 1} → statement M

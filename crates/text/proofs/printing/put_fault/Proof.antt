@@ -29,11 +29,11 @@ returns c =
     let r = t .before .before .before .before .before in
     let l = r .before .before .before .before in
     let e = drop-of-length-le (l .before .before .before .args .buffer .now) {i = 96} (omega arith) in
-    let k = kept-more _ _ _ _ _ (r .put-field2 .ensures .front) (r .put-field2 .ensures .kept) (l .put-field .ensures .kept) in
+    let k = kept-more _ _ _ _ _ (r .put-field2 .ensures .front) (r .put-field2 .ensures .front-same) (l .put-field .ensures .front-same) in
     record {
       at-most = omega arith;
       text-is = rw (t .put-text .ensures .text-is, r .put-field2 .ensures .text-is, l .put-field .ensures .text-is, e);
-      kept = kept-more _ _ _ _ _ (t .put-text .ensures .front) (t .put-text .ensures .kept) k;
+      front-same = kept-more _ _ _ _ _ (t .put-text .ensures .front) (t .put-text .ensures .front-same) k;
     }
 
 pub put-fault-spec : {M : Type 1} → statement M

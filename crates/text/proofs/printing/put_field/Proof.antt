@@ -22,7 +22,8 @@ returns c =
       near = omega arith;
       front = omega arith;
       text-is = rw (d .put-decimal .ensures .text-is, b .put-byte .ensures .text-is);
-      kept = kept-more _ _ _ _ _ (d .put-decimal .ensures .front) (d .put-decimal .ensures .kept) (b .put-byte .ensures .kept);
+      front-same = kept-more _ _ _ _ _ (d .put-decimal .ensures .front) (d .put-decimal .ensures .front-same)
+          (b .put-byte .ensures .front-same);
     }
 
 pub put-field-spec : {M : Type 1} → statement M

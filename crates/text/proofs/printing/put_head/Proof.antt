@@ -20,7 +20,7 @@ unfolding headText
 returns c =
     let e = drop-of-length-le (c .before .before .before .before .before .before .args .buffer .now) {i = 96} (omega arith) in
     let t = c .before .before .put-text .ensures in
-    record { at-most = omega arith; text-is = rw (t .text-is, e); kept = t .kept }
+    record { at-most = omega arith; text-is = rw (t .text-is, e); front-same = t .front-same }
 
 pub put-head-spec : {M : Type 1} → statement M
 put-head-spec = tie.close (tie.spec slice-aggregate-put-text put-text-requires same-length returns)

@@ -30,14 +30,15 @@ returns c =
     let k = a .before .before .before .before in
     let l = k .before .before .before .before in
     let e = drop-of-length-le (l .before .before .before .args .buffer .now) {i = 96} (omega arith) in
-    let two = kept-more _ _ _ _ _ (k .put-field2 .ensures .front) (k .put-field2 .ensures .kept) (l .put-field .ensures .kept) in
-    let three = kept-more _ _ _ _ _ (a .put-field3 .ensures .front) (a .put-field3 .ensures .kept) two in
+    let two = kept-more _ _ _ _ _ (k .put-field2 .ensures .front) (k .put-field2 .ensures .front-same)
+    (l .put-field .ensures .front-same) in
+    let three = kept-more _ _ _ _ _ (a .put-field3 .ensures .front) (a .put-field3 .ensures .front-same) two in
     record {
       at-most = omega arith;
       text-is =
           rw (n .put-field4 .ensures .text-is, a .put-field3 .ensures .text-is)
           (rw (k .put-field2 .ensures .text-is, l .put-field .ensures .text-is, e));
-      kept = kept-more _ _ _ _ _ (n .put-field4 .ensures .front) (n .put-field4 .ensures .kept) three;
+      front-same = kept-more _ _ _ _ _ (n .put-field4 .ensures .front) (n .put-field4 .ensures .front-same) three;
     }
 
 pub put-row-spec : {M : Type 1} → statement M

@@ -60,7 +60,7 @@ returns c =
       near = omega arith;
       front = omega arith;
       text-is = c .before .loop .inv .3 ∙ ap (λ (i : ℕ). drop i (a .text .now) ++ drop (a .end) (a .buffer .now)) e;
-      kept = c .before .loop .inv .4;
+      front-same = c .before .loop .inv .4;
     }
 
 pub put-text-spec : {M : Type 1} → statement M

@@ -1,4 +1,4 @@
--- The invariant: before block q the numbers tell what the states cost from there on (BlocksTold), and the blocks from q on are kept.
+-- The invariant: before block q the numbers tell what the states cost from there on (BlocksDecoded), and the blocks from q on are kept.
 use mathlib.Core.Path.{_≡_, refl, _∙_}
 use Prim.Native.Nat.{ℕ, _<_, _≤_, _+_, _*_, _-_, _/_, _%_, _^_}
 use native.Mathlib.Omega.{arith}
@@ -13,14 +13,15 @@ use Rattle.codes.specs.Taps.{windowOf, firstBit}
 use Rattle.codes.proofs.Codes.{proper}
 use Rattle.codes.proofs.Layouts.{oneBit-bytes}
 use Rattle.codes.proofs.Taps.{window-less}
-use Rattle.stages.proofs.Runs.{ran-le}
-use Rattle.trellis.proofs.Ways.{suits, BlocksTold, blocks-last, block-told, blocks-more, blocks-first, block-quoted, TracedFrom, traced-more, block-lows, store-back}
+use Rattle.stage_blocks.proofs.Runs.{ran-le}
+use Rattle.trellis.proofs.Ways.{suits, BlocksDecoded, blocks-last, block-decoded, blocks-more, blocks-first, block-quoted}
+use Rattle.trellis.proofs.Ways.{TracedFrom, traced-more, block-lows, store-back}
 use Rattle.trellis.proofs.backward.decide.Statement.{statement}
 use Rattle.trellis.proofs.backward.decide.Tie as tie
 
 abbrev Inv-loop : tie.InvT-loop
 Inv-loop code rows strip map «data» history₀ lows₀ states labels₀ costs₀ q₀ history lows labels costs q =
-    (BlocksTold (generatorsOf code) rows strip (marksIn map) «data» q labels costs)
+    (BlocksDecoded (generatorsOf code) rows strip (marksIn map) «data» q labels costs)
     × (TracedFrom (generatorsOf code) rows strip (marksIn map) «data» history q)
     × (length lows ≡ 64)
     × ((k : ℕ) → q ≤ k → k < length «data» → getD lows k 0 ≡ windowOf 8 (firstBit (level strip)) (8 * (k + 1)))
@@ -42,7 +43,7 @@ loop-holds c =
     let a = s .args in (
       blocks-last (generatorsOf (a .code)) (a .rows .now) (a .strip .now) (marksIn (a .map .now)) (a .«data» .now)
           (c .last-labels .ensures .0),
-      record { long = s .pre .1 .0; kept = λ W P k h l. absurd (let z : ⊥ = omega arith in z) },
+      record { size = s .pre .1 .0; trails = λ W P k h l. absurd (let z : ⊥ = omega arith in z) },
       s .pre .1 .1,
       (λ k h l. absurd (let z : ⊥ = omega arith in z)),
       record { others = λ k h. refl },
@@ -80,7 +81,7 @@ run-requires : tie.Need-run-requires Inv-loop μ-loop
 run-requires c κs =
     let t = c .before .before .before in
     let h = t .before .loop .inv .0 in
-    record { long = h .long; costs-le = h .cut; rows-le = t .before .before .before .before .before .before .before .pre .0 .cut }
+    record { size = h .size; costs-le = h .cut; rows-le = t .before .before .before .before .before .before .before .pre .0 .cut }
 
 keep-requires : tie.Need-keep-requires Inv-loop μ-loop
 keep-requires c κs =
@@ -88,7 +89,7 @@ keep-requires c κs =
     let l = t .before .loop in (
       omega (arith, l .inv .0 .within, t .before .before .before .before .before .before .before .pre .0 .most),
       t .before .before .before .states .ensures .1,
-      l .inv .1 .long,
+      l .inv .1 .size,
     )
 
 settle-requires : tie.Need-settle-requires Inv-loop μ-loop
@@ -97,7 +98,7 @@ settle-requires c κs =
     let h = t .before .loop .inv .0 in
     let r = c .before .before .before .before .run .ensures in (
       t .before .before .before .states .ensures .1,
-      r .long,
+      r .size,
       ran-le r (h .cut)
           (t .before .before .before .before .before .before .before .pre .0 .cut),
     )
@@ -126,7 +127,7 @@ loop-again c =
     let e : q + 1 ≡ l .q = omega arith in
     let near : q < length (a .«data» .now) = omega (arith, l .inv .0 .within) in
     let fits = t .before .before .before .states .ensures in
-    let h : BlocksTold G (a .rows .now) (a .strip .now) marks (a .«data» .now) (q + 1) (l .labels) (l .costs) = rw e (l .inv .0) in
+    let h : BlocksDecoded G (a .rows .now) (a .strip .now) marks (a .«data» .now) (q + 1) (l .labels) (l .costs) = rw e (l .inv .0) in
     let octets : (i : ℕ) → getD (a .strip .now) i 0 < 256 = λ i. omega (arith, k .before .shared-slice-known .given i) in
     let map-octets : (i : ℕ) → getD (a .map .now) i 0 < 256 = λ i. omega (arith, k .shared-slice-known2 .given i) in
     let picks = c .before .before .before .before .before .before .before .before .before .picks-at .ensures in
@@ -138,7 +139,8 @@ loop-again c =
       blocks-more G (a .rows .now) (a .strip .now) marks (a .«data» .now) (proper (a .code)) q _ (s .pre .0 .most) near h quoted ran
           (c .labels-before .ensures .0) (rw (fits .0) at (c .before .settle .ensures .0)),
       traced-more G q (omega arith) (rw e (l .inv .1)) (rw (fits .0) at kept)
-          (block-told G (a .rows .now) (a .strip .now) marks (a .«data» .now) (proper (a .code)) q _ (s .pre .0 .most) near h quoted ran),
+          (block-decoded G (a .rows .now) (a .strip .now) marks (a .«data» .now) (proper (a .code)) q _ (s .pre .0 .most) near h quoted
+          ran),
       simp length-set (l .inv .2),
       store-back (l .lows) (length (a .«data» .now)) q _ (λ k. windowOf 8 (firstBit (level (a .strip .now))) (8 * (k + 1)))
           (omega (arith, l .inv .2, s .pre .0 .most)) low (λ k m n. l .inv .3 k (omega arith) n),
@@ -157,9 +159,9 @@ returns c =
     let l = c .before .before .loop in
     let s = c .before .before .before .before .before .before .before .before in
     let z : l .q ≡ 0 = omega arith in (
-      λ W P. c .outcome .ensures ∙ blocks-first (s .pre .0 .most) (rw z at (l .inv .0)) W (suits (s .args .code) W (P .three) (P .bytes)) P,
+      λ W P. c .outcome .ensures ∙ blocks-first (s .pre .0 .most) (rw z at (l .inv .0)) W (suits (s .args .code) W (P .weights)) P,
       (
-        λ W P. record { kept = λ k h. l .inv .1 .kept W P k (omega arith) h },
+        λ W P. record { trails = λ k h. l .inv .1 .trails W P k (omega arith) h },
         (l .inv .4, (record { shown = λ k h. l .inv .3 k (omega arith) h }, l .inv .5)),
       ),
     )

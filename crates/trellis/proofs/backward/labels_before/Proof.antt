@@ -9,7 +9,7 @@ use Rattle.codes.specs.Taps.{windowOf}
 use Rattle.codes.specs.Blocks.{labelAt}
 use Rattle.codes.proofs.Codes.{proper, memory-bounds}
 use Rattle.codes.proofs.Taps.{window-less}
-use Rattle.trellis.proofs.Labels.{labels-back}
+use Rattle.rows.proofs.Labels.{labels-back}
 use Rattle.trellis.proofs.backward.labels_before.Statement.{statement}
 use Rattle.trellis.proofs.backward.labels_before.Tie as tie
 

@@ -8,7 +8,7 @@ use Rattle.codes.specs.Codes.{generatorsOf}
 use Rattle.codes.specs.Taps.{windowOf}
 use Rattle.codes.specs.Blocks.{labelAt}
 use Rattle.codes.proofs.Codes.{proper, memory-bounds}
-use Rattle.trellis.proofs.Labels.{labels-forth}
+use Rattle.rows.proofs.Labels.{labels-forth}
 use Rattle.trellis.proofs.backward.last_labels.Statement.{statement}
 use Rattle.trellis.proofs.backward.last_labels.Tie as tie
 

@@ -1,4 +1,4 @@
--- The invariant: before block q the numbers tell what the states cost from there on (BlocksTold).
+-- The invariant: before block q the numbers tell what the states cost from there on (BlocksDecoded).
 use mathlib.Core.Path.{_≡_, _∙_}
 use Prim.Native.Nat.{ℕ, _<_, _+_, _-_}
 use native.Mathlib.Omega.{arith}
@@ -8,14 +8,14 @@ use Rattle.cells.specs.Marks.{marksIn}
 use Rattle.codes.specs.Codes.{generatorsOf}
 use Rattle.codes.proofs.Codes.{proper}
 use Rattle.codes.proofs.Layouts.{oneBit-bytes}
-use Rattle.stages.proofs.Runs.{ran-le}
-use Rattle.trellis.proofs.Ways.{suits, BlocksTold, blocks-last, blocks-more, blocks-first, block-quoted}
+use Rattle.stage_blocks.proofs.Runs.{ran-le}
+use Rattle.trellis.proofs.Ways.{suits, BlocksDecoded, blocks-last, blocks-more, blocks-first, block-quoted}
 use Rattle.trellis.proofs.backward.price_strip.Statement.{statement}
 use Rattle.trellis.proofs.backward.price_strip.Tie as tie
 
 abbrev Inv-loop : tie.InvT-loop
 Inv-loop code rows strip map «data» states labels₀ costs₀ q₀ labels costs q =
-    BlocksTold (generatorsOf code) rows strip (marksIn map) «data» q labels costs
+    BlocksDecoded (generatorsOf code) rows strip (marksIn map) «data» q labels costs
 
 abbrev μ-loop : tie.MeasureT-loop
 μ-loop code rows strip map «data» states labels₀ costs₀ q₀ labels costs q = q
@@ -45,14 +45,14 @@ run-requires : tie.Need-run-requires Inv-loop μ-loop
 run-requires c κs =
     let h = c .before .before .before .loop .inv in
     let s = c .before .before .before .before .before .before .before .before .before in
-    record { long = h .long; costs-le = h .cut; rows-le = s .pre .cut }
+    record { size = h .size; costs-le = h .cut; rows-le = s .pre .cut }
 
 settle-requires : tie.Need-settle-requires Inv-loop μ-loop
 settle-requires c κs =
     let h = c .before .before .before .before .before .loop .inv in
     let s = c .before .before .before .before .before .before .before .before .before .before .before in (
       c .before .before .before .before .before .before .before .states .ensures .1,
-      c .before .run .ensures .long,
+      c .before .run .ensures .size,
       ran-le
           (c .before .run .ensures) (h .cut) (s .pre .cut),
     )
@@ -78,7 +78,7 @@ loop-again c =
     let e : q + 1 ≡ l .q = omega arith in
     let G = generatorsOf (a .code) in
     let marks = marksIn (a .map .now) in
-    let h : BlocksTold G (a .rows .now) (a .strip .now) marks (a .«data» .now) (q + 1) (l .labels) (l .costs) = rw e (l .inv) in
+    let h : BlocksDecoded G (a .rows .now) (a .strip .now) marks (a .«data» .now) (q + 1) (l .labels) (l .costs) = rw e (l .inv) in
     let octets : (i : ℕ) → getD (a .strip .now) i 0 < 256 = λ i. omega (arith, k .before .shared-slice-known .given i) in
     let map-octets : (i : ℕ) → getD (a .map .now) i 0 < 256 = λ i. omega (arith, k .shared-slice-known2 .given i) in
     blocks-more G (a .rows .now) (a .strip .now) marks (a .«data» .now) (proper (a .code)) q _ (s .pre .most) (omega
@@ -99,7 +99,7 @@ returns c = λ W P.
     let l = c .before .before .loop in
     let s = c .before .before .before .before .before .before .before .before in
     let z : l .q ≡ 0 = omega arith in
-    c .outcome .ensures ∙ blocks-first (s .pre .most) (rw z at (l .inv)) W (suits (s .args .code) W (P .three) (P .bytes)) P
+    c .outcome .ensures ∙ blocks-first (s .pre .most) (rw z at (l .inv)) W (suits (s .args .code) W (P .weights)) P
 
 pub price-strip-spec : {M : Type 1} → statement M
 price-strip-spec =

@@ -12,7 +12,7 @@ use Rattle.codes.specs.Codes.{generatorsOf}
 use Rattle.codes.specs.Taps.{windowOf}
 use Rattle.codes.proofs.Codes.{memory-bounds}
 use Rattle.trellis.specs.Ways.{Followed}
-use Rattle.trellis.proofs.Labels.{followed-step}
+use Rattle.trellis.proofs.Followed.{followed-step}
 use Rattle.trellis.proofs.forward.follow.Statement.{statement}
 use Rattle.trellis.proofs.forward.follow.Tie as tie
 
@@ -125,7 +125,7 @@ returns c =
       l .inv .1,
       c .loop-test .left,
     ) in
-    (record { long = l .inv .1 }, λ u f k h. l .inv .4 u f k (omega arith))
+    (record { size = l .inv .1 }, λ u f k h. l .inv .4 u f k (omega arith))
 
 pub follow-spec : {M : Type 1} → statement M
 follow-spec =

@@ -23,7 +23,7 @@ returns c =
       d .0,
       (
         f .0,
-        λ W P. followed-plans (suits (s .args .code) W (P .three) (P .bytes)) (P .dear) (d .1 .0 W P) (d .1 .1 .1 .0) (rw e at (f .1)),
+        λ W P. followed-plans (suits (s .args .code) W (P .weights)) (P .dear) (d .1 .0 W P) (d .1 .1 .1 .0) (rw e at (f .1)),
       ),
     )
 

@@ -1,0 +1,2 @@
+-- What carrying out the digits of a strip does.
+pub mod Carrying

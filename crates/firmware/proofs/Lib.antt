@@ -1,2 +1,0 @@
--- The law of an answer's one number.
-pub mod Words

@@ -1,0 +1,2 @@
+-- The laws of the census.
+pub mod Counts

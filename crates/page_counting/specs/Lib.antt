@@ -1,0 +1,2 @@
+-- The census of a page.
+pub mod Counting

@@ -1,0 +1,2 @@
+-- The laws of the strips within a page.
+pub mod Strips

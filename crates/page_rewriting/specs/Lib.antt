@@ -1,0 +1,2 @@
+-- What a write keeps between planning and carrying out.
+pub mod Plans

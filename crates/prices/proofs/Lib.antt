@@ -1,0 +1,3 @@
+-- The laws of the table of prices, and of numbers stored one after the other.
+pub mod Stores
+pub mod Prices

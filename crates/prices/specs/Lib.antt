@@ -1,0 +1,2 @@
+-- The table of prices.
+pub mod Prices

@@ -1,0 +1,2 @@
+-- The laws of the row of a write.
+pub mod Rows

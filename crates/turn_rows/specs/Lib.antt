@@ -1,0 +1,2 @@
+-- The row of a write.
+pub mod Rows

@@ -1,0 +1,2 @@
+-- The laws of an answer's one number.
+pub mod Words

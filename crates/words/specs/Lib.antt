@@ -1,0 +1,2 @@
+-- The one number that an answer is to C.
+pub mod Words
