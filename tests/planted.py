@@ -8,6 +8,7 @@ import os
 import pathlib
 import re
 import shutil
+import signal
 import subprocess
 import sys
 import tempfile
@@ -324,6 +325,8 @@ def put(path, text):
 
 def main():
     bad = []
+    # the gate stops it where another test fails: the copy goes with it
+    signal.signal(signal.SIGTERM, lambda *_: sys.exit("planted: stopped"))
     with tempfile.TemporaryDirectory() as folder:
         copy = pathlib.Path(folder, "copy")
         shutil.copytree(ROOT, copy, ignore=shutil.ignore_patterns("target", ".git", "__pycache__"))

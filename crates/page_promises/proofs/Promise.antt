@@ -11,23 +11,19 @@
 --   done-not-spent, spent-no-page   spent exactly when there is no page
 --   spent-any-weights               and whether it is does not depend on the weights
 use mathlib.Core.Path.{_≡_, refl, sym, _∙_, ap, subst}
-use mathlib.Core.Bool.{Bool, true, false, cond}
+use mathlib.Core.Bool.{Bool}
 use mathlib.Core.List.{List}
 use mathlib.Core.Option.{Option, none, some}
-use Prim.Native.Nat.{ℕ, _≤_}
+use Prim.Native.Nat.{ℕ}
 use native.Mathlib.Omega.{arith}
-use lib.Dec.{eqb}
-use lib.ListN.{length, getD}
+use lib.ListN.{length}
 use Rattle.cells.specs.Bytes.{Octets}
 use Rattle.cells.specs.Climbs.{Weights}
 use Rattle.codes.specs.Codes.{generatorsOf}
 use Rattle.cells.specs.Raising.{startOf, startIn, raisedTo}
 use Rattle.cells.proofs.Raising.{raisedTo-length}
-use Rattle.codes.specs.Generators.{Generators, short, long, digit}
+use Rattle.codes.specs.Generators.{Generators}
 use Rattle.codes.specs.Layouts.{oneBit}
-use Rattle.codes.specs.Encoders.{Proper}
-use Rattle.codes.proofs.Codes.{short-proper, long-proper}
-use Rattle.codes.proofs.Layouts.{oneBit-stages, oneBit-cells, oneBit-bytes}
 use Rattle.search.specs.Best.{Solution}
 use Rattle.search.specs.Strip.{Dear, stepsOf}
 use Rattle.search.specs.Levels.{levelAt}
@@ -35,7 +31,7 @@ use Rattle.search.specs.Layouts.{Sound}
 use Rattle.search.proofs.OneBit.{code-both}
 use Rattle.search.proofs.Layouts.{oneBit-sound}
 use Rattle.trellis.proofs.Ways.{Suits, suits}
-use Rattle.demand.specs.Jobs.{Job, width, Whole, InOrder}
+use Rattle.demand.specs.Jobs.{Job, width, InOrder}
 use Rattle.demand.specs.Demand.{Could}
 use Rattle.demand.specs.Computed.{pageWrite, spentStrip}
 use Rattle.demand.proofs.Jobs.{oneBit-whole}

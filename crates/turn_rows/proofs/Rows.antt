@@ -7,7 +7,6 @@ use mathlib.Core.List.{List}
 use mathlib.Core.Option.{Option, none, some}
 use Prim.Native.Nat.{ℕ, _*_, _≤_}
 use native.Mathlib.Omega.{arith}
-use native.Mathlib.Nat.{mul-le-mul}
 use Rattle.cells.specs.Levels.{raisesOf}
 use Rattle.codes.proofs.Layouts.{oneBit-cells}
 use Rattle.page_answers.specs.declared.Answer.{Answer}

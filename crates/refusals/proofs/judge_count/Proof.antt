@@ -1,8 +1,7 @@
 -- A list's count is tested as by its ground; without a list there is nothing to test.
-use mathlib.Core.Path.{sym, _∙_, ap}
+use mathlib.Core.Path.{sym, _∙_}
 use borrow.Author.Needs.{needs}
 use borrow.Author.Tests.{not-true, not-false}
-use Rattle.refusals.specs.Refusals.{countGiven}
 use Rattle.refusals.proofs.judge_count.Statement.{statement}
 use Rattle.refusals.proofs.judge_count.Tie as tie
 

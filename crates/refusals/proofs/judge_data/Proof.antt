@@ -1,5 +1,4 @@
 -- The tests are those of the ground; L·S fits, as L and S are within their limits, and so does the count times that, a number of 32 bits.
-use mathlib.Core.Path.{sym, _∙_, ap}
 use Prim.Native.Nat.{_*_}
 use native.Mathlib.Omega.{arith}
 use native.Mathlib.Nat.{mul-le-mul}

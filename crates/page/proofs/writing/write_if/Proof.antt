@@ -1,5 +1,5 @@
 -- A call that is judged in order answers and leaves the page as its strips do, any other changes nothing; and both keep the promise.
-use mathlib.Core.Path.{_≡_, refl, sym, _∙_}
+use mathlib.Core.Path.{_≡_, sym, _∙_}
 use mathlib.Core.Option.{none}
 use native.Mathlib.Omega.{arith}
 use mir.Syntax.{w8}

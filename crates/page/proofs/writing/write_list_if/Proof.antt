@@ -1,5 +1,5 @@
 -- A list that is judged in order answers and leaves the page as its datas do, any other changes nothing; and both keep the promise.
-use mathlib.Core.Path.{_≡_, refl, sym, _∙_}
+use mathlib.Core.Path.{_≡_, sym, _∙_}
 use mathlib.Core.Option.{none, some}
 use native.Mathlib.Omega.{arith}
 use mir.Syntax.{w8}
@@ -9,7 +9,6 @@ use Rattle.cells.specs.Climbs.{Weights}
 use Rattle.refusals.specs.Refusals.{completionOf}
 use Rattle.refusals.proofs.Refusals.{done-none, refused-some, weighted-in-order, count-in-order}
 use Rattle.page_parts.proofs.Strips.{listed-by}
-use Rattle.cells.specs.Raising.{startOf}
 use Rattle.page_promises.specs.Writes.{mapIf}
 use Rattle.page_promises.specs.Lists.{groundOf}
 use Rattle.page_promises.proofs.Promise.{dear-by}
