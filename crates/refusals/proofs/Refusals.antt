@@ -1,7 +1,7 @@
 -- The grounds of a refusal: what holds of a call that has none, and what an answer tells of the ground.
 --   one-to-64, limits-in, limits-below, limits-above   the limits
 --   limits-in-order, limits-most, sizes-limits   L and S where the limits have no ground
---   shape-limits, shape-in-order, in-order       a call without a ground
+--   shape-limits, InShape, shape-in-order, in-order   a call without a ground
 --   weights-dear                                 no step is free where the weights have no ground
 --   Measured                                     L, S and the lengths where a call has no ground
 --   NoGround, no-grounds                         a price or write, of one data or a list, without a ground
@@ -99,13 +99,17 @@ unfolding shapeGround
 shape-limits L S page e = neither (limitsGround L S) (pageGround oneBit L S page) e .0
 
 -- L, S and the page's length where the shape is in order
-pub shape-in-order : (L S page : ℕ) → shapeGround L S page ≡ none
-    → (oneTo64 L ≡ true) × (oneTo64 S ≡ true) × (page ≡ byteCount oneBit L * S)
+pub record InShape (L S page : ℕ) : Type 0 where
+  pub bytes-in : oneTo64 L ≡ true
+  pub strips-in : oneTo64 S ≡ true
+  pub page-is : page ≡ byteCount oneBit L * S
+
+pub shape-in-order : (L S page : ℕ) → shapeGround L S page ≡ none → InShape L S page
 unfolding shapeGround pageGround
 shape-in-order L S page e =
     let p = neither (limitsGround L S) (pageGround oneBit L S page) e in
     let l = limits-in-order L S (p .0) in
-    (l .0, l .1, same-length page (byteCount oneBit L * S) _ (p .1))
+    record { bytes-in = l .0; strips-in = l .1; page-is = same-length page (byteCount oneBit L * S) _ (p .1) }
 
 -- the limits are kept where the code and the limits have no ground
 pub sizes-limits : (code L S : ℕ) → sizesGround code L S ≡ none → limitsGround L S ≡ none
@@ -232,7 +236,7 @@ unfolding erasingGround
 erasing-in-order map L S page tenths e =
     let p = neither (shapeGround L S page) _ e in
     let q = neither (mapGround oneBit L S (some map)) (eraseGround tenths) (p .1) in
-    (shape-in-order L S page (p .0) .2, same-length map (mapCount oneBit L * S) _ (q .0))
+    (shape-in-order L S page (p .0) .page-is, same-length map (mapCount oneBit L * S) _ (q .0))
 
 -- a map of the right length refuses nothing more
 pub same-erasing : (L S page : ℕ) (tenths : ℤ)
