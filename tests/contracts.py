@@ -5,8 +5,8 @@
    result, one that names the result and speaks of it.
 2. Every function of a library says what becomes of each buffer that it is lent to change: an `ensures` speaks of it at exit. Where the
    function returns a part of the buffer to be written, nothing can be said at exit (docs/DECISIONS.md).
-3. The public functions of the crates in TAKE_ALL, those that the crate `page` hands on, and what is exported to C take every input: they
-   have no `requires`.
+3. The public functions of the crates in TAKE_ALL but those of BEHIND, those that the crate `page` hands on, and what is exported to C take
+   every input: they have no `requires`.
 """
 import re
 
@@ -15,7 +15,10 @@ from repository import ROOT, finish
 
 # The cells, the judgement of the input, the calls and the C interface. Rooms that also have a loop behind the refusals are not among them: of
 # these the calls are held to it, which `page` hands on.
-TAKE_ALL = {"cells", "judges", "page_answers", "page_counting", "page_erasing", "page", "firmware"}
+TAKE_ALL = {"cells", "refusals", "judges", "page_answers", "page_counting", "page_erasing", "page", "firmware"}
+
+# What `judges` alone calls, where L and S are within their limits: each has a `requires`.
+BEHIND = {"refusals::judge_page", "refusals::judge_map", "refusals::judge_data"}
 
 
 def words(clause):
@@ -49,7 +52,8 @@ def main():
     public = [f for f in everything if f.crate in libraries and f.public]
     lenders = [f for f in everything if f.crate in libraries and lent(f)]
     handed_on = rattle.handed_on("page")
-    total = [f for f in everything if f.exported or f.public and (f.crate in TAKE_ALL or f.name in handed_on)]
+    entries = [f for f in everything if f.exported or f.public and (f.crate in TAKE_ALL or f.name in handed_on)]
+    total = [f for f in entries if f.name not in BEHIND]
     for f in public:
         if not f.ensures:
             bad.append(f"{f.where}: {f.name} is public and has no ensures (rule 1)")
@@ -62,6 +66,7 @@ def main():
     for f in total:
         if f.requires:
             bad.append(f"{f.where}: {f.name} is to take every input and has a requires (rule 3)")
+    bad += [f"BEHIND has {name}, which asks nothing" for name in sorted(BEHIND - {f.name for f in entries if f.requires})]
     bad += [f"crates/page hands on {name}, which is no function" for name in sorted(handed_on - {f.name for f in everything})]
     if not (public and lenders and total and handed_on):
         bad.append("a rule found no function that it is about")

@@ -128,6 +128,8 @@ FAULTS = {
         ("page::planted is to take every input", function("page", "pub fn planted()", ASKS, "ensures { λ _. ⌜ ⊤ ⌝ }")),
         ("text::planted is to take every input", function("text", 'extern "C" fn planted()', ASKS, "ensures { λ _. ⌜ ⊤ ⌝ }")),
         ("page_reading::read is to take every input", before(READING, "    ensures { λ r. ⌜ r ≡ completionOf (ground", f"    {ASKS}\n")),
+        ("refusals::planted is to take every input", function("refusals", "pub fn planted()", ASKS, "ensures { λ _. ⌜ ⊤ ⌝ }")),
+        ("BEHIND has refusals::judge_sizes, which", change("tests/contracts.py", r"(?<=refusals::)judge_page", "judge_sizes")),
         ("hands on page_reading::planted, which", append("crates/page/src/reading.rt", "pub use page_reading::planted;\n")),
         ("fn planted is not understood", append("crates/text/src/lib.rt", "\nfn planted(n: u32) -> u32;\n")),
         ("the word fn stands there", append("crates/text/src/lib.rt", "\nconst PLANTED: fn(u32) -> u32 = planted;\n")),

@@ -3,6 +3,7 @@
 --   stripOf   the strip, or the empty part where it does not
 --   Lies      where the strip's part lies in the page's memory
 --   Found     where the program finds the strip
+--   mapPart, stripPart   a strip's part of a map, and of a page
 --   Sized     a page and data of S strips of L bytes
 --   Listed    a page and a list of datas for it
 use mathlib.Core.Path.{_≡_}

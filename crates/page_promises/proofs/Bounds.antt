@@ -6,6 +6,7 @@
 --   value-most         and no answer has a greater value
 --   house-largest      which is 1,835,008 with the house's weights
 --   weighted-largest   and 16,711,680 with any
+--   write-kept         what answers so and leaves this page keeps promise and bound
 use mathlib.Core.Path.{_≡_, refl, sym}
 use mathlib.Core.List.{List, [], _∷_}
 use mathlib.Core.Option.{Option, none, some}

@@ -1,9 +1,8 @@
 -- The grounds of a refusal: what holds of a call that has none, and what an answer tells of the ground.
 --   one-to-64, limits-in, limits-below, limits-above   the limits
 --   limits-in-order, limits-most, sizes-limits   L and S where the limits have no ground
---   shape-limits, InShape, shape-in-order, in-order   a call without a ground
+--   shape-limits, shape-in-order, in-order       a call without a ground: its shape (InShape), and its lengths (Measured)
 --   weights-dear                                 no step is free where the weights have no ground
---   Measured                                     L, S and the lengths where a call has no ground
 --   NoGround, no-grounds                         a price or write, of one data or a list, without a ground
 --   same-weights, permitted-ground               with weights that are permitted it is refused as a read is
 --   house-ground                                 with the house's weights it is refused as a read is
@@ -15,7 +14,7 @@
 --   done-none, refused-some                      an answer tells its ground
 --   refused-first, done-next                     grounds tested one after the other
 --   numbered-code                                the code of a number
---   product-most                                    L·S is at most 4,096
+--   product-most                                 L·S is at most 4,096
 use mathlib.Core.Path.{_≡_, refl, sym, _∙_}
 use mathlib.Core.Bool.{Bool, true, false, cond, _||_}
 use mathlib.Core.List.{List}

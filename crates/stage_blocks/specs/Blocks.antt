@@ -5,7 +5,7 @@
 --   flagOf low j         1 where the first code bit of the word j is not `low`
 --   markedOf rows r k    the price of each word of the row r, marked at the bit k
 --   blockOf              the numbers of the states before the last k stages of a block
---   settledOf            a number with its low byte cleared, and cut off at `top`
+--   settledOf            a number with its low byte cleared, and cut off at `ceiling`
 --   RunRequires, Ran, Settled, Kept   what the functions of a block ask and give
 use Prim.Native.Nat.{ℕ, zero, suc, _+_, _-_, _*_, _/_, _%_, _^_, _≤_, _<_, min}
 use mathlib.Core.List.{List}
@@ -31,7 +31,7 @@ module _ (size n : ℕ) (words : ℕ → ℕ) (rows : List ℕ) (picks : ℕ) (a
   blockOf zero = after
   blockOf (suc k) = stageOf n words (markedOf rows (pickAt picks (size - suc k)) k) (blockOf k)
 
--- the low byte cleared, and no number above `top` told from it
+-- the low byte cleared, and cut off at `ceiling`
 unfoldable pub settledOf : ℕ → ℕ
 settledOf x = min (x / 256 * 256) ceiling
 
