@@ -56,6 +56,13 @@
  * page take the data. The map may be another one in each call, as cells wear out; examples/worn.c finds them, and keeps the map beside the page. What
  * a page reads as goes by all its cells, so segrunov_read takes no map.
  *
+ * CERTAIN WRITES. With no cell marked, the first SEGRUNOV_CERTAIN_WRITES (3) writes after an erase are never spent,
+ * whatever the data, the code, the size and the weights; so a list of three is written whole. The k-th of them costs at
+ * most SEGRUNOV_CERTAIN_COST(w, L, S), which is 8*w*L*S, with w the greatest of the first k weights: 128*L*S, 160*L*S
+ * and 224*L*S with the house's. No fourth is certain: there are datas for which it is spent. What no weights can help:
+ * data bit 0 of a strip, which is bit 0 of its first byte, changes at most SEGRUNOV_FIRST_BIT_CHANGES (6) times between
+ * erases. Bits that change often belong late in a strip.
+ *
  * THE FLASH. An erased page is zeros here, and a write turns zeros into ones. Nearly every NOR part has it the other way: an erase makes ones, and
  * programming turns ones into zeros. Its driver complements every byte, on load and on program (examples/relay.c); the calls need not know. No bit has
  * to go back before the next erase, but words are programmed again: a part that takes a word once only, as with error correction over each word, does
@@ -75,7 +82,7 @@ extern "C" {
 #endif
 
 /* The version: its first number changes where a caller has to change, its second where there is more to call, else its third. */
-#define SEGRUNOV_VERSION "1.3.0"
+#define SEGRUNOV_VERSION "1.3.1"
 
 /* The two codes. */
 #define SEGRUNOV_SHORT UINT32_C(3)
@@ -122,13 +129,20 @@ extern "C" {
 #define SEGRUNOV_MAX_LIST_COST UINT32_C(1069547520)
 #define SEGRUNOV_STACK 12288
 
+/* With no cell marked: the writes after an erase that are certain, and what the k-th of them costs at most, by the
+ * greatest of the first k weights; how often data bit 0 of a strip can change between erases. */
+#define SEGRUNOV_CERTAIN_WRITES UINT32_C(3)
+#define SEGRUNOV_CERTAIN_COST(weight, bytes, strips) (UINT32_C(8) * (weight) * (bytes) * (strips))
+#define SEGRUNOV_FIRST_BIT_CHANGES UINT32_C(6)
+
 /* Fills the buffer with what the page reads as. Refused by 1 to 5. */
 uint64_t segrunov_read(uint32_t code, uint32_t bytes, uint32_t strips, const uint8_t *page, size_t page_len, uint8_t *data, size_t data_len);
 
 /* The answer that segrunov_write gives on the same input. Nothing is changed. Refused by 1 to 5 and 7. */
 uint64_t segrunov_price(uint32_t code, uint32_t bytes, uint32_t strips, const uint8_t *page, size_t page_len, const uint8_t *data, size_t data_len);
 
-/* Writes the data into the page at the least cost. Refused by 1 to 5 and 7; the value of a 7 is the lowest strip that takes no pattern. */
+/* Writes the data into the page at the least cost. Refused by 1 to 5 and 7; the value of a 7 is the lowest strip that takes no pattern. The first
+ * three writes after an erase are not refused by 7, and cost at most 128*L*S, 160*L*S and 224*L*S: CERTAIN WRITES, above. */
 uint64_t segrunov_write(uint32_t code, uint32_t bytes, uint32_t strips, uint8_t *page, size_t page_len, const uint8_t *data, size_t data_len);
 
 /* The answer that segrunov_write_weighted gives on the same input. Nothing is changed. Refused by 1 to 5, 7 and 9. */

@@ -10,7 +10,8 @@
 --   half-power      halving drops bit 0
 --   store-more      what a loop that stores place by place has stored
 --   same?           two numbers are the same, or not
---   each-first      what holds of every element holds of the first, and of the rest (each-rest)
+--   each-first      what holds of every element holds of the first, and of the rest (each-rest); of a part (each-take, each-drop)
+--   each-listOf     it holds of a list where it holds of every place
 --   and-both        both of two tests hold
 --   sameList-eq     lists that are found the same are the same
 --   zeros-at        a list of zeros, read anywhere
@@ -22,12 +23,12 @@ use Prim.Native.Nat.{ℕ, zero, suc, _<_, _≤_, _+_, _*_, _/_, _%_, _^_}
 use native.Mathlib.Omega.{arith}
 use native.Mathlib.Nat.{not-suc-le-zero, div-div-eq-div-mul, mul-assoc, mul-comm, pow-suc}
 use lib.Pow.{pow-mono, shl-exact}
-use lib.ListN.{length, getD, set, replicate}
+use lib.ListN.{length, getD, take, drop, set, replicate}
 use lib.Seq.{ext-getD, getD-set-same, getD-set-other}
 use lib.Dec.{eqb}
 use borrow.Author.Count.{below-more}
 use borrow.Author.Tests.{eqb-true}
-use Rattle.cells.specs.Places.{listOf, sumOf, fromBits, Each, and-each, sameList}
+use Rattle.cells.specs.Places.{listOf, sumOf, fromBits, Each, no-more, and-each, sameList}
 
 module _ {A : Type 0} where
   -- n places
@@ -176,6 +177,23 @@ each-first (and-each p ps) = p
 -- and of every other
 pub each-rest : {G : Type 0} {P : G → Type 0} {g : G} {gs : List G} → Each P (g ∷ gs) → Each P gs
 each-rest (and-each p ps) = ps
+
+-- of the first k, and of those after them
+pub each-take : {A : Type 0} {P : A → Type 0} (k : ℕ) {l : List A} → Each P l → Each P (take k l)
+each-take zero p = no-more
+each-take (suc k) no-more = no-more
+each-take (suc k) (and-each p ps) = and-each p (each-take k ps)
+
+pub each-drop : {A : Type 0} {P : A → Type 0} (k : ℕ) {l : List A} → Each P l → Each P (drop k l)
+each-drop zero p = p
+each-drop (suc k) no-more = no-more
+each-drop (suc k) (and-each p ps) = each-drop k ps
+
+-- of a list made place by place it holds where it holds of every place
+pub each-listOf : {A : Type 0} {P : A → Type 0} (n : ℕ) (f : ℕ → A) → ((i : ℕ) → i < n → P (f i)) → Each P (listOf n f)
+unfolding listOf
+each-listOf zero f h = no-more
+each-listOf (suc n) f h = and-each (h 0 (omega arith)) (each-listOf n (λ i. f (suc i)) (λ i l. h (suc i) (omega arith)))
 
 -- TESTS. Both of two tests hold
 pub and-both : (a b : Bool) → (a && b) ≡ true → (a ≡ true) × (b ≡ true)

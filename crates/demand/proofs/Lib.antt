@@ -8,3 +8,4 @@ pub mod Demand
 pub mod Weights
 pub mod Orders
 pub mod Marks
+pub mod Within

@@ -89,6 +89,11 @@ lex-false (a ∷ x) (b ∷ y) e =
 pub no-worse-refl : (c : ℕ) (x : List ℕ) → NoWorse c x c x
 no-worse-refl c x = tied refl (lex-refl x)
 
+-- and so no dearer
+pub no-worse-cost : {c d : ℕ} {x y : List ℕ} → NoWorse c x d y → c ≤ d
+no-worse-cost (cheaper h) = omega arith
+no-worse-cost (tied h m) = omega arith
+
 -- no worse is transitive
 no-worse-trans : {c d e : ℕ} {x y z : List ℕ} → NoWorse c x d y → NoWorse d y e z → NoWorse c x e z
 no-worse-trans (cheaper p) (cheaper q) = cheaper (omega arith)
@@ -103,13 +108,14 @@ no-worse-join l (cheaper p) (tied q m) = cheaper (omega arith)
 no-worse-join l (tied p k) (cheaper q) = cheaper (omega arith)
 no-worse-join l (tied p k) (tied q m) = tied (ap₂ (λ (a b : ℕ). a + b) p q) (lex-append l k m)
 
-beats-true : (a b : Solution) → beats a b ≡ true → NoWorse (a .cost) (a .levels) (b .cost) (b .levels)
+-- what a test of two solutions says
+pub beats-true : (a b : Solution) → beats a b ≡ true → NoWorse (a .cost) (a .levels) (b .cost) (b .levels)
 unfolding beats
 beats-true a b e =
     ⊎-elim (λ p. cheaper p) (λ p. tied (p .0) (lex-true (a .levels) (b .levels) (p .1)))
     (before-true (a .cost) (b .cost) (lexltb (a .levels) (b .levels)) e)
 
-beats-false : (a b : Solution) → beats a b ≡ false → NoWorse (b .cost) (b .levels) (a .cost) (a .levels)
+pub beats-false : (a b : Solution) → beats a b ≡ false → NoWorse (b .cost) (b .levels) (a .cost) (a .levels)
 unfolding beats
 beats-false a b e =
     ⊎-elim (λ p. cheaper p) (λ p. tied (p .0) (lex-false (a .levels) (b .levels) (p .1)))
@@ -262,11 +268,7 @@ module _ {A : Problem} where
 
   -- no valid level list is cheaper than the best
   pub cost-least : {a : Solution} → Best A a → (d : ℕ) (y : List ℕ) → A d y → a .cost ≤ d
-  cost-least {a} p d y w = go (p .least d y w)
-    where
-      go : NoWorse (a .cost) (a .levels) d y → a .cost ≤ d
-      go (cheaper h) = omega arith
-      go (tied h m) = omega arith
+  cost-least p d y w = no-worse-cost (p .least d y w)
 
   -- of those as cheap, the best has the lower level where they first differ
   pub levels-first : (k : ℕ) {a : Solution} → Width k A → Best A a → (d : ℕ) (y : List ℕ) → A d y → d ≡ a .cost → (a .levels ≡ y → ⊥)

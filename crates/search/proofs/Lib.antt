@@ -13,3 +13,4 @@ pub mod Plain
 pub mod OneBit
 pub mod Table
 pub mod Layouts
+pub mod Within

@@ -43,7 +43,7 @@ unfolding upd
 upd-below u t b = record { at = λ i h. ap (λ (x : Bool). cond x b (u i)) (ne-eqb i t (λ e. omega arith)) }
 
 -- the length of a wanted word
-length-sums : (h : List Bool) (Gs : List (List Bool)) (xs : List Bool) → length xs ≡ length Gs → length (sums h Gs xs) ≡ length Gs
+pub length-sums : (h : List Bool) (Gs : List (List Bool)) (xs : List Bool) → length xs ≡ length Gs → length (sums h Gs xs) ≡ length Gs
 unfolding sums
 length-sums h [] xs e = refl
 length-sums h (G ∷ Gs) [] e = let z : _≡_ {A = ℕ} 0 (suc (length Gs)) = e in absurd (omega arith)
@@ -59,7 +59,8 @@ module _ (m : ℕ) (gs : List Bool) (u : Bits) (t : ℕ) where
       ap₂ (λ (b : Bool) (w : List Bool). (b +₂ quotient m gs (d 0) t) ∷ w) (dot-state m G (u t) (hist m t u) h ∙ sym (conv-dot m G u t))
       (sums-rest hs (λ j. d (suc j)))
 
-length-labels : (m : ℕ) (gs : List Bool) (r : ℕ) (d : ℕ → Bits) (t : ℕ) → length (labels m gs r d t) ≡ r
+-- and of its labels
+pub length-labels : (m : ℕ) (gs : List Bool) (r : ℕ) (d : ℕ → Bits) (t : ℕ) → length (labels m gs r d t) ≡ r
 unfolding labels
 length-labels m gs zero d t = refl
 length-labels m gs (suc r) d t = ap suc (length-labels m gs r (λ j. d (suc j)) t)

@@ -2,6 +2,7 @@
 -- `Choices`, `Search`), the same from prices alone (`Plan`, `Plain`), and the write of a strip of bytes in a layout (`Layouts`).
 pub mod Best
 pub mod Strip
+pub mod Within
 pub mod Levels
 pub mod Trellis
 pub mod Search
