@@ -58,19 +58,20 @@ climb-most weight w b from to h k = go (to - from) refl
     go (suc n) e = let z : to ≡ suc from = omega arith in rw (z, climb-step weight from) (b from)
 
 module _ (map : Option (List ℕ)) (W : List ℕ) (K : Weights W) (code L S : ℕ) (before content : List ℕ) (b : Octets content) where
-  -- NO CELL RISES BY MORE THAN ONE in a write
-  pub write-near : (c : ℕ) → c < cellCount oneBit L * S → level (pageWith map W code L S before content startOf) c ≤ suc (level before c)
+  -- NO CELL RISES BY MORE THAN ONE in a write, wherever the raises start
+  pub write-near : (start : ℕ → ℕ) (c : ℕ) → c < cellCount oneBit L * S
+      → level (pageWith map W code L S before content start) c ≤ suc (level before c)
   unfolding pageWith jobPage
-  write-near c h = go (groundWith map W code L S before content) refl (pageWrite (jobWith map W code L S before content)) refl
+  write-near start c h = go (groundWith map W code L S before content) refl (pageWrite (jobWith map W code L S before content)) refl
     where
       go : (g : Option Refusal) → groundWith map W code L S before content ≡ g → (w : Option Solution)
           → pageWrite (jobWith map W code L S before content) ≡ w
-          → level (callPage g w (λ a. raisedTo (startIn startOf (cellCount oneBit L)) before (levelAt (a .levels))) before) c
+          → level (callPage g w (λ a. raisedTo (startIn start (cellCount oneBit L)) before (levelAt (a .levels))) before) c
           ≤ suc (level before c)
       go (some r) e w f = omega arith
       go none e none f = omega arith
       go none e (some a) f =
-          rw (solution-raised startOf (jobWith map W code L S before content) (job-in-order map W code L S before content b e) a f c h)
+          rw (solution-raised start (jobWith map W code L S before content) (job-in-order map W code L S before content b e) a f c h)
           (page-near (numbered code) W (numbered-suits code W K)
           (dear-by none (mapSize map) W code L S (length before) (length content) e) L S
           (one-to-64 L (weighted-in-order none (mapSize map) W code L S (length before) (length content) e .bytes-in) .1) before
@@ -93,7 +94,7 @@ module _ (map : Option (List ℕ)) (W : List ℕ) (K : Weights W) (code L S : �
             (sumOf-le
             (cellCount oneBit L * S) w _ (λ c h. climb-most (weightOf W) w most (level before c)
             (level (pageWith map W code L S before content startOf) c)
-            (p .could .no-lower c h) (write-near c h)))
+            (p .could .no-lower c h) (write-near startOf c h)))
 
     -- the largest page has 65,536 cells
     pub write-largest : cost ≤ 65536 * w

@@ -243,7 +243,7 @@ module _ (map : Option (List ℕ)) (W : List ℕ) (code L S count : ℕ) (before
           × (length (pageWith map W code L S q (dataOf L S content n) startOf) ≡ length before))
       turn n h p q r =
           let z = in-order-job startOf map W code L S q (dataOf L S content n) (single-in-order e n h q (r .1)) g m in
-          (rw (r .0) (z .0), (rw (r .0) (z .1), page-length map W code L S q (dataOf L S content n) ∙ r .1))
+          (rw (r .0) (z .0), (rw (r .0) (z .1), page-length startOf map W code L S q (dataOf L S content n) ∙ r .1))
 
   -- HOW LARGE THE FIELDS of its answer are, with weights of three bytes
   pub list-bounds : Weights W → Octets content → ListBounds (listAnswer map W code L S count before content)

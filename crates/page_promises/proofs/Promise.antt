@@ -1,5 +1,6 @@
 -- THE PROMISE IS KEPT by the computed write, on every input.
 --   promise-kept                    of any job that is in order where it has no ground
+--   numbered-both                   the generators of both codes begin with 1
 --   numbered-sound, numbered-suits  both codes go with one bit a cell, and with weights of three bytes
 --   job-in-order, dear-by           a call without a ground is in order, and none of its steps is free
 --   in-order-job                    it answers as its job does, and leaves that page
@@ -19,7 +20,6 @@ use native.Mathlib.Omega.{arith}
 use lib.ListN.{length}
 use Rattle.cells.specs.Bytes.{Octets}
 use Rattle.cells.specs.Climbs.{Weights}
-use Rattle.codes.specs.Codes.{generatorsOf}
 use Rattle.cells.specs.Raising.{startOf, startIn, raisedTo}
 use Rattle.cells.proofs.Raising.{raisedTo-length}
 use Rattle.codes.specs.Generators.{Generators}
@@ -28,7 +28,7 @@ use Rattle.search.specs.Best.{Solution}
 use Rattle.search.specs.Strip.{Dear, stepsOf}
 use Rattle.search.specs.Levels.{levelAt}
 use Rattle.search.specs.Layouts.{Sound}
-use Rattle.search.proofs.OneBit.{code-both}
+use Rattle.search.proofs.OneBit.{Both, code-both}
 use Rattle.search.proofs.Layouts.{oneBit-sound}
 use Rattle.trellis.proofs.Ways.{Suits, suits}
 use Rattle.demand.specs.Jobs.{Job, width, InOrder}
@@ -59,12 +59,13 @@ promise-kept start g J I = go g refl (pageWrite J) refl
     go none e (some a) f = done e (cheapest start J (I e) a f)
     go none e none f = spent e (spent-at J (I e) f) refl
 
--- the code of each number goes with one bit a cell
+-- the code of each number has two generators that begin with 1
+pub numbered-both : (code : ℕ) → Both (numbered code)
+numbered-both code = let c = numbered-code code in subst Both (c .is) (code-both (c .code))
+
+-- so it goes with one bit a cell
 pub numbered-sound : (code : ℕ) → Sound oneBit (numbered code)
-numbered-sound code =
-    let c = numbered-code code in
-    let b = code-both (c .code) in
-    subst (λ (G : Generators). Sound oneBit G) (c .is) (oneBit-sound (generatorsOf (c .code)) (b .g1-leads) (ap length (b .two)))
+numbered-sound code = let b = numbered-both code in oneBit-sound (numbered code) (b .g1-leads) (ap length (b .two))
 
 -- and suits weights of three bytes
 pub numbered-suits : (code : ℕ) (W : List ℕ) → Weights W → Suits (numbered code) W
@@ -111,16 +112,16 @@ pub wrote : (map : Option (List ℕ)) (W : List ℕ) (code L S : ℕ) (before co
     → WroteWith map W code L S before content (pageWith map W code L S before content startOf) (answerWith map W code L S before content)
 wrote = wrote-by startOf
 
--- A WRITE KEEPS THE PAGE'S LENGTH, whatever its answer
-pub page-length : (map : Option (List ℕ)) (W : List ℕ) (code L S : ℕ) (before content : List ℕ)
-    → length (pageWith map W code L S before content startOf) ≡ length before
+-- A WRITE KEEPS THE PAGE'S LENGTH, whatever its answer and wherever the raises start
+pub page-length : (start : ℕ → ℕ) (map : Option (List ℕ)) (W : List ℕ) (code L S : ℕ) (before content : List ℕ)
+    → length (pageWith map W code L S before content start) ≡ length before
 unfolding pageWith jobPage
-page-length map W code L S before content =
+page-length start map W code L S before content =
     go (groundWith map W code L S before content) (pageWrite (jobWith map W code L S before content))
   where
     go : (g : Option Refusal) (w : Option Solution)
         → length (callPage g w
-        (λ a. raisedTo (startIn startOf (width (jobWith map W code L S before content))) before (levelAt (a .levels))) before)
+        (λ a. raisedTo (startIn start (width (jobWith map W code L S before content))) before (levelAt (a .levels))) before)
         ≡ length before
     go (some r) w = refl
     go none none = refl

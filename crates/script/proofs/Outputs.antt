@@ -14,6 +14,7 @@ use borrow.Author.Tests.{lt-ltb, leb-true}
 use Rattle.cells.proofs.Places.{and-both}
 use Rattle.cells.specs.Climbs.{house}
 use Rattle.cells.specs.Places.{sameList}
+use Rattle.cells.specs.Raising.{startOf}
 use Rattle.codes.specs.Layouts.{oneBit, byteCount}
 use Rattle.refusals.specs.declared.Refusal.{Refusal}
 use Rattle.refusals.specs.Refusals.{sizesGround, refusalNumber, textNumber}
@@ -41,7 +42,7 @@ begun-goes p content b =
     record {
       late = let h = b .late in omega arith;
       judged = b .judged;
-      sized = page-length none house (v .code) (v .bytes) (v .strips) (p .page) content ∙ b .sized;
+      sized = page-length startOf none house (v .code) (v .bytes) (v .strips) (p .page) content ∙ b .sized;
     }
 
 -- EACH DATA LINE prints a row whose answer is 0 or 7, or is at fault and the last

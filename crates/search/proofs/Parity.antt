@@ -1,7 +1,6 @@
 -- One bit a cell: keeping a cell or raising it by one is strictly the cheapest way to show a bit, as every step costs something; so the
 -- stage's choice finds the stage's strictly cheapest levels, or there are none.
 --   parity-chosen     so keeping or raising by one is the choice that tries every level
---   house-dear        no step of the house weights is free
 --   held, keep-held   the level of a cell that shows a bit, and the choice holds it
 --   held-lower        of the two bits, the one that the cell shows holds the lower level
 --   raised-held       the level that the program raises to is the one that the choice holds
@@ -171,17 +170,6 @@ module _ (S : Steps) (D : Dear S) (n : ℕ) where
   -- so it is the choice of the search
   pub parity-chosen : choiceOf S (parity n) ≡ parity-choice S
   parity-chosen = fun-ext λ xs. fun-ext λ w. solves-unique (choice-solves S (parity n) xs w) (settles-solves (parity-settles xs w))
-
--- 16, 20 and 28 are more than nothing
-pub house-dear : Dear (stepsOf house)
-unfolding weightOf
-house-dear = record { dear = go }
-  where
-    go : (l : ℕ) → l < 3 → 0 < getD house l 0
-    go zero h = omega arith
-    go (suc zero) h = omega arith
-    go (suc (suc zero)) h = omega arith
-    go (suc (suc (suc l))) h = omega arith
 
 -- THE LEVEL of a cell that shows the bit b: its own, or one higher
 unfoldable pub held : Cell → Bool → ℕ
