@@ -1,4 +1,5 @@
 -- Bits of bytes, the bytes of bits, and a bit that is 0, set.
+--   one-octet        a byte alone
 --   bit-bound        a bit is 0 or 1
 --   number-bit       the bits of the number of some bits are these
 --   cases8           a statement of each number below 8 holds of a number below 8
@@ -13,7 +14,7 @@
 --   byte-fits        a byte in which a bit that is 0 is set is still a byte
 --   length-withBit   as many bytes as before, which are still bytes (octets-withBit)
 use mathlib.Core.Path.{_≡_, sym, _∙_, ap, ap₂, subst}
-use mathlib.Core.List.{List}
+use mathlib.Core.List.{List, [], _∷_}
 use mathlib.Core.Logic.{⊎-elim}
 use Prim.Native.Nat.{ℕ, zero, suc, _<_, _+_, _*_, _-_, _/_, _%_, _^_}
 use native.Mathlib.Omega.{arith, ne-cases}
@@ -24,6 +25,14 @@ use lib.Seq.{getD-take, getD-drop, getD-set-same, getD-set-other}
 use Rattle.cells.specs.Places.{fromBits}
 use Rattle.cells.specs.Bytes.{bitOf, bytesOf, Octets, Unset, withBit}
 use Rattle.cells.proofs.Places.{length-listOf, listOf-at, listOf-same, listOf-getD, number-same, number-less, half-power, same?}
+
+-- a byte alone
+pub one-octet : (byte : ℕ) → byte < 256 → Octets (byte ∷ [])
+one-octet byte p = record { below = go }
+  where
+    go : (q : ℕ) → q < 1 → getD (byte ∷ []) q 0 < 256
+    go zero h = p
+    go (suc q) h = absurd (let z : ⊥ = omega arith in z)
 
 -- a bit is 0 or 1
 pub bit-bound : (bytes : List ℕ) (k : ℕ) → bitOf bytes k < 2

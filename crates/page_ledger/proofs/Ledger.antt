@@ -34,7 +34,7 @@ use Rattle.page_promises.specs.Promise.{Promised, done, spent, refused}
 use Rattle.page_promises.specs.Lists.{dataOf, unlessRefused, groundOf, listCourse, listWith}
 use Rattle.page_ledger.specs.Ledger.{cellsOn, raisesMade, Event, raised, erased, looked, Fair, fair-raise, fair-erase, fair-look}
 use Rattle.page_ledger.specs.Ledger.{pageAfter, counted, Call, Marking, writes, lists, erases, looks, erasing, markedLevels}
-use Rattle.page_ledger.specs.Ledger.{eventOf, played, tallied}
+use Rattle.page_ledger.specs.Ledger.{eventOf, played, tally, tallied}
 use Rattle.refusals.specs.declared.Refusal.{Refusal}
 use Rattle.page_answers.specs.declared.Answer.{Answer}
 use Rattle.page_promises.proofs.Promise.{job-in-order, wrote-by}
@@ -205,7 +205,7 @@ call-stays start marks page looks = record { size = refl; same = λ c h k. refl 
 pub ledger-from : (starts : ℕ → ℕ → ℕ) (marks : ℕ → Bool) (cs : List Call) (page : List ℕ) (n : ℕ)
     → Each (Marking (cellsOn page) marks) cs → raisesOf (cellsOn page) page ≡ markedLevels marks page + n
     → raisesOf (cellsOn (played starts cs page)) (played starts cs page) ≡ markedLevels marks page + tallied starts cs page n
-unfolding played tallied
+unfolding played tally
 ledger-from starts marks [] page n a e = e
 ledger-from starts marks (c ∷ cs) page n (and-each m a) e =
     let v = eventOf (starts 0) c page in

@@ -13,10 +13,10 @@ use mathlib.Core.Path.{_≡_, refl, sym, _∙_, ap, ap₂, fun-ext}
 use mathlib.Core.Bool.{cond}
 use mathlib.Core.List.{List, [], _∷_, _++_}
 use mathlib.Core.Option.{Option, none, some}
-use Prim.Native.Nat.{ℕ, zero, suc, _<_, _+_, _*_}
+use Prim.Native.Nat.{ℕ, suc, _+_, _*_}
 use native.Mathlib.Omega.{arith}
 use lib.Dec.{ltb}
-use lib.ListN.{length, getD}
+use lib.ListN.{length}
 use Rattle.cells.specs.Places.{listOf, fromBits}
 use Rattle.cells.specs.Bytes.{bitOf, bytesOf, Octets}
 use Rattle.cells.specs.Levels.{level, SameLevels}
@@ -24,6 +24,7 @@ use Rattle.cells.specs.Marks.{emptied}
 use Rattle.cells.specs.Raising.{startOf, olderStart, startIn, zeroFrom, raise, raisedTimes, triple, raisedTo}
 use Rattle.cells.specs.Climbs.{house}
 use Rattle.cells.proofs.Places.{each-first, each-rest}
+use Rattle.cells.proofs.Bytes.{one-octet}
 use Rattle.cells.proofs.Raising.{raisedTo-same}
 use Rattle.cells.proofs.Levels.{levels-at, levels-sym, levels-self}
 use Rattle.cells.proofs.Marks.{emptied-levels}
@@ -179,11 +180,7 @@ older-case = (
     row = each-first (each-rest cases-hold)
 
     byte : Octets (0x01 ∷ [])
-    byte = record { below = below }
-      where
-        below : (q : ℕ) → q < 1 → getD (0x01 ∷ []) q 0 < 256
-        below zero h = omega arith
-        below (suc q) h = absurd (let z : ⊥ = omega arith in z)
+    byte = one-octet 0x01 (omega arith)
 
     same : SameLevels (pageBy house 3 1 1 (six 0 0 0 0 0 0) (0x01 ∷ []) olderStart) (six 0x01 0x03 0 0 0 0)
     same = rw (row .1) at (older-write house 3 1 1 (0x01 ∷ []) byte (levels-self {x = six 0 0 0 0 0 0}) .1)

@@ -24,7 +24,7 @@ use Rattle.page_promises.specs.Promise.{Promised, spent, refused}
 use Rattle.page_promises.specs.Lists.{dataOf, withWrite, noneWritten, Course, afterOne, courseAfter}
 use Rattle.page_promises.specs.Lists.{unlessRefused, groundOf, listCourse, listWith}
 use Rattle.page_ledger.specs.Ledger.{cellsOn, raisesMade, raised, Fair, fair-raise, pageAfter, counted, Call, list, eventOf}
-use Rattle.page_ledger.specs.Ledger.{Reply, to-write, answerTo, played, tallied, answered, writesOf}
+use Rattle.page_ledger.specs.Ledger.{Reply, to-write, answerTo, played, tally, tallied, answered, writesOf}
 use Rattle.refusals.specs.declared.Refusal.{Refusal}
 use Rattle.page_answers.specs.declared.Answer.{Answer}
 use Rattle.page_answers.specs.declared.Answer.the-variants as A
@@ -47,7 +47,7 @@ tallied-last : (starts : ℕ → ℕ → ℕ) (f : ℕ → Call) (n : ℕ) (page
     → tallied starts (listOf (suc n) f) page k
     ≡ counted (eventOf (starts n) (f n) (played starts (listOf n f) page)) (played starts (listOf n f) page)
     (tallied starts (listOf n f) page k)
-unfolding played tallied listOf
+unfolding played tally listOf
 tallied-last starts f zero page k = refl
 tallied-last starts f (suc n) page k = tallied-last (λ n. starts (suc n)) (λ i. f (suc i)) n _ _
 
@@ -81,7 +81,7 @@ module _ (start : ℕ → ℕ) (map : Option (List ℕ)) (W : List ℕ) (code L 
 
   -- no raise is counted
   none-counted : (k : ℕ) → tallied (λ n. start) (singles 0) page k ≡ k + raisesMade page page
-  unfolding writesOf tallied listOf raisesMade
+  unfolding writesOf tally listOf raisesMade
   none-counted k = omega (arith, sumOf-zero (cellsOn page) (λ c. level page c - level page c) (λ c h. omega arith))
 
   -- they lower no cell, and their raises are those from the page before them to the page after them

@@ -7,7 +7,8 @@
 --   Marking              a call under these marks
 --   markedLevels         the sum of the levels of the marked cells
 --   Reply, answerTo      what a write answers, or a list
---   played, tallied      the page and the count after a sequence of calls
+--   played               the page after a sequence of calls
+--   tally, tallied       a count after it, and that of the raises
 --   answered             what its writes and lists answer
 --   writesOf             the first datas of a list as single writes
 use mathlib.Core.Path.{_≡_}
@@ -113,11 +114,15 @@ unfoldable pub played : (starts : ℕ → ℕ → ℕ) → List Call → List �
 played starts [] page = page
 played starts (c ∷ cs) page = played (λ n. starts (suc n)) cs (pageAfter (eventOf (starts 0) c page) page)
 
--- the count after it
-unfoldable pub tallied : (starts : ℕ → ℕ → ℕ) → List Call → List ℕ → ℕ → ℕ
-tallied starts [] page n = n
-tallied starts (c ∷ cs) page n =
-    tallied (λ n. starts (suc n)) cs (pageAfter (eventOf (starts 0) c page) page) (counted (eventOf (starts 0) c page) page n)
+-- a count after it: `count` says what an event on a page makes of it
+unfoldable pub tally : (count : Event → List ℕ → ℕ → ℕ) (starts : ℕ → ℕ → ℕ) → List Call → List ℕ → ℕ → ℕ
+tally count starts [] page n = n
+tally count starts (c ∷ cs) page n =
+    tally count (λ n. starts (suc n)) cs (pageAfter (eventOf (starts 0) c page) page) (count (eventOf (starts 0) c page) page n)
+
+-- the count of the raises
+abbrev pub tallied : (starts : ℕ → ℕ → ℕ) → List Call → List ℕ → ℕ → ℕ
+tallied = tally counted
 
 -- and what its writes and lists answer
 unfoldable pub answered : (starts : ℕ → ℕ → ℕ) → List Call → List ℕ → List Reply

@@ -3,12 +3,12 @@
 --   limits-in-order, limits-most, sizes-limits   L and S where the limits have no ground
 --   shape-limits, shape-in-order, in-order       a call without a ground: its shape (InShape), and its lengths (Measured)
 --   weights-dear                                 no step is free where the weights have no ground
---   NoGround, no-grounds                         a price or write, of one data or a list, without a ground
+--   NoGround, no-grounds, none-applies           a price or write, of one data or a list, without a ground
 --   same-weights, permitted-ground               with weights that are permitted it is refused as a read is
 --   house-ground                                 with the house's weights it is refused as a read is
 --   weighted-in-order, map-in-order              a price or write without a ground, with a map or without
 --   count-in-order, single-ground                a list without a ground: its count, and each of its writes
---   erasing-in-order                             an erase without a ground, with a map
+--   erasing-shape, erasing-in-order              an erase without a ground: its shape, and its map
 --   same-ground, same-erasing                    a map of the right length refuses nothing more
 --   sizes-number                                 the code, L and S are refused by 1 to 3
 --   done-none, refused-some                      an answer tells its ground
@@ -182,6 +182,23 @@ no-grounds count map W code L S page content e =
     let r = neither (countGround count) _ (q .1) in
     record { sizes = p .0; weights = q .0; counted = r .0; lengths = r .1 }
 
+-- and where none of these applies there is none
+pub none-applies : (count map : Option ℕ) (W : List ℕ) (code L S page content : ℕ) → sizesGround code L S ≡ none → weightsGround W ≡ none
+    → countGround count ≡ none → mapGround oneBit L S map ≡ none → page ≡ byteCount oneBit L * S → content ≡ dataCount count L S
+    → listGround count map W code L S page content ≡ none
+unfolding listGround lengthsGround pageGround datasGround
+none-applies count map W code L S page content s w n m p d =
+    rw (
+      s,
+      w,
+      n,
+      m,
+      p,
+      d,
+      eq-eqb (byteCount oneBit L * S) (byteCount oneBit L * S) refl,
+      eq-eqb (dataCount count L S) (dataCount count L S) refl,
+    )
+
 -- with other weights that are permitted it has no ground either
 pub same-weights : (map : Option ℕ) (U W : List ℕ) (code L S page content : ℕ) → weightsGround W ≡ none
     → callGround map U code L S page content ≡ none → callGround map U code L S page content ≡ callGround map W code L S page content
@@ -229,13 +246,17 @@ unfolding listGround lengthsGround
 same-ground count W code L S page content = rw (right-map L S)
 
 -- AN ERASE without a ground: the lengths of its page and of its map
+pub erasing-shape : (map : Option ℕ) (L S page : ℕ) (tenths : ℤ) → erasingGround map L S page tenths ≡ none → InShape L S page
+unfolding erasingGround
+erasing-shape map L S page tenths e = shape-in-order L S page (neither (shapeGround L S page) _ e .0)
+
+-- and its map, where it has one
 pub erasing-in-order : (map L S page : ℕ) (tenths : ℤ) → erasingGround (some map) L S page tenths ≡ none
     → (page ≡ byteCount oneBit L * S) × (map ≡ mapCount oneBit L * S)
 unfolding erasingGround
 erasing-in-order map L S page tenths e =
-    let p = neither (shapeGround L S page) _ e in
-    let q = neither (mapGround oneBit L S (some map)) (eraseGround tenths) (p .1) in
-    (shape-in-order L S page (p .0) .page-is, same-length map (mapCount oneBit L * S) _ (q .0))
+    let q = neither (mapGround oneBit L S (some map)) (eraseGround tenths) (neither (shapeGround L S page) _ e .1) in
+    (erasing-shape (some map) L S page tenths e .page-is, same-length map (mapCount oneBit L * S) _ (q .0))
 
 -- a map of the right length refuses nothing more
 pub same-erasing : (L S page : ℕ) (tenths : ℤ)

@@ -9,19 +9,19 @@ use mathlib.Core.Bool.{Bool, true, false, cond, not, Bool·beq, true≢false, fa
 use mathlib.Core.List.{List, [], _∷_, _++_, map}
 use mathlib.Core.Option.{none, some, Option·some-injective}
 use mathlib.Core.Logic.{_⊎_, inl, inr}
-use Prim.Native.Nat.{ℕ, zero, suc, _<_, _≤_, _+_, _%_}
+use Prim.Native.Nat.{ℕ, suc, _<_, _≤_, _+_, _%_}
 use native.Mathlib.Omega.{arith}
 use lib.Dec.{ltb}
-use lib.ListN.{length, getD, length-map}
+use lib.ListN.{length, length-map}
 use borrow.Author.Tests.{ltb-true, ltb-false}
-use Rattle.cells.specs.Climbs.{climb, house, weightOf}
+use Rattle.cells.specs.Climbs.{climb}
 use Rattle.cells.proofs.Climbs.{climb-stay, climb-step, climb-rises}
 use Rattle.codes.specs.Sequences.{_+₂_, odd}
 use Rattle.codes.specs.Numbers.{one-if}
 use Rattle.codes.proofs.Numbers.{odd-one-if}
 use Rattle.codes.proofs.Sequences.{odd-add}
 use Rattle.search.specs.Best.{Solution, Settles, unsolved, sole, Product, Empty, empty}
-use Rattle.search.specs.Strip.{Steps, Dear, Cell, Raised, still, rise, Group, stepsOf}
+use Rattle.search.specs.Strip.{Steps, Dear, Cell, Raised, still, rise, Group}
 use Rattle.search.specs.Choices.{choiceOf}
 use Rattle.search.specs.Plan.{Decides, second-lower, first-lower}
 use Rattle.search.specs.Parity.{parity, One, keep-or-raise, parity-choice}

@@ -16,7 +16,7 @@ use Prim.Native.Nat.{ℕ, zero, suc, _<_, _≤_, _+_, _*_, _/_}
 use native.Mathlib.Omega.{arith}
 use native.Mathlib.Nat.{mul-le-mul}
 use lib.Dec.{leb}
-use lib.ListN.{length, take, drop, replicate, length-map, length-drop}
+use lib.ListN.{length, drop, replicate, length-map, length-drop}
 use lib.Seq.{length-take-le}
 use borrow.Author.Tests.{lt-ltb, le-ltb, leb-true, leb-false}
 use Rattle.cells.specs.Places.{listOf, Each, no-more, and-each}
@@ -32,7 +32,7 @@ use Rattle.codes.proofs.Layouts.{oneBit-stages, oneBit-cells}
 use Rattle.search.specs.Best.{Solution}
 use Rattle.search.specs.Trellis.{beats, better, joined, free, best, all}
 use Rattle.search.specs.Strip.{Steps, Dear, stepsOf, Cell, cellsOf}
-use Rattle.search.specs.Search.{labels, sums, wanted, Stage, branch, next, stages, write}
+use Rattle.search.specs.Search.{sums, wanted, Stage, branch, next, stages, write}
 use Rattle.search.specs.Parity.{keep-or-raise, parity-choice}
 use Rattle.search.specs.Layouts.{dataBits, stripCells, rewriteOf, Sound}
 use Rattle.search.specs.Within.{Within, Open, Leads}
