@@ -1,7 +1,8 @@
 /*
- * The known cells of document 01, writes with other weights, writes on pages of an older release, writes and erases with marked cells, and lists of
- * writes, through include/segrunov.h, as a firmware would call it: refusals in their order, nothing changed by them, guard bytes around every buffer.
- * The exit status is 0 where every check holds.
+ * The known cells of document 01, writes with other weights, writes on pages of an older release, writes and erases
+ * with marked cells, lists of writes, and the writes that are certain after an erase, through include/segrunov.h, as a
+ * firmware would call it: refusals in their order, nothing changed by them, guard bytes around every buffer. The exit
+ * status is 0 where every check holds.
  *
  * With FREESTANDING it is built with no C library: it brings the two functions that the archive needs, and ends by the system's exit.
  */
@@ -557,7 +558,8 @@ struct known_list {
 
 /*
  * The first is document 01's run, 16 + 16 + 20 + 20 + 28 + 28 + 32. The others are by write_page, the model in tests/run.py, one data after another.
- * Where a list with L = 1 stops, a later data would fit: of 02, 01, 02, .. the last costs nothing after the fifth, and a full strip holds fe.
+ * Where a list with L = 1 is spent for another data than its last, a later one would fit: of 02, 01, 02, .. the last
+ * costs nothing after the fifth, and a full strip holds fe.
  */
 static const struct known_list KNOWN_LISTS[] = {
     {"list 80, 00, 80, .. from erased", HOUSE_WEIGHTS, {0}, 3, 1, 1, 7, {0}, {0x80, 0, 0x80, 0, 0x80, 0, 0x80}, 0, 160, 7, 0,
@@ -612,6 +614,18 @@ static const struct known_list KNOWN_LISTS[] = {
      {0, 0x80, 0x09, 0xa3, 0x62, 0x50, 0x10, 0, 0xc5, 0xa2, 0x08, 0}, 3, 2, 3, 7, WORN, SEVEN, 7, 0, 0, 2,
      {0x13, 0x20, 0x02, 0x8c, 0x10, 0x01, 0x68, 0x80, 0x08, 0, 0x01, 0x40, 0x13, 0x02, 0x06, 0x04, 0, 0x11,
       0x20, 0xc0, 0x88, 0x11, 0, 0, 0x38, 0x06, 0x02, 0x88, 0, 0x20, 0x60, 0x80, 0x08, 0, 0x21, 0x40}},
+    /*
+     * No write after the certain ones is certain. Each of these fills the first two cells, on which data bit 0 rests
+     * alone, and then asks for the other bit 0: the costs are 2 + 2 + 2, 3 + 3 + 3, 32 + 40 + 56 and 32 + 40 + 48 + 56.
+     */
+    {"list 02, 00, 02, 01 from erased, weights 1 1 1", {1, 1, 1}, {0}, 3, 1, 1, 4, {0}, {0x02, 0, 0x02, 0x01}, 7, 6,
+     SEGRUNOV_CERTAIN_WRITES, 0, {0x3f}},
+    {"list c2, 00, c2, 01 from erased, weights 1 1 1 with code 7", {1, 1, 1}, {0}, 7, 1, 1, 4, {0},
+     {0xc2, 0, 0xc2, 0x01}, 7, 9, SEGRUNOV_CERTAIN_WRITES, 0, {0x3f, 0, 0, 0, 0x0e}},
+    {"list 22 00, 00 00, 22 00, 01 00 from erased, L = 2 with code 7", HOUSE_WEIGHTS, {0}, 7, 2, 1, 4, {0},
+     {0x22, 0, 0, 0, 0x22, 0, 0x01, 0}, 7, 128, SEGRUNOV_CERTAIN_WRITES, 0, {0x3f}},
+    {"list 02, 00, 02, 00, 01 from erased", HOUSE_WEIGHTS, {0}, 3, 1, 1, 5, {0}, {0x02, 0, 0x02, 0, 0x01}, 7, 176,
+     SEGRUNOV_CERTAIN_WRITES + 1, 0, {0x3f, 0x21, 0x02}},
 };
 
 /* Single writes in that order, and the answer that a list of them is to give. */
@@ -843,6 +857,136 @@ static void catching_up(void)
     }
 }
 
+/* ---- writes that are certain after an erase */
+
+/* The house's, and 1 and 255 in every place: the bound of a write goes by the greatest of the weights so far. */
+static const struct weights CERTAIN_WEIGHTS[] = {{1, 1, 1},   HOUSE_WEIGHTS, {255, 255, 255},
+                                                 {255, 1, 1}, {1, 255, 1},   {1, 1, 255}};
+
+/* The datas of three writes: a first one, its complement, and it again; or bytes that count on. */
+enum { ONES, ALTERNATING, COUNTING, COUNTING_ON, CERTAIN_DATAS };
+
+/* Byte i of the nth data, from 0 on. */
+static uint8_t certain_byte(unsigned kind, size_t nth, size_t data_len, size_t i)
+{
+    uint8_t first;
+    switch (kind) {
+    case ONES:
+        first = 0xff;
+        break;
+    case ALTERNATING:
+        first = i % 2 == 0 ? 0xaa : 0x55;
+        break;
+    case COUNTING:
+        first = (uint8_t)(i + 1);
+        break;
+    default:
+        return (uint8_t)(nth * data_len + i + 1);
+    }
+    return nth % 2 == 0 ? first : (uint8_t)~first;
+}
+
+/* Single writes of these datas after an erase of a worn page are done, each within its bound; so is a list of them. */
+static void certain_writes(const struct list *l, const uint8_t *map, const uint8_t *datas)
+{
+    static const uint8_t worn[PAGE] = WORN;
+    static const uint8_t erased[PAGE] = {0};
+    const char *const what = "the first writes after an erase";
+    const uint8_t weights[SEGRUNOV_CERTAIN_WRITES] = {l->weights.w1, l->weights.w2, l->weights.w3};
+    const size_t page_len = SEGRUNOV_PAGE_BYTES(l->bytes, l->strips);
+    const size_t data_len = SEGRUNOV_DATA_BYTES(l->bytes, l->strips);
+    struct list single = *l;
+    uint32_t greatest = 0, cost = 0, nth;
+    struct guarded page;
+    single.count = 1;
+    fill(&page, worn, page_len);
+    check(what, segrunov_erase(l->bytes, l->strips, inside(&page), page_len, 200) == 0);
+    for (nth = 0; nth < l->count; nth++) {
+        const uint64_t one = one_by_one(&single, inside(&page), map, datas + nth * data_len);
+        greatest = weights[nth] > greatest ? weights[nth] : greatest;
+        check(what, SEGRUNOV_NUMBER(one) == SEGRUNOV_DONE);
+        check(what, SEGRUNOV_VALUE(one) <= SEGRUNOV_CERTAIN_COST(greatest, l->bytes, l->strips));
+        cost += SEGRUNOV_VALUE(one);
+    }
+    list_gives(what, l, erased, map, datas, list_answer(SEGRUNOV_DONE, cost, l->count, 0), inside(&page));
+}
+
+/* Without a map, and with one that marks no cell. */
+static void certain_lists(const struct list *l)
+{
+    const size_t data_len = SEGRUNOV_DATA_BYTES(l->bytes, l->strips);
+    uint8_t datas[SEGRUNOV_CERTAIN_WRITES * DATA];
+    unsigned kind;
+    size_t i;
+    for (kind = ONES; kind < CERTAIN_DATAS; kind++) {
+        for (i = 0; i < l->count * data_len; i++) {
+            datas[i] = certain_byte(kind, i / data_len, data_len, i % data_len);
+        }
+        certain_writes(l, NULL, datas);
+        certain_writes(l, NO_MARKS, datas);
+    }
+}
+
+/* The least answer to the 128 datas with this bit 0, and a data that has it. A 7 is above every cost, so that it is the
+ * least only where all of them are spent. */
+static uint64_t cheapest(uint32_t code, const struct weights *w, const uint8_t *page, unsigned bit, uint8_t *data)
+{
+    uint64_t least = UINT64_MAX;
+    unsigned byte;
+    for (byte = bit; byte < 256; byte += 2) {
+        const uint8_t other = (uint8_t)byte;
+        const uint64_t price = segrunov_price_weighted(code, 1, 1, w->w1, w->w2, w->w3, page, 6, &other, 1);
+        if (price < least) {
+            least = price;
+            *data = other;
+        }
+    }
+    return least;
+}
+
+/*
+ * Data bit 0 is the sum of the first two cells alone, so that a change of it needs a raise of one of them. The cheapest
+ * data raises that one by a step, and no other cell: after six changes both are full.
+ */
+static void first_bit_changes(uint32_t code, const struct weights *w)
+{
+    static const uint8_t erased[6] = {0};
+    static const uint8_t both_full[6] = {0x3f};
+    const char *const what = "changes of data bit 0";
+    uint32_t cost = 0, changes;
+    uint8_t data = 0;
+    struct guarded page;
+    fill(&page, erased, 6);
+    for (changes = 0; changes < SEGRUNOV_FIRST_BIT_CHANGES; changes++) {
+        const uint64_t price = cheapest(code, w, inside(&page), (changes + 1) % 2, &data);
+        check(what, SEGRUNOV_NUMBER(price) == SEGRUNOV_DONE);
+        check(what, segrunov_write_weighted(code, 1, 1, w->w1, w->w2, w->w3, inside(&page), 6, &data, 1) == price);
+        cost += SEGRUNOV_VALUE(price);
+    }
+    check(what, cost == 2u * w->w1 + 2u * w->w2 + 2u * w->w3);
+    check(what, holds(&page, both_full, 6));
+    check(what, cheapest(code, w, inside(&page), (changes + 1) % 2, &data) == SPENT);
+}
+
+/* With both codes, every L and S that the buffers have room for. */
+static void certain(void)
+{
+    static const uint32_t codes[2] = {SEGRUNOV_SHORT, SEGRUNOV_LONG};
+    uint32_t bytes, strips;
+    size_t c, i;
+    for (c = 0; c < 2; c++) {
+        for (i = 0; i < sizeof CERTAIN_WEIGHTS / sizeof *CERTAIN_WEIGHTS; i++) {
+            for (bytes = 1; bytes <= DATA; bytes++) {
+                for (strips = 1; bytes * strips <= DATA; strips++) {
+                    const struct list l = {codes[c], bytes, strips, CERTAIN_WEIGHTS[i], SEGRUNOV_CERTAIN_WRITES};
+                    certain_lists(&l);
+                }
+            }
+            first_bit_changes(codes[c], &CERTAIN_WEIGHTS[i]);
+        }
+    }
+}
+
 /* A word, and the fields that the header's macros give of it. */
 struct known_word {
     const char *what;
@@ -880,6 +1024,11 @@ static void known_words(void)
     check("the bytes of a list", SEGRUNOV_LIST_BYTES(64, 64, 64) == 262144 && SEGRUNOV_LIST_BYTES(2, 3, 5) == 30);
     check("the bytes of a list, of sums", SEGRUNOV_LIST_BYTES(1 + 1, 1 + 2, 2 + 3) == 30);
     check("the most of a list", SEGRUNOV_MAX_LIST * (uint64_t)SEGRUNOV_MAX_WEIGHTED_COST == SEGRUNOV_MAX_LIST_COST);
+    check("the most of the first write", SEGRUNOV_CERTAIN_COST(SEGRUNOV_HOUSE_W1, 1, 1) == 128);
+    check("the most of the second write", SEGRUNOV_CERTAIN_COST(SEGRUNOV_HOUSE_W2, 1, 1) == 160);
+    check("the most of the third write", SEGRUNOV_CERTAIN_COST(SEGRUNOV_HOUSE_W3, 1, 1) == 224);
+    check("the most of a certain write", SEGRUNOV_CERTAIN_COST(UINT8_C(255), 64, 64) == 8355840);
+    check("the most of a certain write, of sums", SEGRUNOV_CERTAIN_COST(1 + 1, 1 + 2, 2 + 3) == 240);
 }
 
 /* A refusal from the input, for read, price and write alike, the calls with weights and a list of one data included. */
@@ -1342,6 +1491,7 @@ static void all(void)
     known_long_lists();
     dearest_lists();
     catching_up();
+    certain();
     known_words();
     known_list_refusals();
 }

@@ -7,6 +7,7 @@
 // past. An edge is a choice of levels for the two cells of a stage: neither below its old level, a marked one not above it, the data bit right. Its
 // weight is the cost of the two climbs. Boost gives the distance of every vertex to the end of the strip; a walk from the start along edges that lose
 // no cost, the lowest levels first, is then the write that document 01 asks for, ties included. A list is judged as such writes, one after another.
+// The first three writes after an erase are also held to the bound that document 02 has for them.
 // At the first disagreement the whole case is printed and the exit status is 1. FACTOR multiplies the number of random cases.
 
 #include "segrunov.h"
@@ -23,6 +24,7 @@
 #include <cstdlib>
 #include <limits>
 #include <random>
+#include <set>
 #include <string>
 #include <utility>
 #include <vector>
@@ -199,6 +201,22 @@ Bytes raised_page(Shape shape, const Bytes& page, const Bytes& other) {
     put_part(raised, k, strip);
   }
   return raised;
+}
+
+// ---------------------------------------------------------------- document 02, K8: the first writes after an erase
+
+constexpr std::uint32_t kCertain = 3;  // so many are never spent
+using Costs = std::array<std::uint32_t, kCertain>;
+
+// 'The k-th of them costs at most 8*L*S times the greatest of the first k weights.'
+Costs certain_bounds(Shape shape, const Weights& weights) {
+  Costs bounds{};
+  std::uint32_t greatest = 0;
+  for (std::size_t k = 0; k < kCertain; ++k) {
+    greatest = std::max<std::uint32_t>(greatest, weights[k]);
+    bounds[k] = 8 * shape.bytes * shape.strips * greatest;
+  }
+  return bounds;
 }
 
 // ---------------------------------------------------------------- the search
@@ -520,6 +538,9 @@ constexpr std::array<const char*, kListStarts> kStartName = {"erased", "half ful
 // The datas of a list: any, each a few bits from what the page reads as, or each one that the page takes.
 enum ListDatas : unsigned { kAnyDatas, kNearDatas, kFittingDatas, kListDatas };
 
+// The datas of the first writes after an erase: any, the complement of what the page reads as, or dear for each strip.
+enum CertainDatas : unsigned { kSomeDatas, kComplements, kDearDatas, kCertainDatas };
+
 // What was met, so that a run that judged nothing of a kind cannot pass.
 struct Counts {
   std::array<std::uint64_t, kFunctions> calls{};
@@ -579,6 +600,11 @@ struct Counts {
   std::array<std::uint64_t, 2> any_through{};  // by code: every data written
   std::array<std::uint64_t, 2> any_stopped{};  // spent for one of them
   std::array<std::uint64_t, 2> dearest{};      // every cell of the largest page climbs every step at 255
+
+  // Of the first three writes after an erase.
+  std::array<std::uint64_t, 2> certain{};        // by code: the three and a list of them, judged by the search
+  std::array<std::uint64_t, 2> certain_bytes{};  // writes of one byte, all datas in turn, held to the bounds alone
+  std::uint64_t certain_wide = 0;                // the three and a list of them, held to the bounds alone
 };
 
 // How a price and a write are asked for: without weights, which means the house's, or with these.
@@ -632,9 +658,10 @@ class Judge {
     judge_read_into(random_bytes(data.size()), code, shape, page, data);
   }
 
-  // Judges a price and a write of the data, and the read after it. Gives back the page after them. Without weights the calls that take them are
-  // judged too, with the house's. Beside each stands the same page of an older release.
-  Bytes judge_write(const Code& code, Shape shape, const Weighing& weighing, const Bytes& page, const Bytes& data) {
+  // Judges a price and a write of the data, and the read after it. Gives back what the search found. Without weights
+  // the calls that take them are judged too, with the house's. Beside each stands the same page of an older release.
+  PageSearch judge_write(const Code& code, Shape shape, const Weighing& weighing, const Bytes& page,
+                         const Bytes& data) {
     const PageSearch least = search_page(code, shape, weighing.weights, page, no_marks(shape), data);
     price_and_write(code, shape, weighing, page, data, least);
     if (!weighing.given) price_and_write(code, shape, Weighing{true, kHouse}, page, data, least);
@@ -645,7 +672,7 @@ class Judge {
       if (read_page(code, shape, least.page) != data) give_up("the search itself is wrong: its page does not read as the data");
       judge_read(code, shape, least.page, data);
     }
-    return least.page;
+    return least;
   }
 
   // What the page reads as costs nothing and changes nothing. No search: this is said outright by document 01.
@@ -952,6 +979,62 @@ class Judge {
     ++counts_.dearest[code_index(code)];
   }
 
+  // Three writes after an erase, and a list of them: done, each within its bound. Without the search wide pages are
+  // quick enough too. Gives back the greatest share of its bound that one of the writes costs, in percent.
+  std::uint64_t judge_certain(const Code& code, Shape shape, const Weighing& weighing, CertainDatas datas,
+                              bool searched) {
+    const Weights& weights = weighing.weights;
+    const Call erase = {kErase, 0, shape.bytes, shape.strips, kHouse, random_page(shape), Bytes(), 200};
+    Bytes page(page_length(shape), 0);
+    judge(erase, Outcome{0, page, Bytes()});
+    Call list = {kList, code.name, shape.bytes, shape.strips, weights, page, Bytes(), 0, no_marks(shape), kCertain};
+    std::uint32_t cost = 0;
+    std::uint64_t share = 0;
+    for (const std::uint32_t bound : certain_bounds(shape, weights)) {
+      const Bytes data = certain_data(datas, code, shape, weights, page);
+      const PageSearch least = searched ? judge_write(code, shape, weighing, page, data)
+                                        : own_write(code, shape, weighing, page, data);
+      const Call write = {kWriteWeighted, code.name, shape.bytes, shape.strips, weights, page, data, 0};
+      hold_certain(write, bound, Outcome{least.answer, least.page, data});
+      list.data.insert(list.data.end(), data.begin(), data.end());
+      cost += SEGRUNOV_VALUE(least.answer);
+      share = std::max(share, std::uint64_t{100} * SEGRUNOV_VALUE(least.answer) / bound);
+      page = least.page;
+    }
+    const Outcome written = {list_answer_of(SEGRUNOV_DONE, cost, kCertain, 0), page, list.data};
+    for (const Function function : {kList, kListMapped}) {
+      list.function = function;
+      judge(list, written);
+    }
+    ++(searched ? counts_.certain[code_index(code)] : counts_.certain_wide);
+    return share;
+  }
+
+  // The most that each of the three costs with the house's weights and one strip of one byte, over all datas: each from
+  // every page that the writes before can leave. They are millions, so that there is no search here either.
+  Costs judge_certain_bytes(const Code& code) {
+    const Shape shape = {1, 1};
+    const Costs bounds = certain_bounds(shape, kHouse);
+    Costs most{};
+    std::set<Bytes> pages = {Bytes(page_length(shape), 0)};
+    for (std::size_t k = 0; k < kCertain; ++k) {
+      std::set<Bytes> left;
+      for (const Bytes& page : pages) {
+        for (unsigned byte = 0; byte < 256; ++byte) {
+          const Bytes data = {static_cast<std::uint8_t>(byte)};
+          const Call write = {kWrite, code.name, shape.bytes, shape.strips, kHouse, page, data, 0};
+          const Outcome got = made(write);
+          hold_certain(write, bounds[k], got);
+          most[k] = std::max(most[k], SEGRUNOV_VALUE(got.answer));
+          if (k + 1 < kCertain) left.insert(got.page);
+        }
+      }
+      counts_.certain_bytes[code_index(code)] += 256 * pages.size();
+      pages.swap(left);
+    }
+    return most;
+  }
+
   void count_several_grounds() { ++counts_.several_grounds; }
   void count_pair(Function function, std::uint32_t first, std::uint32_t second) { ++counts_.pairs[function][first][second]; }
 
@@ -1070,6 +1153,49 @@ class Judge {
       case kNearDatas: return near_data(code, shape, page);
       default: return mapped_fitting_data(code, shape, page, map, 16);
     }
+  }
+
+  // Each strip's data the dearest of eight, by the library's own price.
+  Bytes dear_data(const Code& code, Shape shape, const Weights& weights, const Bytes& page) {
+    Bytes data(data_length(shape));
+    for (std::size_t k = 0; k < shape.strips; ++k) {
+      Call price = {kPriceWeighted, code.name, shape.bytes, 1, weights, part(page, k, strip_length(shape)), Bytes(), 0};
+      std::uint64_t most = 0;
+      for (unsigned tried = 0; tried < 8; ++tried) {
+        price.data = random_bytes(shape.bytes);
+        const std::uint64_t answer = made(price).answer;
+        if (answer < most) continue;
+        most = answer;
+        put_part(data, k, price.data);
+      }
+    }
+    return data;
+  }
+
+  Bytes certain_data(CertainDatas datas, const Code& code, Shape shape, const Weights& weights, const Bytes& page) {
+    switch (datas) {
+      case kSomeDatas: return random_bytes(data_length(shape));
+      case kComplements: return complement(read_page(code, shape, page));
+      default: return dear_data(code, shape, weights, page);
+    }
+  }
+
+  // The library's own write, and the calls that are to agree with it.
+  PageSearch own_write(const Code& code, Shape shape, const Weighing& weighing, const Bytes& page, const Bytes& data) {
+    const Call write = {kWriteWeighted, code.name, shape.bytes, shape.strips, weighing.weights, page, data, 0};
+    const Outcome got = made(write);
+    PageSearch own;
+    own.answer = got.answer;
+    own.page = got.page;
+    price_and_write(code, shape, weighing, page, data, own);
+    if (SEGRUNOV_NUMBER(own.answer) == SEGRUNOV_DONE) judge_read(code, shape, own.page, data);
+    return own;
+  }
+
+  // Where a write that is certain is spent, or dearer than its bound, the bound is shown as the value expected.
+  static void hold_certain(const Call& write, std::uint32_t bound, const Outcome& got) {
+    if (SEGRUNOV_NUMBER(got.answer) == SEGRUNOV_DONE && SEGRUNOV_VALUE(got.answer) <= bound) return;
+    disagree("a certain write is spent or above its bound", write, Outcome{bound, write.page, write.data}, got);
   }
 
   void count_list(const Code& code, Shape shape, const Call& list, const Outcome& after, std::vector<Bytes> all) {
@@ -1220,7 +1346,7 @@ void small_pages(Judge& judge, unsigned rounds) {
 void one_page(Judge& judge, const Code& code, Shape shape) {
   const Bytes page = judge.random_page(shape);
   judge.judge_kept(code, shape, page);
-  const Bytes after = judge.judge_write(code, shape, kPlain, page, judge.random_data(code, shape, page));
+  const Bytes after = judge.judge_write(code, shape, kPlain, page, judge.random_data(code, shape, page)).page;
   judge.judge_kept(code, shape, after);
   judge.judge_write(code, shape, judge.random_weighted(), after, judge.random_data(code, shape, after));
 }
@@ -1248,7 +1374,7 @@ Shape any_shape(Judge& judge) {
 
 void fitting_write(Judge& judge, const Code& code, const Weighing& weighing, Shape shape, std::uint64_t kind) {
   const Bytes page = judge.strip_of_kind(kind, page_length(shape));
-  const Bytes after = judge.judge_write(code, shape, weighing, page, judge.fitting_data(code, shape, page));
+  const Bytes after = judge.judge_write(code, shape, weighing, page, judge.fitting_data(code, shape, page)).page;
   judge.judge_kept(code, shape, after);
 }
 
@@ -1288,8 +1414,6 @@ void large_pages(Judge& judge, unsigned rounds) {
   progress(judge, "large pages");
 }
 
-std::uint64_t spent_writes(const Judge& judge) { return judge.counts().spent[0] + judge.counts().spent[1]; }
-
 // From erased until spent and some writes beyond, then an erase; with mixed, each write with or without weights as it falls. The page is carried
 // along; the judged calls have shown it to be the library's.
 void run_until_spent(Judge& judge, const Code& code, Shape shape, bool small_changes, bool mixed) {
@@ -1299,9 +1423,9 @@ void run_until_spent(Judge& judge, const Code& code, Shape shape, bool small_cha
   while (beyond < 4) {
     const Bytes data = small_changes ? judge.near_data(code, shape, page) : judge.random_bytes(data_length(shape));
     const Weighing weighing = mixed && judge.chance(1, 2) ? judge.random_weighted() : kPlain;
-    const std::uint64_t spent_before = spent_writes(judge);
-    page = judge.judge_write(code, shape, weighing, page, data);
-    if (beyond > 0 || spent_writes(judge) > spent_before) ++beyond;
+    const PageSearch least = judge.judge_write(code, shape, weighing, page, data);
+    if (beyond > 0 || SEGRUNOV_NUMBER(least.answer) == SEGRUNOV_SPENT) ++beyond;
+    page = least.page;
   }
   judge.judge_kept(code, shape, page);
   const auto tenths = static_cast<std::int16_t>(50 + judge.below(351));
@@ -1758,6 +1882,80 @@ void list_cases(Judge& judge, unsigned factor) {
   pairs_of_grounds(judge, 40 * factor, kListCalls);
 }
 
+// ---------------------------------------------------------------- the first writes after an erase
+
+// The house's weights, some, and 1 or 255 in every place.
+std::vector<Weighing> certain_weighings(Judge& judge) {
+  std::vector<Weighing> weighings = {kPlain, judge.random_weighted()};
+  for (unsigned set = 0; set < 1U << kFull; ++set) {
+    Weighing weighing = {true, {1, 1, 1}};
+    for (unsigned i = 0; i < kFull; ++i) {
+      if (((set >> i) & 1U) == 1) weighing.weights[i] = 255;
+    }
+    weighings.push_back(weighing);
+  }
+  return weighings;
+}
+
+// The most vertices that a search has: a stage doubles the states that are reached, until they are all of them.
+std::size_t search_size(const Code& code, Shape shape) {
+  std::size_t reached = 1;
+  std::size_t sum = 0;
+  for (std::size_t t = 0; t < 8 * std::size_t{shape.bytes}; ++t) {
+    reached = std::min(2 * reached, std::size_t{1} << (2 * code.memory));
+    sum += reached;
+  }
+  return sum * shape.strips;
+}
+
+// Every weighting where the search is small, else one of them; no search where it would not end in time, which is so of
+// wide pages with the long code. Gives back the greatest share of a bound, in percent.
+std::uint64_t certain_shape(Judge& judge, const Code& code, Shape shape) {
+  constexpr std::size_t kSmall = 60000;
+  constexpr std::size_t kInTime = 600000;
+  const std::size_t size = search_size(code, shape);
+  std::vector<Weighing> weighings = certain_weighings(judge);
+  if (size > kSmall) weighings = {weighings[judge.below(weighings.size())]};
+  std::uint64_t share = 0;
+  for (const Weighing& weighing : weighings) {
+    for (unsigned d = 0; d < kCertainDatas; ++d) {
+      const auto datas = static_cast<CertainDatas>(d);
+      share = std::max(share, judge.judge_certain(code, shape, weighing, datas, size <= kInTime));
+    }
+  }
+  return share;
+}
+
+void certain_shapes(Judge& judge, const Code& code, unsigned rounds) {
+  std::uint64_t share = 0;
+  for (unsigned round = 0; round < rounds; ++round) {
+    for (const std::uint32_t bytes : {1U, 2U, 3U, 5U, 8U, kMost}) {
+      for (const std::uint32_t strips : {1U, 2U, 3U, 7U, kMost}) {
+        const std::uint64_t seen = certain_shape(judge, code, Shape{bytes, strips});
+        if (bytes * strips > 1) share = std::max(share, seen);
+      }
+    }
+  }
+  std::printf("certain writes, L*S above 1, any weights: code %lu at most %llu %% of the bound\n",
+              static_cast<unsigned long>(code.name), static_cast<unsigned long long>(share));
+}
+
+std::string listing(const Costs& costs) {
+  return std::to_string(costs[0]) + ", " + std::to_string(costs[1]) + ", " + std::to_string(costs[2]);
+}
+
+void certain_bytes(Judge& judge, const Code& code) {
+  std::printf("certain writes, L = S = 1, house weights, all datas: code %lu at most %s of %s\n",
+              static_cast<unsigned long>(code.name), listing(judge.judge_certain_bytes(code)).c_str(),
+              listing(certain_bounds(Shape{1, 1}, kHouse)).c_str());
+}
+
+void certain_cases(Judge& judge, unsigned factor) {
+  for (const Code& code : kCodes) certain_bytes(judge, code);
+  for (const Code& code : kCodes) certain_shapes(judge, code, factor);
+  progress(judge, "certain writes");
+}
+
 // ---------------------------------------------------------------- the verdict
 
 // Prints a count; false if the kind was never met.
@@ -1832,6 +2030,9 @@ bool every_kind_met(const Counts& counts) {
   all = met_for_both_codes("of any shape, written through", counts.any_through) && all;
   all = met_for_both_codes("of any shape, stopped", counts.any_stopped) && all;
   all = met_for_both_codes("dearest lists", counts.dearest) && all;
+  all = met_for_both_codes("three certain writes", counts.certain) && all;
+  all = met_for_both_codes("certain writes, all datas", counts.certain_bytes) && all;
+  all = met("three certain, not searched", "code 7", counts.certain_wide) && all;
   for (unsigned f = kUnmapped; f < kFunctions; ++f) all = every_pair_met(counts, static_cast<Function>(f)) && all;
   for (unsigned f = 0; f < kFunctions; ++f) {
     for (const std::uint32_t number : refusals_of(static_cast<Function>(f))) {
@@ -1857,6 +2058,7 @@ int compare(std::uint64_t seed, unsigned factor) {
   older_runs(judge, 5 * factor);
   mapped_cases(judge, factor);
   list_cases(judge, factor);
+  certain_cases(judge, factor);
   const bool complete = every_kind_met(judge.counts());
   if (!complete) give_up("a kind was never met");
   if (judge.calls() < 20000) give_up("fewer than 20000 calls");

@@ -55,7 +55,7 @@ module _ {map : Option (List ℕ)} {W : List ℕ} {code L S k : ℕ} {page conte
   unfolding answerWith jobAnswer
   turn-certain h =
       let w = page-within (numbered code) (numbered-both code) W
-      (dear-by none (mapSize map) W code L S (length page) (length content) permitted-none) k (dearest k W) h (dearest-most k W)
+      (dear-by none (mapSize map) W code L S (length page) (length content) permitted-none) k (dearest k W) (omega arith) (dearest-most k W)
       (markedBy map) L S page content (λ c l. (N .none-marked c l, low .below c l)) in
       record { cost = w .found .cost; done = rw (permitted-none, w .is); bound = w .cheap }
 

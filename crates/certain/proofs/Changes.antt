@@ -37,9 +37,9 @@ use Rattle.page_promises.specs.Promise.{WroteBy, done, spent, refused}
 use Rattle.page_promises.proofs.Promise.{numbered-both, wrote-by, one-ground}
 use Rattle.page_ledger.specs.Ledger.{cellsOn, Event, Fair, fair-raise, fair-erase, fair-look, pageAfter, Call, write, list, erase, look}
 use Rattle.page_ledger.specs.Ledger.{Marking, writes, lists, erases, looks, eventOf, played, tally}
-use Rattle.page_ledger.specs.Known.{Says, erased, early, changingRun}
+use Rattle.page_known.specs.Known.{Says, erased, early, changingRun}
 use Rattle.page_ledger.proofs.Ledger.{call-fair, call-stays}
-use Rattle.page_ledger.proofs.Known.{runs-hold}
+use Rattle.page_known.proofs.Known.{runs-hold}
 use Rattle.page_answers.specs.declared.Answer.{Answer}
 use Rattle.page_answers.specs.declared.Answer.the-variants as A
 use Rattle.certain.specs.Changes.{bitZero, changes, mostChanges}

@@ -19,8 +19,8 @@ use Rattle.refusals.specs.Refusals.{freeStep, weightsGround}
 use Rattle.page_promises.specs.Writes.{answerOf, pageOf}
 use Rattle.page_promises.proofs.Bounds.{three-weights}
 use Rattle.page_answers.specs.Answers.{numberOf}
-use Rattle.page_ledger.specs.Known.{done, spent, Says, turn, ones, erased}
-use Rattle.page_ledger.proofs.Known.{runs-hold}
+use Rattle.page_known.specs.Known.{done, spent, Says, turn, ones, erased}
+use Rattle.page_known.proofs.Known.{runs-hold}
 use Rattle.certain.specs.Certain.{Permitted, DataFor, writtenPage, certainWrites, Certain}
 use Rattle.certain.proofs.Certain.{erased-low}
 

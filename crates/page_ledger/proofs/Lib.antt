@@ -1,7 +1,5 @@
--- END THEOREMS, which no function needs: the ledger, lists as single writes, the table of known cases, older releases, and what a map
--- does.
+-- END THEOREMS, which no function needs: the ledger, lists as single writes, older releases, and what a map does.
 pub mod Ledger
 pub mod Singles
-pub mod Known
 pub mod Orders
 pub mod Marks

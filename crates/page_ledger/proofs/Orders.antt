@@ -47,8 +47,8 @@ use Rattle.page_counting.specs.declared.Row.{Row}
 use Rattle.page_answers.specs.declared.Answer.{Answer}
 use Rattle.page_answers.specs.declared.Answer.the-variants as A
 use Rattle.page_answers.specs.declared.ListAnswer.{ListAnswer}
-use Rattle.page_ledger.specs.Known.{six}
-use Rattle.page_ledger.proofs.Known.{cases-hold}
+use Rattle.page_known.specs.Known.{six}
+use Rattle.page_known.proofs.Known.{cases-hold}
 use Rattle.page_promises.proofs.Promise.{job-in-order, wrote-by, one-ground}
 use Rattle.page_promises.proofs.Lists.{course-alike}
 

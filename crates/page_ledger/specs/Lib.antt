@@ -1,3 +1,2 @@
--- `Ledger` counts the raises of a page over any calls; `Known` is the paper's table of cases.
+-- `Ledger` counts the raises of a page over any calls.
 pub mod Ledger
-pub mod Known

@@ -11,7 +11,7 @@ use Rattle.cells.specs.Levels.{level, raisesOf}
 use Rattle.codes.specs.Layouts.{stageCount, cellCount, byteCount}
 use Rattle.refusals.specs.Refusals.{oneTo64, isCode, codeGround, bytesGround, stripsGround, limitsGround, sizesGround}
 use Rattle.page_answers.specs.declared.Answer.the-variants as A
-use Rattle.page_ledger.proofs.Known.{cases-hold}
+use Rattle.page_known.proofs.Known.{cases-hold}
 use Rattle.text.specs.declared.Values.{Values}
 use Rattle.text.specs.Text.{onto, decimal, namesText, valuesText, headText, rowText, faultHead, faultText}
 use Rattle.text.specs.Lines.{stepOf, scanOf, fiveDigits, checked, valuesOf}

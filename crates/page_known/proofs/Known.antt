@@ -41,7 +41,7 @@ use Rattle.demand.specs.Computed.{stripBytes, stripWrite, pageWrite, spentStrip
 use Rattle.refusals.specs.Refusals.{oneTo64, isCode, codeGround, bytesGround, stripsGround, limitsGround, sizesGround, pageGround}
 use Rattle.refusals.specs.Refusals.{datasGround, lengthsGround, freeStep, weightsGround, listGround, writeGround, numbered}
 use Rattle.page_promises.specs.Writes.{callAnswer, callPage, jobAnswer, jobPage, jobOf, answerWith, pageWith, answerOf, pageOf}
-use Rattle.page_ledger.specs.Known.{Case, Expected, reads, done, also, spent, Expects, Says, cases, runs}
+use Rattle.page_known.specs.Known.{Case, Expected, reads, done, also, spent, Expects, Says, cases, runs}
 use Rattle.refusals.specs.declared.Refusal.{Refusal}
 use Rattle.page_answers.specs.declared.Answer.{Answer}
 use Rattle.page_answers.specs.declared.Answer.the-variants as A

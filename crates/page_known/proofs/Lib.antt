@@ -1,0 +1,2 @@
+-- The table and the runs hold.
+pub mod Known
