@@ -3,7 +3,8 @@
 --   dearest-most               no weight of the first k is above the greatest
 --   permitted-none             a call that is permitted has no ground
 --   turn-certain, turn-low     one write, with any map that marks nothing, and wherever the raises start: its answer, and the page after it
---   erased-low, erase-low      an erased page is such a page, and so is one after an accepted erase
+--   erased-low                 an erased page is such a page
+--   erase-low, erase-mapped-low   and so is what an accepted erase leaves
 --   three-certain              THE FIRST THREE WRITES
 --   house-permitted, house-figures   the house's weights
 use mathlib.Core.Path.{_≡_, refl, _∙_}
@@ -71,16 +72,18 @@ pub no-marks : (L S : ℕ) → NoneMarked L S none
 no-marks L S = record { fits = refl; none-marked = λ c h. refl }
 
 -- AN ERASED PAGE
-pub erased-low : (L S : ℕ) → Low L S 1 (replicate (byteCount oneBit L * S) 0)
-erased-low L S = record {
-  size = length-replicate {A = ℕ} (byteCount oneBit L * S) 0;
-  below = λ c h. omega (arith, erased-level (byteCount oneBit L * S) c);
-}
+pub erased-low : (L S size : ℕ) → size ≡ byteCount oneBit L * S → Low L S 1 (replicate size 0)
+erased-low L S size e =
+    record { size = length-replicate {A = ℕ} size 0 ∙ e; below = λ c h. omega (arith, erased-level size c) }
 
--- and any page after an accepted erase
-pub erase-low : (map : Option (List ℕ)) (L S : ℕ) → NoneMarked L S map → (tenths : ℤ) (page : List ℕ)
+-- what an accepted erase leaves of any page: with no map it is zeros
+pub erase-low : (L S : ℕ) (tenths : ℤ) (page : List ℕ) → erasing none L S tenths page ≡ none → Low L S 1 (replicate (length page) 0)
+erase-low L S tenths page e = erased-low L S (length page) (erasing-shape none L S (length page) tenths e .page-is)
+
+-- and with one that marks no cell
+pub erase-mapped-low : (map : Option (List ℕ)) (L S : ℕ) → NoneMarked L S map → (tenths : ℤ) (page : List ℕ)
     → erasing map L S tenths page ≡ none → Low L S 1 (emptied (markedBy map) page)
-erase-low map L S N tenths page e = record {
+erase-mapped-low map L S N tenths page e = record {
   size = emptied-length (markedBy map) page ∙ erasing-shape (mapSize map) L S (length page) tenths e .page-is;
   below = λ c h. omega (arith, emptied-other (markedBy map) page c (N .none-marked c h));
 }

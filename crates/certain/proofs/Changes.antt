@@ -105,8 +105,8 @@ module _ (code L S : ℕ) (some-bytes : 0 < L) (k : ℕ) (inside : k < S) where
       omega (arith, up (cellCount oneBit L * k) (omega arith), up (cellCount oneBit L * k + 1) (omega arith))
 
   -- AN EVENT: the changes so far are no more than the steps that the two cells have climbed
-  event-counts : {base : ℕ} {page : List ℕ} {e : Event} → Fair base page e → length page ≡ byteCount oneBit L * S → (n : ℕ) → n ≤ climbed page
-      → changes (bitZero code L S k) e page n ≤ climbed (pageAfter e page)
+  event-counts : {base : ℕ} {page : List ℕ} {e : Event} → Fair base page e → length page ≡ byteCount oneBit L * S → (n : ℕ)
+      → n ≤ climbed page → changes (bitZero code L S k) e page n ≤ climbed (pageAfter e page)
   event-counts {page = page} (fair-raise {after = after} s up) size n h =
       omega (arith, bit-read page, bit-read after, climbed-rises page after size up)
   event-counts (fair-erase e) size n h = omega arith

@@ -19,14 +19,14 @@ use Rattle.refusals.specs.Refusals.{freeStep, weightsGround}
 use Rattle.page_promises.specs.Writes.{answerOf, pageOf}
 use Rattle.page_promises.proofs.Bounds.{three-weights}
 use Rattle.page_answers.specs.Answers.{numberOf}
-use Rattle.page_known.specs.Known.{done, spent, Says, turn, ones, erased}
+use Rattle.page_known.specs.Known.{done, spent, Says, onStrip, ones, erased}
 use Rattle.page_known.proofs.Known.{runs-hold}
 use Rattle.certain.specs.Certain.{Permitted, DataFor, writtenPage, certainWrites, Certain}
 use Rattle.certain.proofs.Certain.{erased-low}
 
 -- a data of a byte
-byte-fits : (byte : ℕ) → byte < 256 → DataFor 1 1 (byte ∷ [])
-byte-fits byte h = record { size = refl; octets = one-octet byte h }
+data-byte : (byte : ℕ) → byte < 256 → DataFor 1 1 (byte ∷ [])
+data-byte byte h = record { size = refl; octets = one-octet byte h }
 
 -- the weights 1, 1, 1 are permitted, and so is a strip of a byte
 ones-permitted : (code : ℕ) → isCode code ≡ true → Permitted ones code 1 1
@@ -36,8 +36,8 @@ ones-permitted code e =
 
 -- A RUN of four writes of which the last is spent: no fourth write with this code is certain
 module _ (code : ℕ) (e : isCode code ≡ true) {a b c d x y z j : ℕ} {p q r : List ℕ} (run : Each (Says answerOf pageOf)
-    (turn ones code 1 erased (a ∷ []) (done x p) ∷ turn ones code 1 p (b ∷ []) (done y q) ∷ turn ones code 1 q (c ∷ []) (done z r)
-    ∷ turn ones code 1 r (d ∷ []) (spent j) ∷ [])) (a-byte : a < 256) (b-byte : b < 256) (c-byte : c < 256) (d-byte : d < 256) where
+    (onStrip ones code 1 erased (a ∷ []) (done x p) ∷ onStrip ones code 1 p (b ∷ []) (done y q) ∷ onStrip ones code 1 q (c ∷ []) (done z r)
+    ∷ onStrip ones code 1 r (d ∷ []) (spent j) ∷ [])) (a-byte : a < 256) (b-byte : b < 256) (c-byte : c < 256) (d-byte : d < 256) where
   -- its datas
   datas : ℕ → List ℕ
   datas zero = a ∷ []
@@ -47,10 +47,10 @@ module _ (code : ℕ) (e : isCode code ≡ true) {a b c d x y z j : ℕ} {p q r 
 
   datas-fit : (i : ℕ) → DataFor 1 1 (datas i)
   unfolding datas
-  datas-fit zero = byte-fits a a-byte
-  datas-fit (suc zero) = byte-fits b b-byte
-  datas-fit (suc (suc zero)) = byte-fits c c-byte
-  datas-fit (suc (suc (suc n))) = byte-fits d d-byte
+  datas-fit zero = data-byte a a-byte
+  datas-fit (suc zero) = data-byte b b-byte
+  datas-fit (suc (suc zero)) = data-byte c c-byte
+  datas-fit (suc (suc (suc n))) = data-byte d d-byte
 
   -- the number of the fourth answer is 7
   fourth-number : numberOf (answerOf ones code 1 1 (writtenPage ones code 1 1 erased datas 3) (datas 3)) ≡ 7
@@ -58,8 +58,8 @@ module _ (code : ℕ) (e : isCode code ≡ true) {a b c d x y z j : ℕ} {p q r 
   fourth-number = go run
     where
       go : Each (Says answerOf pageOf)
-          (turn ones code 1 erased (a ∷ []) (done x p) ∷ turn ones code 1 p (b ∷ []) (done y q) ∷ turn ones code 1 q (c ∷ []) (done z r)
-          ∷ turn ones code 1 r (d ∷ []) (spent j) ∷ [])
+          (onStrip ones code 1 erased (a ∷ []) (done x p) ∷ onStrip ones code 1 p (b ∷ []) (done y q) ∷ onStrip ones code 1 q (c ∷ []) (done z r)
+          ∷ onStrip ones code 1 r (d ∷ []) (spent j) ∷ [])
           → numberOf (answerOf ones code 1 1 (writtenPage ones code 1 1 erased datas 3) (datas 3)) ≡ 7
       go (and-each s (and-each t (and-each u (and-each v w)))) = rw (s .1, t .1, u .1, v .0) refl
 
@@ -70,7 +70,7 @@ module _ (code : ℕ) (e : isCode code ≡ true) {a b c d x y z j : ℕ} {p q r 
       go : (t : Bool) → leb n certainWrites ≡ t → n ≤ certainWrites
       go true g = leb-true n certainWrites g
       go false g =
-          let sure = w .sure ones 1 1 (ones-permitted code e) erased (erased-low 1 1) datas (λ i l. datas-fit i) 3
+          let sure = w .sure ones 1 1 (ones-permitted code e) erased (erased-low 1 1 6 refl) datas (λ i l. datas-fit i) 3
           (omega (arith, leb-false n certainWrites g)) in
           absurd (omega (arith, sym fourth-number ∙ ap numberOf (sure .done)))
 

@@ -1,6 +1,6 @@
 -- AS C SEES IT: the number of the answer is 0, and its value is within the bound.
 --   certain-fits   no bound reaches the number's part of the answer
---   write-word     one write
+--   sure-word      one write
 --   list-word      a list
 use mathlib.Core.Path.{_≡_, refl, _∙_, ap}
 use mathlib.Core.List.{List}
@@ -14,14 +14,13 @@ use Rattle.cells.specs.Bytes.{Octets}
 use Rattle.cells.specs.Climbs.{weightOf, Weights}
 use Rattle.cells.specs.Raising.{startOf}
 use Rattle.refusals.proofs.Refusals.{sizes-limits, limits-size}
-use Rattle.page_promises.specs.Writes.{answerWith}
 use Rattle.page_promises.specs.Lists.{listAnswer}
 use Rattle.page_promises.proofs.Lists.{list-bounds}
 use Rattle.page_answers.specs.Answers.{endNumber}
+use Rattle.page_answers.specs.declared.Answer.{Answer}
 use Rattle.words.specs.Words.{answerWord, listWord}
 use Rattle.words.proofs.Words.{list-fields}
-use Rattle.certain.specs.Certain.{Permitted, DataFor, NoneMarked, Low, dearest, certainMost, certainWrites}
-use Rattle.certain.proofs.Certain.{turn-certain}
+use Rattle.certain.specs.Certain.{Permitted, NoneMarked, Low, dearest, certainMost, Sure, certainWrites}
 use Rattle.certain.proofs.Lists.{list-certain}
 
 -- the greatest of weights of a byte is one
@@ -36,14 +35,11 @@ certain-fits {W} {code} {L} {S} P k =
     mul-le-mul {n₁ = 8 * L * S} {m₁ = dearest k W} {n₂ = 32768} {m₂ = 255}
     (omega (arith, limits-size L S (sizes-limits code L S (P .sizes)))) (dearest-byte (P .weights) k)
 
--- ONE WRITE
-pub write-word : {map : Option (List ℕ)} {W : List ℕ} {code L S k : ℕ} {page content : List ℕ} → Permitted W code L S
-    → NoneMarked L S map → DataFor L S content → Low L S k page → k ≤ certainWrites
-    → let r = answerWord (answerWith map W code L S page content) in
-    (r / 2 ^ 32 ≡ 0) × (r % 2 ^ 32 ≤ certainMost L S k W)
+-- ONE WRITE, or a price
+pub sure-word : {W : List ℕ} {code L S : ℕ} → Permitted W code L S → (k : ℕ) {a : Answer} → Sure (certainMost L S k W) a
+    → (answerWord a / 2 ^ 32 ≡ 0) × (answerWord a % 2 ^ 32 ≤ certainMost L S k W)
 unfolding answerWord
-write-word {k = k} P N D low h =
-    let s = turn-certain P N D low h in
+sure-word P k s =
     let f = certain-fits P k in
     rw (s .done) (omega (arith, s .bound), omega (arith, s .bound))
 

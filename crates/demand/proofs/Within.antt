@@ -1,5 +1,6 @@
--- THE PAGE with one bit a cell whose cells are unmarked and below level k, with weights of which the first k are at most w: its write is
--- there, and costs at most w for each data bit.
+-- A page whose every cell can be raised.
+--   page-within   THE PAGE with one bit a cell whose cells are unmarked and below level k, with weights of which the first k are at most w:
+--                 its write is there, and costs at most w for each data bit
 use mathlib.Core.Path.{_≡_}
 use mathlib.Core.Bool.{Bool, false}
 use mathlib.Core.List.{List}

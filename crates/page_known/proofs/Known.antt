@@ -198,7 +198,8 @@ all-hold cs e =
     (sym answers) (sym pages) (all-say cs e)
   where
     answers : answerOf ≡ answerTabled
-    answers = fun-ext λ W. fun-ext λ code. fun-ext λ L. fun-ext λ S. fun-ext λ page. fun-ext λ content. answer-tabled W code L S page content
+    answers =
+        fun-ext λ W. fun-ext λ code. fun-ext λ L. fun-ext λ S. fun-ext λ page. fun-ext λ content. answer-tabled W code L S page content
 
     pages : pageOf ≡ pageTabled
     pages = fun-ext λ W. fun-ext λ code. fun-ext λ L. fun-ext λ S. fun-ext λ page. fun-ext λ content. page-tabled W code L S page content

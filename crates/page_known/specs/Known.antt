@@ -103,8 +103,8 @@ cases =
     ∷ []
 
 -- RUNS. A write of a run on a page of one strip: weights, code, L, page, data, what is expected
-abbrev pub turn : List ℕ → ℕ → ℕ → List ℕ → List ℕ → Expected → Case
-turn W code L page content expected =
+abbrev pub onStrip : List ℕ → ℕ → ℕ → List ℕ → List ℕ → Expected → Case
+onStrip W code L page content expected =
     record { weights = W; code = code; L = L; S = 1; page = page; content = content; expected = expected }
 
 -- the weights 1, 1, 1
@@ -118,49 +118,49 @@ early a b = six a b 0 0 0 0
 -- with code 3 and the weights 1, 1, 1 the strip takes 02, 00, 02, and is spent for 01
 abbrev pub shortRun : List Case
 shortRun =
-    turn ones 3 1 erased (0x02 ∷ []) (done 2 (early 0x11 0))
-    ∷ turn ones 3 1 (early 0x11 0) (0x00 ∷ []) (done 2 (early 0x33 0))
-    ∷ turn ones 3 1 (early 0x33 0) (0x02 ∷ []) (done 2 (early 0x3f 0))
-    ∷ turn ones 3 1 (early 0x3f 0) (0x01 ∷ []) (spent 0)
+    onStrip ones 3 1 erased (0x02 ∷ []) (done 2 (early 0x11 0))
+    ∷ onStrip ones 3 1 (early 0x11 0) (0x00 ∷ []) (done 2 (early 0x33 0))
+    ∷ onStrip ones 3 1 (early 0x33 0) (0x02 ∷ []) (done 2 (early 0x3f 0))
+    ∷ onStrip ones 3 1 (early 0x3f 0) (0x01 ∷ []) (spent 0)
     ∷ []
 
 -- with code 7 it takes c2, 00, c2, and is spent for 01
 abbrev pub longRun : List Case
 longRun =
-    turn ones 7 1 erased (0xc2 ∷ []) (done 3 (six 0x11 0 0 0 0x08 0))
-    ∷ turn ones 7 1 (six 0x11 0 0 0 0x08 0) (0x00 ∷ []) (done 3 (six 0x33 0 0 0 0x0a 0))
-    ∷ turn ones 7 1 (six 0x33 0 0 0 0x0a 0) (0xc2 ∷ []) (done 3 (six 0x3f 0 0 0 0x0e 0))
-    ∷ turn ones 7 1 (six 0x3f 0 0 0 0x0e 0) (0x01 ∷ []) (spent 0)
+    onStrip ones 7 1 erased (0xc2 ∷ []) (done 3 (six 0x11 0 0 0 0x08 0))
+    ∷ onStrip ones 7 1 (six 0x11 0 0 0 0x08 0) (0x00 ∷ []) (done 3 (six 0x33 0 0 0 0x0a 0))
+    ∷ onStrip ones 7 1 (six 0x33 0 0 0 0x0a 0) (0xc2 ∷ []) (done 3 (six 0x3f 0 0 0 0x0e 0))
+    ∷ onStrip ones 7 1 (six 0x3f 0 0 0 0x0e 0) (0x01 ∷ []) (spent 0)
     ∷ []
 
 -- with the house's weights too: code 7 and L = 2
 abbrev pub houseRun : List Case
 houseRun =
-    turn house 7 2 (erased ++ erased) (0x22 ∷ 0x00 ∷ []) (done 32 (early 0x11 0 ++ erased))
-    ∷ turn house 7 2 (early 0x11 0 ++ erased) (0x00 ∷ 0x00 ∷ []) (done 40 (early 0x33 0 ++ erased))
-    ∷ turn house 7 2 (early 0x33 0 ++ erased) (0x22 ∷ 0x00 ∷ []) (done 56 (early 0x3f 0 ++ erased))
-    ∷ turn house 7 2 (early 0x3f 0 ++ erased) (0x01 ∷ 0x00 ∷ []) (spent 0)
+    onStrip house 7 2 (erased ++ erased) (0x22 ∷ 0x00 ∷ []) (done 32 (early 0x11 0 ++ erased))
+    ∷ onStrip house 7 2 (early 0x11 0 ++ erased) (0x00 ∷ 0x00 ∷ []) (done 40 (early 0x33 0 ++ erased))
+    ∷ onStrip house 7 2 (early 0x33 0 ++ erased) (0x22 ∷ 0x00 ∷ []) (done 56 (early 0x3f 0 ++ erased))
+    ∷ onStrip house 7 2 (early 0x3f 0 ++ erased) (0x01 ∷ 0x00 ∷ []) (spent 0)
     ∷ []
 
 -- code 3 with the house's weights is spent for a fifth
 abbrev pub fifthRun : List Case
 fifthRun =
-    turn house 3 1 erased (0x02 ∷ []) (done 32 (early 0x11 0))
-    ∷ turn house 3 1 (early 0x11 0) (0x00 ∷ []) (done 40 (early 0x33 0))
-    ∷ turn house 3 1 (early 0x33 0) (0x02 ∷ []) (done 48 (six 0x33 0x21 0x02 0 0 0))
-    ∷ turn house 3 1 (six 0x33 0x21 0x02 0 0 0) (0x00 ∷ []) (done 56 (six 0x3f 0x21 0x02 0 0 0))
-    ∷ turn house 3 1 (six 0x3f 0x21 0x02 0 0 0) (0x01 ∷ []) (spent 0)
+    onStrip house 3 1 erased (0x02 ∷ []) (done 32 (early 0x11 0))
+    ∷ onStrip house 3 1 (early 0x11 0) (0x00 ∷ []) (done 40 (early 0x33 0))
+    ∷ onStrip house 3 1 (early 0x33 0) (0x02 ∷ []) (done 48 (six 0x33 0x21 0x02 0 0 0))
+    ∷ onStrip house 3 1 (six 0x33 0x21 0x02 0 0 0) (0x00 ∷ []) (done 56 (six 0x3f 0x21 0x02 0 0 0))
+    ∷ onStrip house 3 1 (six 0x3f 0x21 0x02 0 0 0) (0x01 ∷ []) (spent 0)
     ∷ []
 
 -- data bit 0 changes six times: each write raises one of the first two cells
 abbrev pub changingRun : List Case
 changingRun =
-    turn house 3 1 erased (0x05 ∷ []) (done 16 (early 0x01 0))
-    ∷ turn house 3 1 (early 0x01 0) (0x02 ∷ []) (done 16 (early 0x11 0))
-    ∷ turn house 3 1 (early 0x11 0) (0x05 ∷ []) (done 20 (early 0x31 0))
-    ∷ turn house 3 1 (early 0x31 0) (0x00 ∷ []) (done 20 (early 0x33 0))
-    ∷ turn house 3 1 (early 0x33 0) (0x05 ∷ []) (done 28 (early 0x37 0))
-    ∷ turn house 3 1 (early 0x37 0) (0x02 ∷ []) (done 28 (early 0x3f 0))
+    onStrip house 3 1 erased (0x05 ∷ []) (done 16 (early 0x01 0))
+    ∷ onStrip house 3 1 (early 0x01 0) (0x02 ∷ []) (done 16 (early 0x11 0))
+    ∷ onStrip house 3 1 (early 0x11 0) (0x05 ∷ []) (done 20 (early 0x31 0))
+    ∷ onStrip house 3 1 (early 0x31 0) (0x00 ∷ []) (done 20 (early 0x33 0))
+    ∷ onStrip house 3 1 (early 0x33 0) (0x05 ∷ []) (done 28 (early 0x37 0))
+    ∷ onStrip house 3 1 (early 0x37 0) (0x02 ∷ []) (done 28 (early 0x3f 0))
     ∷ []
 
 abbrev pub runs : List (List Case)

@@ -35,7 +35,7 @@ use Rattle.search.specs.Strip.{Steps, Dear, stepsOf, Cell, cellsOf}
 use Rattle.search.specs.Search.{sums, wanted, Stage, branch, next, stages, write}
 use Rattle.search.specs.Parity.{keep-or-raise, parity-choice}
 use Rattle.search.specs.Layouts.{dataBits, stripCells, rewriteOf, Sound}
-use Rattle.search.specs.Within.{Within, Open, Leads}
+use Rattle.search.specs.Within.{Within, Open, OneFirst}
 use Rattle.search.proofs.Best.{beats-true, beats-false, no-worse-cost, some-none}
 use Rattle.search.proofs.Search.{length-sums, length-labels}
 use Rattle.search.proofs.OneBit.{Both}
@@ -92,7 +92,8 @@ module _ {G S : Type 0} (branch : G → S → Bool → Option Solution) (next : 
   best-within : {gs : List G} → Each Ok gs → (s : S) → Within (length gs * w) (best branch next gs s)
   unfolding best
   best-within no-more s = record { found = free; is = refl; cheap = omega arith }
-  best-within (and-each {g = g} {gs = gs} o os) s = within-more (omega arith) (go (one g o s .0) (one g o s .1) (best-within os (next g s (one g o s .0))))
+  best-within (and-each {g = g} {gs = gs} o os) s =
+      within-more (omega arith) (go (one g o s .0) (one g o s .1) (best-within os (next g s (one g o s .0))))
     where
       go : (u : Bool) → Within w (branch g s u) → Within (length gs * w) (best branch next gs (next g s u))
           → Within (w + length gs * w)
@@ -129,7 +130,8 @@ keep-within S w x o b =
   where
     go : (q : Bool)
         → Within (cond q 0 1 * w)
-        (cond q (some (record { cost = 0; levels = x .level ∷ [] })) (some (record { cost = S .weight (x .level); levels = suc (x .level) ∷ [] })))
+        (cond q (some (record { cost = 0; levels = x .level ∷ [] }))
+        (some (record { cost = S .weight (x .level); levels = suc (x .level) ∷ [] })))
     go true = record { found = record { cost = 0; levels = x .level ∷ [] }; is = refl; cheap = omega arith }
     go false = record {
       found = record { cost = S .weight (x .level); levels = suc (x .level) ∷ [] };
@@ -168,12 +170,13 @@ raises-both (x ∷ xs) (b ∷ v) e =
     omega (arith, asks-both x b, raises-both xs v k)
 
 -- THE TWO BRANCHES of a state want a word and the word of the other bits, where every generator begins with 1
-sums-other : (s : List Bool) {Gs : List (List Bool)} → Each Leads Gs → (xs : List Bool)
+sums-other : (s : List Bool) {Gs : List (List Bool)} → Each OneFirst Gs → (xs : List Bool)
     → sums (true ∷ s) Gs xs ≡ map not (sums (false ∷ s) Gs xs)
 unfolding sums dot
 sums-other s no-more xs = refl
 sums-other s (and-each l ls) [] = refl
-sums-other s (and-each {g = G} l ls) (x ∷ xs) = ap₂ (λ (b : Bool) (v : List Bool). b ∷ v) (rw (l .is) (go (dot (l .others) s) x)) (sums-other s ls xs)
+sums-other s (and-each {g = G} l ls) (x ∷ xs) =
+    ap₂ (λ (b : Bool) (v : List Bool). b ∷ v) (rw (l .is) (go (dot (l .others) s) x)) (sums-other s ls xs)
   where
     go : (d x : Bool) → (true +₂ d) +₂ x ≡ not ((false +₂ d) +₂ x)
     go true true = refl
@@ -181,7 +184,7 @@ sums-other s (and-each {g = G} l ls) (x ∷ xs) = ap₂ (λ (b : Bool) (v : List
     go false true = refl
     go false false = refl
 
-wanted-other : (E : Encoder) → Each Leads (E .others) → (s xs : List Bool)
+wanted-other : (E : Encoder) → Each OneFirst (E .others) → (s xs : List Bool)
     → wanted E (true ∷ s) xs ≡ map not (wanted E (false ∷ s) xs)
 unfolding wanted dot
 wanted-other E l s xs = ap₂ (λ (b : Bool) (v : List Bool). b ∷ v) (go (dot (E .first) s)) (sums-other s l xs)
@@ -191,7 +194,7 @@ wanted-other E l s xs = ap₂ (λ (b : Bool) (v : List Bool). b ∷ v) (go (dot 
     go false = refl
 
 -- THE STRIP: a code every generator of which begins with 1, n stages of as many cells as it has generators, all of them open
-module _ (E : Encoder) (lead : Each Leads (E .others)) (k : ℕ) (fit : k ≡ suc (length (E .others))) (S : Steps) (w : ℕ) where
+module _ (E : Encoder) (lead : Each OneFirst (E .others)) (k : ℕ) (fit : k ≡ suc (length (E .others))) (S : Steps) (w : ℕ) where
   -- a stage of k open cells, with a label for each generator after the first
   record Ready (g : Stage) : Type 0 where
     size : length (g .cells) ≡ k
@@ -253,11 +256,11 @@ module _ (E : Encoder) (lead : Each Leads (E .others)) (k : ℕ) (fit : k ≡ su
         (replicate (E .memory) false))
 
 -- ONE BIT A CELL: both generators begin with 1
-pub both-lead : {G : Generators} → Both G → Each Leads (encoderOf G .others)
+pub both-lead : {G : Generators} → Both G → Each OneFirst (encoderOf G .others)
 unfolding encoderOf listOf odd
 both-lead {G} K = rw (K .two) (and-each second no-more)
   where
-    second : Leads (digitBits (G .memory) (g2 G))
+    second : OneFirst (digitBits (G .memory) (g2 G))
     second = record { others = listOf (G .memory) (λ i. odd (digit (G .memory) (g2 G) (suc i))); is = rw (K .g2-leads) }
 
 -- THE STRIP with one bit a cell whose cells are unmarked and below level k, with weights of which the first k are at most w

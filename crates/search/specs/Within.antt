@@ -1,7 +1,7 @@
 -- WHERE A SEARCH CANNOT FAIL, and what it costs at most.
 --   Within most r   an optional solution that is there and costs at most so much
 --   Open S w x      a cell that can be raised for at most w
---   Leads g         a generator that begins with 1
+--   OneFirst g      a generator that begins with 1
 use mathlib.Core.Path.{_≡_}
 use mathlib.Core.Bool.{Bool, true, false}
 use mathlib.Core.List.{List, _∷_}
@@ -23,6 +23,6 @@ pub record Open (S : Steps) (w : ℕ) (x : Cell) : Type 0 where
   pub step : S .weight (x .level) ≤ w
 
 -- the digit of the present stage is 1
-pub record Leads (g : List Bool) : Type 0 where
+pub record OneFirst (g : List Bool) : Type 0 where
   pub others : List Bool
   pub is : g ≡ true ∷ others
