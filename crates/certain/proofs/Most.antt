@@ -19,7 +19,7 @@ use Rattle.refusals.specs.Refusals.{freeStep, weightsGround}
 use Rattle.page_promises.specs.Writes.{answerOf, pageOf}
 use Rattle.page_promises.proofs.Bounds.{three-weights}
 use Rattle.page_answers.specs.Answers.{numberOf}
-use Rattle.page_known.specs.Known.{done, spent, Says, onStrip, ones, erased}
+use Rattle.page_known.specs.Known.{Case, done, spent, Says, onStrip, ones, erased}
 use Rattle.page_known.proofs.Known.{runs-hold}
 use Rattle.certain.specs.Certain.{Permitted, DataFor, writtenPage, certainWrites, Certain}
 use Rattle.certain.proofs.Certain.{erased-low}
@@ -34,10 +34,19 @@ unfolding sizesGround codeGround limitsGround bytesGround stripsGround oneTo64 w
 ones-permitted code e =
     record { sizes = rw e refl; not-free = refl; weights = three-weights 1 1 1 (omega arith) (omega arith) (omega arith) }
 
--- A RUN of four writes of which the last is spent: no fourth write with this code is certain
-module _ (code : ℕ) (e : isCode code ≡ true) {a b c d x y z j : ℕ} {p q r : List ℕ} (run : Each (Says answerOf pageOf)
-    (onStrip ones code 1 erased (a ∷ []) (done x p) ∷ onStrip ones code 1 p (b ∷ []) (done y q) ∷ onStrip ones code 1 q (c ∷ []) (done z r)
-    ∷ onStrip ones code 1 r (d ∷ []) (spent j) ∷ [])) (a-byte : a < 256) (b-byte : b < 256) (c-byte : c < 256) (d-byte : d < 256) where
+-- A RUN of four writes of a byte, of which the last is spent
+abbrev fourRows : (code a b c d x y z j : ℕ) (p q r : List ℕ) → List Case
+fourRows code a b c d x y z j p q r =
+    onStrip ones code 1 erased (a ∷ []) (done x p)
+    ∷ onStrip ones code 1 p (b ∷ []) (done y q)
+    ∷ onStrip ones code 1 q (c ∷ []) (done z r)
+    ∷ onStrip ones code 1 r (d ∷ []) (spent j)
+    ∷ []
+
+-- so no fourth write with its code is certain
+module _ (code : ℕ) (e : isCode code ≡ true) {a b c d x y z j : ℕ} {p q r : List ℕ}
+    (run : Each (Says answerOf pageOf) (fourRows code a b c d x y z j p q r)) (a-byte : a < 256) (b-byte : b < 256) (c-byte : c < 256)
+    (d-byte : d < 256) where
   -- its datas
   datas : ℕ → List ℕ
   datas zero = a ∷ []
@@ -57,9 +66,7 @@ module _ (code : ℕ) (e : isCode code ≡ true) {a b c d x y z j : ℕ} {p q r 
   unfolding writtenPage datas
   fourth-number = go run
     where
-      go : Each (Says answerOf pageOf)
-          (onStrip ones code 1 erased (a ∷ []) (done x p) ∷ onStrip ones code 1 p (b ∷ []) (done y q) ∷ onStrip ones code 1 q (c ∷ []) (done z r)
-          ∷ onStrip ones code 1 r (d ∷ []) (spent j) ∷ [])
+      go : Each (Says answerOf pageOf) (fourRows code a b c d x y z j p q r)
           → numberOf (answerOf ones code 1 1 (writtenPage ones code 1 1 erased datas 3) (datas 3)) ≡ 7
       go (and-each s (and-each t (and-each u (and-each v w)))) = rw (s .1, t .1, u .1, v .0) refl
 
