@@ -1,4 +1,5 @@
 -- A LIST AND ITS SINGLE WRITES, as calls on the page.
+--   played-last      the page after one more call
 --   singles          the first datas of a list as single writes
 --   list-as-writes   a list leaves the page that the writes which it counts leave, and its raises are theirs
 --   list-costs       these are done, and their costs add up to its cost
@@ -35,7 +36,7 @@ use Rattle.page_promises.proofs.Lists.{courseAt}
 use Rattle.page_ledger.proofs.Ledger.{fair-onward, raises-onward, write-fair}
 
 -- SEQUENCES. The page after one more call
-played-last : (starts : ℕ → ℕ → ℕ) (f : ℕ → Call) (n : ℕ) (page : List ℕ)
+pub played-last : (starts : ℕ → ℕ → ℕ) (f : ℕ → Call) (n : ℕ) (page : List ℕ)
     → played starts (listOf (suc n) f) page
     ≡ pageAfter (eventOf (starts n) (f n) (played starts (listOf n f) page)) (played starts (listOf n f) page)
 unfolding played listOf
