@@ -1,6 +1,7 @@
 #!/usr/bin/env python3
-"""Fails where a number that include/segrunov.h defines is another one than in the definitions, or stands in none of them, where the bytes that a
-page or its map has for each byte of data are others than in the code, where the fields of an answer are not those of the definitions, and where
+"""Fails where a number that include/segrunov.h defines is another one than in the definitions, or stands in none of
+them, where the bytes that a page or its map has for each byte of data are others than in the code, where the most that a
+certain write costs is another product, where the fields of an answer are not those of the definitions, and where
 tests/measure.c lacks a call that the header declares.
 
 The stack is no number of the definitions: tests/measure.c holds it against the calls.
@@ -16,6 +17,8 @@ WRITES = "crates/page_promises/specs/Writes.antt"
 LISTS = "crates/page_promises/specs/Lists.antt"
 WORDS = "crates/words/specs/Words.antt"
 CODES = "crates/codes/src/lib.rt"
+CERTAIN = "crates/certain/specs/Certain.antt"
+CHANGES = "crates/certain/specs/Changes.antt"
 
 # For each number, the definition that has it.
 DEFINED = {
@@ -41,10 +44,14 @@ DEFINED = {
     "MAX_LIST_COST": (LISTS, "largestListCost = {}"),
     "PAGE_BYTES": (CODES, "pub const STRIP_BYTES: usize = {};"),
     "MAP_BYTES": (CODES, "pub const MAP_BYTES: usize = {};"),
+    "CERTAIN_WRITES": (CERTAIN, "certainWrites = {}"),
+    "CERTAIN_COST": (CERTAIN, "certainMost L S k W = {} * L * S * dearest k W"),
+    "FIRST_BIT_CHANGES": (CHANGES, "mostChanges = {}"),
 }
 
-# What the bytes for each byte of data are multiplied by.
+# What the bytes for each byte of data are multiplied by, and the cost of a certain write.
 TIMES = re.escape("(size_t)(bytes) * (size_t)(strips)")
+WEIGHED = re.escape("(weight) * (bytes) * (strips)")
 
 # The fields of an answer, the lowest first, and the definitions that say at which power of two each but the first begins.
 FIELDS = ["VALUE", "NUMBER", "WRITTEN", "SPENT_STRIP"]
@@ -90,6 +97,8 @@ def main():
     calls = re.findall(r"^uint64_t (segrunov\w+)\(", read("include/segrunov.h"), re.M)
     numbers = dict(re.findall(r"^#define SEGRUNOV_(\w+) UINT(?:8|32)_C\((\d+)\)", read("include/segrunov.h"), re.M))
     numbers |= re.findall(rf"^#define SEGRUNOV_(\w+)\(bytes, strips\) \(\(size_t\)(\d+) \* {TIMES}\)$", read("include/segrunov.h"), re.M)
+    weighed = rf"^#define SEGRUNOV_(\w+)\(weight, bytes, strips\) \(UINT32_C\((\d+)\) \* {WEIGHED}\)$"
+    numbers |= re.findall(weighed, read("include/segrunov.h"), re.M)
     bad = [line for name, number in numbers.items() for line in wrong(name, number)]
     bad += [f"include/segrunov.h does not define SEGRUNOV_{name}" for name in DEFINED if name not in numbers]
     bad += misplaced(read("include/segrunov.h"))
