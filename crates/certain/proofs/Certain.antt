@@ -7,11 +7,11 @@
 --   erase-low, erase-mapped-low   and so is what an accepted erase leaves
 --   three-certain              THE FIRST THREE WRITES
 --   house-permitted, house-figures   the house's weights
-use mathlib.Core.Path.{_≡_, refl, _∙_}
+use mathlib.Core.Path.{_≡_, refl, _∙_, ap}
 use mathlib.Core.Bool.{Bool, true, false}
 use mathlib.Core.List.{List}
 use mathlib.Core.Option.{Option, none}
-use Prim.Native.Nat.{ℕ, zero, suc, _<_, _≤_, _*_, max}
+use Prim.Native.Nat.{ℕ, zero, suc, _<_, _≤_, _*_, _/_, max}
 use native.Mathlib.Omega.{arith}
 use lib.Dec.{ltb}
 use lib.IntN.{ℤ}
@@ -21,12 +21,15 @@ use Rattle.cells.specs.Climbs.{weightOf, house}
 use Rattle.cells.specs.Raising.{startOf}
 use Rattle.cells.specs.Marks.{emptied}
 use Rattle.cells.proofs.Marks.{emptied-length, emptied-other}
-use Rattle.codes.specs.Layouts.{oneBit, byteCount}
+use Rattle.codes.specs.Layouts.{oneBit, stageCount, byteCount}
+use Rattle.codes.proofs.Layouts.{oneBit-stages}
+use Rattle.search.proofs.Layouts.{oneBit-parity}
+use Rattle.search.proofs.Within.{both-lead}
 use Rattle.demand.proofs.Within.{page-within}
-use Rattle.refusals.specs.Refusals.{sizesGround, freeStep, weightsGround, numbered}
+use Rattle.refusals.specs.Refusals.{sizesGround, freeStep, weightsGround}
 use Rattle.refusals.proofs.Refusals.{none-applies, erasing-shape}
-use Rattle.page_promises.specs.Writes.{jobAnswer, markedBy, mapSize, groundWith, answerWith, pageWith}
-use Rattle.page_promises.proofs.Promise.{numbered-both, dear-by, page-length}
+use Rattle.page_promises.specs.Writes.{jobAnswer, markedBy, mapSize, groundWith, jobWith, answerWith, pageWith}
+use Rattle.page_promises.proofs.Promise.{numbered-both, job-in-order, dear-by, page-length}
 use Rattle.page_promises.proofs.Bounds.{three-weights, write-near}
 use Rattle.page_ledger.specs.Ledger.{erasing}
 use Rattle.page_ledger.proofs.Ledger.{erased-level}
@@ -55,10 +58,15 @@ module _ {map : Option (List ℕ)} {W : List ℕ} {code L S k : ℕ} {page conte
   pub turn-certain : k ≤ certainWrites → Sure (certainMost L S k W) (answerWith map W code L S page content)
   unfolding answerWith jobAnswer
   turn-certain h =
-      let w = page-within (numbered code) (numbered-both code) W
-      (dear-by none (mapSize map) W code L S (length page) (length content) permitted-none) k (dearest k W) (omega arith) (dearest-most k W)
-      (markedBy map) L S page content (λ c l. (N .none-marked c l, low .below c l)) in
-      record { cost = w .found .cost; done = rw (permitted-none, w .is); bound = w .cheap }
+      let w = page-within (jobWith map W code L S page content) (job-in-order map W code L S page content (D .octets) permitted-none)
+      oneBit-parity (both-lead (numbered-both code))
+      (dear-by none (mapSize map) W code L S (length page) (length content) permitted-none) k (dearest k W) (omega arith)
+      (dearest-most k W) (λ c l. (N .none-marked c l, low .below c l)) in
+      record { cost = w .found .cost; done = rw (permitted-none, w .is); bound = omega (arith, w .cheap, stages-cost) }
+    where
+      -- a raise a stage, at 8·L stages a strip
+      stages-cost : S * (stageCount oneBit L * (2 / 2 * dearest k W)) ≡ certainMost L S k W
+      stages-cost = ap (λ (n : ℕ). S * (n * (2 / 2 * dearest k W))) (oneBit-stages L) ∙ omega arith
 
   -- and raises no cell by more than one, wherever the raises start
   pub turn-low : (start : ℕ → ℕ) → Low L S (suc k) (pageWith map W code L S page content start)

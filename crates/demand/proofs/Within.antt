@@ -1,42 +1,34 @@
 -- A page whose every cell can be raised.
---   page-within   THE PAGE with one bit a cell whose cells are unmarked and below level k, with weights of which the first k are at most w:
---                 its write is there, and costs at most w for each data bit
+--   page-within   THE PAGE with one bit a cell, in any layout, whose cells are unmarked and below level k, with weights of which the first k
+--                 are at most w: its write is there, and raises at most half of a stage's cells, rounded down, for w each
 use mathlib.Core.Path.{_≡_}
-use mathlib.Core.Bool.{Bool, false}
-use mathlib.Core.List.{List}
-use Prim.Native.Nat.{ℕ, _<_, _≤_, _+_, _*_}
+use mathlib.Core.Bool.{false}
+use Prim.Native.Nat.{ℕ, _<_, _≤_, _+_, _*_, _/_}
 use native.Mathlib.Omega.{arith}
+use Rattle.cells.specs.Places.{Each}
 use Rattle.cells.specs.Levels.{level}
 use Rattle.cells.specs.Climbs.{weightOf}
 use Rattle.cells.proofs.Parts.{place-inside}
-use Rattle.codes.specs.Generators.{Generators}
-use Rattle.codes.specs.Layouts.{oneBit, cellCount, byteCount}
+use Rattle.codes.specs.Layouts.{stageCount, byteCount}
+use Rattle.codes.specs.Encoders.{encoderOf}
 use Rattle.search.specs.Strip.{Dear, stepsOf}
-use Rattle.search.specs.Within.{Within}
-use Rattle.search.proofs.OneBit.{Both}
-use Rattle.search.proofs.Within.{within-more, all-within, strip-within}
-use Rattle.demand.specs.Jobs.{part}
+use Rattle.search.specs.Parity.{parity}
+use Rattle.search.specs.Layouts.{meaningOf}
+use Rattle.search.specs.Within.{Within, OneFirst}
+use Rattle.search.proofs.Within.{all-within, strip-within}
+use Rattle.demand.specs.Jobs.{part, Job, width, pageCells, InOrder}
 use Rattle.demand.specs.Computed.{stripBytes, stripWrite, pageWrite}
-use Rattle.demand.proofs.Jobs.{part-level, oneBit-whole}
+use Rattle.demand.proofs.Jobs.{part-level}
 
-pub page-within : (G : Generators) → Both G → (W : List ℕ) → Dear (stepsOf W) → (k w : ℕ) → k ≤ 3
-    → ((l : ℕ) → l < k → weightOf W l ≤ w) → (marks : ℕ → Bool) (L S : ℕ) (page content : List ℕ)
-    → ((c : ℕ) → c < cellCount oneBit L * S → (marks c ≡ false) × (level page c < k))
-    → Within (8 * L * S * w) (pageWrite (record {
-      layout = oneBit;
-      code = G;
-      weights = W;
-      marks = marks;
-      bytes = L;
-      strips = S;
-      page = page;
-      content = content;
-    }))
+pub page-within : (J : Job) → InOrder J → meaningOf (J .layout) ≡ parity (J .layout .cells) → Each OneFirst (encoderOf (J .code) .others)
+    → Dear (stepsOf (J .weights)) → (k w : ℕ) → k ≤ 3 → ((l : ℕ) → l < k → weightOf (J .weights) l ≤ w)
+    → ((c : ℕ) → c < pageCells J → (J .marks c ≡ false) × (level (J .page) c < k))
+    → Within (J .strips * (stageCount (J .layout) (J .bytes) * (J .layout .cells / 2 * w))) (pageWrite J)
 unfolding pageWrite stripWrite stripBytes
-page-within G K W D k w three most marks L S page content low =
-    within-more (omega arith)
-    (all-within _ (8 * L * w) S (λ j. j) (λ j h.
-    strip-within G K W D k w three most L (part (byteCount oneBit L) j page) (λ c. marks (cellCount oneBit L * j + c)) (part L j content)
+page-within J I one-bit lead D k w three most low =
+    all-within (stripWrite J) (stageCount (J .layout) (J .bytes) * (J .layout .cells / 2 * w)) (J .strips) (λ j. j) (λ j h.
+    strip-within (J .layout) one-bit (J .code) (I .sound) lead (J .weights) D k w three most (J .bytes) (stripBytes J j)
+    (λ c. J .marks (width J * j + c)) (part (J .bytes) j (J .content))
     (λ c l.
-    let p = low (cellCount oneBit L * j + c) (place-inside (cellCount oneBit L) j c l S h) in
-    (p .0, omega (arith, p .1, part-level (cellCount oneBit L) (byteCount oneBit L) (oneBit-whole L .cells-fill) j page c l)))))
+    let p = low (width J * j + c) (place-inside (width J) j c l (J .strips) h) in
+    (p .0, omega (arith, p .1, part-level (width J) (byteCount (J .layout) (J .bytes)) (I .whole .cells-fill) j (J .page) c l))))

@@ -141,7 +141,7 @@ map-odd : (y : List ℕ) → map odd (map (λ l. l % 2) y) ≡ map odd y
 map-odd [] = refl
 map-odd (l ∷ y) = rw (odd-mod-two l, map-odd y)
 
-oneBit-parity : meaningOf oneBit ≡ parity 2
+pub oneBit-parity : meaningOf oneBit ≡ parity 2
 unfolding meaningOf
 oneBit-parity = λ i. record { cells = 2; means = λ y. map-odd y i }
 

@@ -7,7 +7,8 @@
 --   raises-both                                  a word and the word of the other bits ask one raise of each cell between them
 --   wanted-other                                 where every generator begins with 1 the two branches of a state want two such words
 --   one-branch, write-within                     so one of them asks at most k / 2 raises, and THE WRITE of a strip is within that
---   both-lead, strip-within                      one bit a cell: at most one raise a stage
+--   strip-within                                 the same of a strip in a layout
+--   both-lead                                    two cells a stage: the second generator begins with 1
 use mathlib.Core.Path.{_≡_, refl, sym, _∙_, ap, ap₂}
 use mathlib.Core.Bool.{Bool, true, false, cond, not, Bool·beq}
 use mathlib.Core.List.{List, [], _∷_, _++_, map}
@@ -16,7 +17,7 @@ use Prim.Native.Nat.{ℕ, zero, suc, _<_, _≤_, _+_, _*_, _/_}
 use native.Mathlib.Omega.{arith}
 use native.Mathlib.Nat.{mul-le-mul}
 use lib.Dec.{leb}
-use lib.ListN.{length, drop, replicate, length-map, length-drop}
+use lib.ListN.{length, drop, replicate, length-map, length-drop, length-replicate}
 use lib.Seq.{length-take-le}
 use borrow.Author.Tests.{lt-ltb, le-ltb, leb-true, leb-false}
 use Rattle.cells.specs.Places.{listOf, Each, no-more, and-each}
@@ -24,22 +25,22 @@ use Rattle.cells.specs.Levels.{level}
 use Rattle.cells.specs.Climbs.{weightOf}
 use Rattle.cells.proofs.Places.{each-take, each-drop, each-listOf}
 use Rattle.codes.specs.Generators.{Generators, g2, digit}
-use Rattle.codes.specs.Layouts.{oneBit, stageCount, cellCount}
+use Rattle.codes.specs.Layouts.{Layout, stageCount, cellCount}
 use Rattle.codes.specs.Sequences.{_+₂_, Bits, odd}
 use Rattle.codes.specs.Registers.{dot}
 use Rattle.codes.specs.Encoders.{Encoder, digitBits, encoderOf}
-use Rattle.codes.proofs.Layouts.{oneBit-stages, oneBit-cells}
 use Rattle.search.specs.Best.{Solution}
 use Rattle.search.specs.Trellis.{beats, better, joined, free, best, all}
-use Rattle.search.specs.Strip.{Steps, Dear, stepsOf, Cell, cellsOf}
+use Rattle.search.specs.Strip.{Steps, Dear, stepsOf, Cell, cellsOf, Meaning}
 use Rattle.search.specs.Search.{sums, wanted, Stage, branch, next, stages, write}
-use Rattle.search.specs.Parity.{keep-or-raise, parity-choice}
-use Rattle.search.specs.Layouts.{dataBits, stripCells, rewriteOf, Sound}
+use Rattle.search.specs.Parity.{parity, keep-or-raise, parity-choice}
+use Rattle.search.specs.Layouts.{meaningOf, dataBits, stripCells, rewriteOf, Sound}
 use Rattle.search.specs.Within.{Within, Open, OneFirst}
 use Rattle.search.proofs.Best.{beats-true, beats-false, no-worse-cost, some-none}
 use Rattle.search.proofs.Search.{length-sums, length-labels}
 use Rattle.search.proofs.OneBit.{Both}
-use Rattle.search.proofs.Layouts.{length-strip, oneBit-sound, oneBit-write}
+use Rattle.search.proofs.Parity.{parity-chosen}
+use Rattle.search.proofs.Layouts.{length-strip}
 
 -- OPTIONAL SOLUTIONS. The chosen one of two costs no more than either
 chosen-cost : (a b : Solution) → ((cond (beats b a) b a) .cost ≤ a .cost) × ((cond (beats b a) b a) .cost ≤ b .cost)
@@ -255,37 +256,34 @@ module _ (E : Encoder) (lead : Each OneFirst (E .others)) (k : ℕ) (fit : k ≡
         (best-within (branch E (parity-choice S)) (next E) (k / 2 * w) Ready one-branch (stages-ready n 0 old e o)
         (replicate (E .memory) false))
 
--- ONE BIT A CELL: both generators begin with 1
+-- THE STRIP OF A LAYOUT with one bit a cell whose cells are unmarked and below level k, with weights of which the first k are at most w
+module _ (lay : Layout) (one-bit : meaningOf lay ≡ parity (lay .cells)) (G : Generators) (Z : Sound lay G)
+    (lead : Each OneFirst (encoderOf G .others)) (W : List ℕ) (D : Dear (stepsOf W)) (k w : ℕ) (three : k ≤ 3)
+    (most : (l : ℕ) → l < k → weightOf W l ≤ w) (L : ℕ) where
+  -- as many cells a stage as there are generators
+  cells-fit : lay .cells ≡ suc (length (encoderOf G .others))
+  unfolding meaningOf encoderOf
+  cells-fit =
+      let y = replicate {A = ℕ} (lay .cells) 0 in
+      sym (length-replicate {A = ℕ} (lay .cells) 0) ∙ sym (length-map y odd) ∙ sym (ap (λ (M : Meaning). length (M .means y)) one-bit)
+      ∙ length-map (lay .shows y) odd ∙ Z .shown y (length-replicate {A = ℕ} (lay .cells) 0)
+      ∙ ap suc (sym (length-map (G .others) _ ∙ Z .generators))
+
+  pub strip-within : (strip : List ℕ) (marks : ℕ → Bool) (content : List ℕ)
+      → ((c : ℕ) → c < cellCount lay L → (marks c ≡ false) × (level strip c < k))
+      → Within (stageCount lay L * (lay .cells / 2 * w)) (rewriteOf lay G W L strip marks content)
+  unfolding rewriteOf stripCells cellsOf cellCount
+  strip-within strip marks content low =
+      rw (one-bit, parity-chosen (stepsOf W) D (lay .cells))
+      (write-within (encoderOf G) lead (lay .cells) cells-fit (stepsOf W) w (dataBits lay content) (stageCount lay L)
+      (stripCells lay L strip marks) (length-strip lay L strip marks)
+      (each-listOf (cellCount lay L) _
+      (λ c h. record { free-to = low c h .0; below = omega (arith, low c h .1); step = most (level strip c) (low c h .1) })))
+
+-- TWO CELLS A STAGE: the second generator begins with 1
 pub both-lead : {G : Generators} → Both G → Each OneFirst (encoderOf G .others)
 unfolding encoderOf listOf odd
 both-lead {G} K = rw (K .two) (and-each second no-more)
   where
     second : OneFirst (digitBits (G .memory) (g2 G))
     second = record { others = listOf (G .memory) (λ i. odd (digit (G .memory) (g2 G) (suc i))); is = rw (K .g2-leads) }
-
--- THE STRIP with one bit a cell whose cells are unmarked and below level k, with weights of which the first k are at most w
-module _ (G : Generators) (K : Both G) (W : List ℕ) (D : Dear (stepsOf W)) (k w : ℕ) (three : k ≤ 3)
-    (most : (l : ℕ) → l < k → weightOf W l ≤ w) (L : ℕ) where
-  pub strip-within : (strip : List ℕ) (marks : ℕ → Bool) (content : List ℕ)
-      → ((c : ℕ) → c < cellCount oneBit L → (marks c ≡ false) × (level strip c < k))
-      → Within (8 * L * w) (rewriteOf oneBit G W L strip marks content)
-  unfolding encoderOf stripCells cellsOf
-  strip-within strip marks content low =
-      rw (← (oneBit-write (G .memory) G Z (omega arith) W D L strip marks content))
-      (within-more (omega (arith, stages-cost))
-      (write-within (encoderOf G) (both-lead K) 2 fit (stepsOf W) w (dataBits oneBit content) (stageCount oneBit L)
-      (stripCells oneBit L strip marks) (length-strip oneBit L strip marks ∙ cells-of)
-      (each-listOf (cellCount oneBit L) _
-      (λ c h. record { free-to = low c h .0; below = omega (arith, low c h .1); step = most (level strip c) (low c h .1) }))))
-    where
-      Z : Sound oneBit G
-      Z = oneBit-sound G (K .g1-leads) (ap length (K .two))
-
-      stages-cost : stageCount oneBit L * (2 / 2 * w) ≡ 8 * L * w
-      stages-cost = ap (λ (n : ℕ). n * (2 / 2 * w)) (oneBit-stages L) ∙ omega arith
-
-      cells-of : cellCount oneBit L ≡ 2 * stageCount oneBit L
-      cells-of = omega (arith, oneBit-stages L, oneBit-cells L)
-
-      fit : 2 ≡ suc (length (encoderOf G .others))
-      fit = ap suc (sym (length-map (G .others) _ ∙ Z .generators))
