@@ -20,15 +20,22 @@ use Rattle.demand.specs.Jobs.{part, Job, width, pageCells, InOrder}
 use Rattle.demand.specs.Computed.{stripBytes, stripWrite, pageWrite}
 use Rattle.demand.proofs.Jobs.{part-level}
 
-pub page-within : (J : Job) → InOrder J → meaningOf (J .layout) ≡ parity (J .layout .cells) → Each OneFirst (encoderOf (J .code) .others)
-    → Dear (stepsOf (J .weights)) → (k w : ℕ) → k ≤ 3 → ((l : ℕ) → l < k → weightOf (J .weights) l ≤ w)
+pub page-within : (J : Job) → InOrder J → meaningOf (J .layout) ≡ parity (J .layout .cells)
+    → Each OneFirst (encoderOf (J .code) .others) → Dear (stepsOf (J .weights)) → (k w : ℕ) → k ≤ 3 → ((l : ℕ) → l < k → weightOf (J .weights) l ≤ w)
     → ((c : ℕ) → c < pageCells J → (J .marks c ≡ false) × (level (J .page) c < k))
     → Within (J .strips * (stageCount (J .layout) (J .bytes) * (J .layout .cells / 2 * w))) (pageWrite J)
 unfolding pageWrite stripWrite stripBytes
 page-within J I one-bit lead D k w three most low =
-    all-within (stripWrite J) (stageCount (J .layout) (J .bytes) * (J .layout .cells / 2 * w)) (J .strips) (λ j. j) (λ j h.
+    all-within (stripWrite J) (stageCount (J .layout) (J .bytes) * (J .layout .cells / 2 * w)) (J .strips) (λ j. j)
+    (λ j h.
     strip-within (J .layout) one-bit (J .code) (I .sound) lead (J .weights) D k w three most (J .bytes) (stripBytes J j)
     (λ c. J .marks (width J * j + c)) (part (J .bytes) j (J .content))
     (λ c l.
-    let p = low (width J * j + c) (place-inside (width J) j c l (J .strips) h) in
-    (p .0, omega (arith, p .1, part-level (width J) (byteCount (J .layout) (J .bytes)) (I .whole .cells-fill) j (J .page) c l))))
+    let p = low (width J * j + c) (place-inside (width J) j c l (J .strips) h) in (
+      p .0,
+      omega (
+        arith,
+        p .1,
+        part-level (width J) (byteCount (J .layout) (J .bytes)) (I .whole .cells-fill) j (J .page) c l,
+      ),
+    )))

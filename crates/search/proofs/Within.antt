@@ -51,7 +51,7 @@ chosen-cost a b = go (beats b a) refl
     go false e = (omega arith, no-worse-cost (beats-false b a e))
 
 -- more is within more
-pub within-more : {m n : ℕ} {r : Option Solution} → m ≤ n → Within m r → Within n r
+within-more : {m n : ℕ} {r : Option Solution} → m ≤ n → Within m r → Within n r
 within-more h w = record { found = w .found; is = w .is; cheap = omega (arith, w .cheap) }
 
 -- none is within nothing
