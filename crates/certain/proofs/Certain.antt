@@ -1,11 +1,13 @@
 -- THE PAGE on which every cell is below level k, with k at most 3 and no cell marked: a write is done, and costs at most 8·L·S times the
 -- greatest of the first k weights. It leaves every cell below level k + 1. So the first three writes after an erase are certain.
---   dearest-most               no weight of the first k is above the greatest
---   permitted-none             a call that is permitted has no ground
---   turn-certain, turn-low     one write, with any map that marks nothing, and wherever the raises start: its answer, and the page after it
---   erased-low                 an erased page is such a page
---   erase-low, erase-mapped-low   and so is what an accepted erase leaves
---   three-certain              THE FIRST THREE WRITES
+--   dearest-most                     no weight of the first k is above the greatest
+--   permitted-none                   a call that is permitted has no ground
+--   turn-certain, turn-low           one write, with any map that marks nothing, and wherever the raises start: its answer, and the page
+--                                    after it
+--   no-marks                         no map marks no cell
+--   erased-low                       an erased page is such a page
+--   erase-low, erase-mapped-low      and so is what an accepted erase leaves
+--   three-certain                    THE FIRST THREE WRITES
 --   house-permitted, house-figures   the house's weights
 use mathlib.Core.Path.{_≡_, refl, _∙_, ap}
 use mathlib.Core.Bool.{Bool, true, false}

@@ -1,6 +1,6 @@
 -- A page whose every cell can be raised.
---   page-within   THE PAGE with one bit a cell, in any layout, whose cells are unmarked and below level k, with weights of which the first k
---                 are at most w: its write is there, and raises at most half of a stage's cells, rounded down, for w each
+--   page-within   THE PAGE with one bit a cell, in any layout, whose cells are unmarked and below level k, with weights of which the first
+--                 k are at most w: its write is there, and raises at most half of a stage's cells, rounded down, for w each
 use mathlib.Core.Path.{_≡_}
 use mathlib.Core.Bool.{false}
 use Prim.Native.Nat.{ℕ, _<_, _≤_, _+_, _*_, _/_}

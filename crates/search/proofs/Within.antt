@@ -1,14 +1,13 @@
 -- The search over stages of k cells with one bit each, on cells that are all open: of the two branches of a state one asks at most k / 2
 -- raises, so the search is never closed, and costs at most k / 2 raises a stage.
---   within-more                                  what is within less is within more
---   better-first, better-second, joined-within   the better of two costs no more than either, and two one after the other what both do
---   best-within, all-within                      a search with one branch of each state within w, and parts one after the other
---   choice-within                                a stage's choice costs the raises that it asks
---   raises-both                                  a word and the word of the other bits ask one raise of each cell between them
---   wanted-other                                 where every generator begins with 1 the two branches of a state want two such words
---   one-branch, write-within                     so one of them asks at most k / 2 raises, and THE WRITE of a strip is within that
---   strip-within                                 the same of a strip in a layout
---   both-lead                                    two cells a stage: the second generator begins with 1
+--   better-within, joined-within   the better of two costs no more than either, and two one after the other what both do
+--   best-within, all-within        a search with one branch of each state within w, and parts one after the other
+--   choice-within                  a stage's choice costs the raises that it asks
+--   raises-both                    a word and the word of the other bits ask one raise of each cell between them
+--   wanted-other                   where every generator begins with 1 the two branches of a state want two such words
+--   one-branch, write-within       so one of them asks at most k / 2 raises, and THE WRITE of a strip is within that
+--   strip-within                   the same of a strip in a layout
+--   both-lead                      two cells a stage: the second generator begins with 1
 use mathlib.Core.Path.{_≡_, refl, sym, _∙_, ap, ap₂}
 use mathlib.Core.Bool.{Bool, true, false, cond, not, Bool·beq}
 use mathlib.Core.List.{List, [], _∷_, _++_, map}
@@ -62,19 +61,16 @@ within-some : {m : ℕ} {a : Solution} → Within m (some a) → a .cost ≤ m
 within-some w = let e = ap (λ (z : Solution). z .cost) (Option·some-injective _ _ (w .is)) in omega (arith, w .cheap)
 
 -- the better of two is within what either is
-better-first : {m : ℕ} (r s : Option Solution) → Within m r → Within m (better r s)
+better-within : {m : ℕ} (second : Bool) (r s : Option Solution) → Within m (cond second s r) → Within m (better r s)
 unfolding better
-better-first none s w = absurd (within-none w)
-better-first (some a) none w = w
-better-first (some a) (some b) w =
-    record { found = cond (beats b a) b a; is = refl; cheap = omega (arith, chosen-cost a b .0, within-some w) }
-
-better-second : {m : ℕ} (r s : Option Solution) → Within m s → Within m (better r s)
-unfolding better
-better-second none s w = w
-better-second (some a) none w = absurd (within-none w)
-better-second (some a) (some b) w =
+better-within true none s w = w
+better-within true (some a) none w = absurd (within-none w)
+better-within true (some a) (some b) w =
     record { found = cond (beats b a) b a; is = refl; cheap = omega (arith, chosen-cost a b .1, within-some w) }
+better-within false none s w = absurd (within-none w)
+better-within false (some a) none w = w
+better-within false (some a) (some b) w =
+    record { found = cond (beats b a) b a; is = refl; cheap = omega (arith, chosen-cost a b .0, within-some w) }
 
 -- one after the other
 joined-within : {m n : ℕ} (r s : Option Solution) → Within m r → Within n s → Within (m + n) (joined r s)
@@ -100,8 +96,8 @@ module _ {G S : Type 0} (branch : G → S → Bool → Option Solution) (next : 
           → Within (w + length gs * w)
           (better (joined (branch g s false) (best branch next gs (next g s false)))
           (joined (branch g s true) (best branch next gs (next g s true))))
-      go true p q = better-second _ _ (joined-within _ _ p q)
-      go false p q = better-first _ _ (joined-within _ _ p q)
+      go true p q = better-within true _ _ (joined-within _ _ p q)
+      go false p q = better-within false _ _ (joined-within _ _ p q)
 
 -- parts one after the other
 pub all-within : (solution : ℕ → Option Solution) (w n : ℕ) (f : ℕ → ℕ) → ((i : ℕ) → i < n → Within w (solution (f i)))
