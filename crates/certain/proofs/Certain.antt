@@ -35,7 +35,8 @@ use Rattle.page_promises.proofs.Promise.{numbered-both, job-in-order, dear-by, 
 use Rattle.page_promises.proofs.Bounds.{three-weights, write-near}
 use Rattle.page_ledger.specs.Ledger.{erasing}
 use Rattle.page_ledger.proofs.Ledger.{erased-level}
-use Rattle.certain.specs.Certain.{Permitted, DataFor, NoneMarked, Low, dearest, certainMost, Sure, writtenPage, certainWrites, Certain}
+use Rattle.page_ledger.specs.Marks.{NoneMarked}
+use Rattle.certain.specs.Certain.{Permitted, DataFor, Low, dearest, certainMost, Sure, writtenPage, certainWrites, Certain}
 
 -- no weight of the first k is above the greatest
 pub dearest-most : (k : ℕ) (W : List ℕ) (l : ℕ) → l < k → weightOf W l ≤ dearest k W
@@ -53,7 +54,7 @@ module _ {map : Option (List ℕ)} {W : List ℕ} {code L S k : ℕ} {page conte
   -- has no ground
   permitted-none : groundWith map W code L S page content ≡ none
   permitted-none =
-      none-applies none (mapSize map) W code L S (length page) (length content) (P .sizes) (P .not-free) refl (N .fits) (low .size)
+      none-applies none (mapSize map) W code L S (length page) (length content) (P .sizes) (P .not-free) refl (N .right) (low .size)
       (D .size)
 
   -- it is done, for at most 8·L·S times the greatest of the first k weights
@@ -79,7 +80,7 @@ module _ {map : Option (List ℕ)} {W : List ℕ} {code L S k : ℕ} {page conte
 
 -- no map marks no cell
 pub no-marks : (L S : ℕ) → NoneMarked L S none
-no-marks L S = record { fits = refl; none-marked = λ c h. refl }
+no-marks L S = record { right = refl; none-marked = λ c h. refl }
 
 -- AN ERASED PAGE
 pub erased-low : (L S size : ℕ) → size ≡ byteCount oneBit L * S → Low L S 1 (replicate size 0)

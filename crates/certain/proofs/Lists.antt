@@ -6,19 +6,20 @@ use mathlib.Core.List.{List}
 use mathlib.Core.Option.{Option, none, some}
 use Prim.Native.Nat.{ℕ, zero, suc, _<_, _≤_, _+_, _*_}
 use native.Mathlib.Omega.{arith}
-use native.Mathlib.Nat.{mul-comm}
 use lib.ListN.{length}
 use Rattle.cells.specs.Places.{sumOf}
 use Rattle.cells.specs.Bytes.{Octets}
 use Rattle.cells.proofs.Places.{sumOf-more}
 use Rattle.demand.proofs.Jobs.{part-length, part-octets}
 use Rattle.refusals.proofs.Refusals.{limits-in, none-applies}
+use Rattle.page_parts.proofs.Strips.{datas-length}
 use Rattle.page_promises.specs.Writes.{mapSize, answerWith, pageWith}
 use Rattle.page_promises.specs.Lists.{dataOf, withWrite, Course, courseAfter, groundOf, listCourse, listWith}
 use Rattle.page_promises.proofs.Lists.{courseAt, course-more, list-course}
 use Rattle.page_answers.specs.declared.Answer.{Answer}
 use Rattle.page_answers.specs.declared.End.the-variants as E
-use Rattle.certain.specs.Certain.{Permitted, DataFor, NoneMarked, Low, certainMost, certainWrites}
+use Rattle.page_ledger.specs.Marks.{NoneMarked}
+use Rattle.certain.specs.Certain.{Permitted, DataFor, Low, certainMost, certainWrites}
 use Rattle.certain.proofs.Certain.{turn-certain, turn-low}
 
 module _ (start : ℕ → ℕ) {map : Option (List ℕ)} {W : List ℕ} {code L S k : ℕ} (count : ℕ) {page content : List ℕ}
@@ -28,12 +29,12 @@ module _ (start : ℕ → ℕ) {map : Option (List ℕ)} {W : List ℕ} {code L 
   listed-none : groundOf map W code L S count page content ≡ none
   listed-none =
       none-applies (some count) (mapSize map) W code L S (length page) (length content) (P .sizes) (P .not-free)
-      (rw (limits-in count some-count (omega arith))) (N .fits) (low .size) size
+      (rw (limits-in count some-count (omega arith))) (N .right) (low .size) size
 
   -- its datas have their bytes
   datas-fit : (n : ℕ) → n < count → DataFor L S (dataOf L S content n)
   datas-fit n h = record {
-    size = part-length (L * S) count n content (size ∙ mul-comm count (L * S)) h;
+    size = part-length (L * S) count n content (datas-length count L S size) h;
     octets = part-octets (L * S) n content octets;
   }
 

@@ -20,7 +20,8 @@ use Rattle.page_answers.specs.Answers.{endNumber}
 use Rattle.page_answers.specs.declared.Answer.{Answer}
 use Rattle.words.specs.Words.{answerWord, listWord}
 use Rattle.words.proofs.Words.{list-fields}
-use Rattle.certain.specs.Certain.{Permitted, NoneMarked, Low, dearest, certainMost, Sure, certainWrites}
+use Rattle.page_ledger.specs.Marks.{NoneMarked}
+use Rattle.certain.specs.Certain.{Permitted, Low, dearest, certainMost, Sure, certainWrites}
 use Rattle.certain.proofs.Lists.{list-certain}
 
 -- the greatest of weights of a byte is one

@@ -1,7 +1,6 @@
 -- HOW MANY WRITES ARE CERTAIN after an erase, whatever the data, with one bit a cell (document 02, K8).
 --   Permitted W code L S   'any permitted code and size', and weights
 --   DataFor L S content    data of L·S bytes
---   NoneMarked L S map     'no marked cells'
 --   Low L S k page         a page every cell of which is below level k
 --   dearest k W            'the greatest of the first k weights'
 --   certainMost L S k W    8·L·S times that
@@ -10,17 +9,16 @@
 --   certainWrites          three
 --   Certain most code n    the first n writes after an erase are done, each within its bound
 use mathlib.Core.Path.{_≡_}
-use mathlib.Core.Bool.{false}
 use mathlib.Core.List.{List}
-use mathlib.Core.Option.{Option, none}
+use mathlib.Core.Option.{none}
 use Prim.Native.Nat.{ℕ, zero, suc, _<_, _≤_, _*_, max}
 use lib.ListN.{length}
 use Rattle.cells.specs.Bytes.{Octets}
 use Rattle.cells.specs.Levels.{level}
 use Rattle.cells.specs.Climbs.{weightOf, Weights}
 use Rattle.codes.specs.Layouts.{oneBit, cellCount, byteCount}
-use Rattle.refusals.specs.Refusals.{sizesGround, weightsGround, mapGround}
-use Rattle.page_promises.specs.Writes.{markedBy, mapSize, answerOf, pageOf}
+use Rattle.refusals.specs.Refusals.{sizesGround, weightsGround}
+use Rattle.page_promises.specs.Writes.{answerOf, pageOf}
 use Rattle.page_answers.specs.declared.Answer.{Answer}
 use Rattle.page_answers.specs.declared.Answer.the-variants as A
 
@@ -34,11 +32,6 @@ pub record Permitted (W : List ℕ) (code L S : ℕ) : Type 0 where
 pub record DataFor (L S : ℕ) (content : List ℕ) : Type 0 where
   pub size : length content ≡ L * S
   pub octets : Octets content
-
--- 'no marked cells': no map, or one of the right length that marks no cell of the page
-pub record NoneMarked (L S : ℕ) (map : Option (List ℕ)) : Type 0 where
-  pub fits : mapGround oneBit L S (mapSize map) ≡ none
-  pub none-marked : (c : ℕ) → c < cellCount oneBit L * S → markedBy map c ≡ false
 
 -- a page of the right length every cell of which is below level k
 pub record Low (L S k : ℕ) (page : List ℕ) : Type 0 where

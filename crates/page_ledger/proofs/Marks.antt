@@ -1,5 +1,4 @@
 -- WHAT A MAP DOES to the calls. For any L, S and weights, and both codes.
---   RightMap, right-ground   a map of the right length, or none, refuses nothing more of a write, and of an erase (right-erasing)
 --   unmarked-write           with a map that marks no cell of the page a write is the one without a map
 --   unmarked-list            and so is a list
 --   unmarked-erase           and an erase empties every cell
@@ -21,6 +20,7 @@ use native.Mathlib.Omega.{arith}
 use lib.Dec.{ltb}
 use lib.IntN.{ℤ}
 use lib.ListN.{length, replicate, length-replicate}
+use borrow.Author.Tests.{eq-eqb}
 use Rattle.cells.specs.Bytes.{bitOf, Octets}
 use Rattle.cells.specs.Levels.{level}
 use Rattle.cells.specs.Marks.{emptied}
@@ -40,60 +40,42 @@ use Rattle.demand.specs.Demand.{Could}
 use Rattle.demand.proofs.Reading.{reads-of}
 use Rattle.demand.proofs.Marks.{Fewer, SameMarks, could-fewer, cheapest-fewer, spent-more, spent-lower, page-marks, strip-marks}
 use Rattle.demand.proofs.Marks.{stay-could, free-stay, stay-page, all-marked}
-use Rattle.refusals.specs.Refusals.{listGround, numbered, kept}
-use Rattle.refusals.proofs.Refusals.{weighted-in-order, same-ground, erasing-in-order, same-erasing}
+use Rattle.refusals.specs.Refusals.{numbered, kept}
+use Rattle.refusals.proofs.Refusals.{weighted-in-order, same-ground, erasing-shape, same-erasing}
 use Rattle.page_promises.specs.Writes.{jobAnswer, jobPage, markedBy, mapSize, groundWith, jobWith, answerWith, pageWith, answerOf, pageBy}
 use Rattle.page_promises.specs.Promise.{Promised, WroteWith, done, spent, refused}
 use Rattle.page_promises.specs.Lists.{dataOf, courseAfter, unlessRefused, groundOf, listWith}
 use Rattle.page_ledger.specs.Ledger.{erasing}
+use Rattle.page_ledger.specs.Marks.{RightMap, NoneMarked}
 use Rattle.refusals.specs.declared.Refusal.{Refusal}
 use Rattle.page_answers.specs.declared.Answer.{Answer}
 use Rattle.page_answers.specs.declared.Answer.the-variants as A
 use Rattle.page_promises.proofs.Promise.{job-in-order, wrote-by, wrote, one-ground, done-not-spent}
 use Rattle.page_ledger.proofs.Ledger.{erased-level, list-keeps}
 
--- THE LENGTH. A map of the right length, or none
-pub data RightMap (L S : ℕ) : Option (List ℕ) → Type 0 where
-  no-map : RightMap L S none
-  right-map : {map : List ℕ} → length map ≡ mapCount oneBit L * S → RightMap L S (some map)
-
--- a write with it, or a list, is refused as one without a map
-pub right-ground : {map : Option (List ℕ)} (count : Option ℕ) (W : List ℕ) (code L S : ℕ) (before content : List ℕ) → RightMap L S map
-    → listGround count (mapSize map) W code L S (length before) (length content)
-    ≡ listGround count none W code L S (length before) (length content)
-right-ground count W code L S before content no-map = refl
-right-ground count W code L S before content (right-map e) = rw e (same-ground count W code L S (length before) (length content))
-
--- and so is an erase
-pub right-erasing : {map : Option (List ℕ)} (L S : ℕ) (tenths : ℤ) (page : List ℕ) → RightMap L S map
-    → erasing map L S tenths page ≡ erasing none L S tenths page
-right-erasing L S tenths page no-map = refl
-right-erasing L S tenths page (right-map e) = rw e (same-erasing L S (length page) tenths)
-
 -- NO CELL MARKED. With a map that marks no cell of the page a write is the one without a map: its answer and the page after it
-module _ {map : Option (List ℕ)} (L S : ℕ) (right : RightMap L S map)
-    (none-marked : (c : ℕ) → c < cellCount oneBit L * S → markedBy map c ≡ false) where
+module _ {map : Option (List ℕ)} (L S : ℕ) (N : NoneMarked L S map) where
   pub unmarked-write : (W : List ℕ) (code : ℕ) (before content : List ℕ) (start : ℕ → ℕ)
       → (answerWith map W code L S before content ≡ answerOf W code L S before content)
       × (pageWith map W code L S before content start ≡ pageBy W code L S before content start)
   unfolding answerWith pageWith jobAnswer jobPage
   unmarked-write W code before content start =
       rw (
-        right-ground none W code L S before content right,
+        same-ground none (mapSize map) W code L S (length before) (length content) (N .right),
         page-marks (jobWith none W code L S before content) same,
         strip-marks (jobWith none W code L S before content) same,
       )
       (refl, refl)
     where
       same : SameMarks (jobWith none W code L S before content) (markedBy map) unmarked
-      same = record { same = none-marked }
+      same = record { same = N .none-marked }
 
   -- and so is a list, its answer and the page after it
   pub unmarked-list : (W : List ℕ) (code count : ℕ) (before content : List ℕ) (start : ℕ → ℕ)
       → listWith map W code L S count before content start ≡ listWith none W code L S count before content start
   unfolding listWith
   unmarked-list W code count before content start =
-      rw (right-ground (some count) W code L S before content right) (ap₂
+      rw (same-ground (some count) (mapSize map) W code L S (length before) (length content) (N .right)) (ap₂
       (λ (answers : List ℕ → List ℕ → Answer) (pages : List ℕ → List ℕ → List ℕ).
       unlessRefused (groundOf none W code L S count before content) (courseAfter answers pages (dataOf L S content) before count) before)
       (fun-ext (λ page. fun-ext (λ one. unmarked-write W code page one start .0)))
@@ -104,18 +86,20 @@ module _ {map : Option (List ℕ)} (L S : ℕ) (right : RightMap L S map)
       → (erasing map L S tenths page ≡ erasing none L S tenths page)
       × (kept (erasing map L S tenths page) (emptied (markedBy map) page) page
       ≡ kept (erasing none L S tenths page) (replicate (length page) 0) page)
-  unmarked-erase tenths page = (right-erasing L S tenths page right, rw (right-erasing L S tenths page right) (go _ refl))
+  unmarked-erase tenths page = (same, rw same (go _ refl))
     where
+      same : erasing map L S tenths page ≡ erasing none L S tenths page
+      same = same-erasing (mapSize map) L S (length page) tenths (N .right)
+
       -- an erase in order empties all cells of the page
       inside : erasing none L S tenths page ≡ none → (c : ℕ) → 3 * c < 8 * length page → c < cellCount oneBit L * S
       inside e c h =
-          let s = erasing-in-order (mapCount oneBit L * S) L S (length page) tenths (same-erasing L S (length page) tenths ∙ e) in
-          let l : length page ≡ 6 * L * S = rw (oneBit-bytes L) at (s .0) in
+          let l : length page ≡ 6 * L * S = rw (oneBit-bytes L) at (erasing-shape none L S (length page) tenths e .page-is) in
           rw (oneBit-cells L) (omega arith)
 
       go : (g : Option Refusal) → erasing none L S tenths page ≡ g
           → kept g (emptied (markedBy map) page) page ≡ kept g (replicate (length page) 0) page
-      go none e = emptied-same (markedBy map) unmarked page (λ c h. none-marked c (inside e c h)) ∙ emptied-none page
+      go none e = emptied-same (markedBy map) unmarked page (λ c h. N .none-marked c (inside e c h)) ∙ emptied-none page
       go (some r) e = refl
 
 -- A MAP OF ZEROS of the right length
@@ -123,38 +107,40 @@ abbrev pub zeroMap : ℕ → ℕ → Option (List ℕ)
 zeroMap L S = some (replicate (mapCount oneBit L * S) 0)
 
 module _ (L S : ℕ) where
-  zeros-right : RightMap L S (zeroMap L S)
-  zeros-right = right-map (length-replicate {A = ℕ} (mapCount oneBit L * S) 0)
-
   -- marks no cell
-  zeros-unmarked : (c : ℕ) → c < cellCount oneBit L * S → markedBy (zeroMap L S) c ≡ false
-  zeros-unmarked c h = ap (λ (m : ℕ → Bool). m c) (zero-map (mapCount oneBit L * S))
+  zeros-unmarked : NoneMarked L S (zeroMap L S)
+  zeros-unmarked = record {
+    right = rw (length-replicate {A = ℕ} (mapCount oneBit L * S) 0, eq-eqb (mapCount oneBit L * S) (mapCount oneBit L * S) refl);
+    none-marked = λ c h. ap (λ (m : ℕ → Bool). m c) (zero-map (mapCount oneBit L * S));
+  }
 
   -- so a write with it is the one without a map
   pub zero-map-write : (W : List ℕ) (code : ℕ) (before content : List ℕ) (start : ℕ → ℕ)
       → (answerWith (zeroMap L S) W code L S before content ≡ answerOf W code L S before content)
       × (pageWith (zeroMap L S) W code L S before content start ≡ pageBy W code L S before content start)
-  zero-map-write = unmarked-write L S zeros-right zeros-unmarked
+  zero-map-write = unmarked-write L S zeros-unmarked
 
   -- and so is a list
   pub zero-map-list : (W : List ℕ) (code count : ℕ) (before content : List ℕ) (start : ℕ → ℕ)
       → listWith (zeroMap L S) W code L S count before content start ≡ listWith none W code L S count before content start
-  zero-map-list = unmarked-list L S zeros-right zeros-unmarked
+  zero-map-list = unmarked-list L S zeros-unmarked
 
   -- and so is an erase
   pub zero-map-erase : (tenths : ℤ) (page : List ℕ)
       → (erasing (zeroMap L S) L S tenths page ≡ erasing none L S tenths page)
       × (kept (erasing (zeroMap L S) L S tenths page) (emptied (markedBy (zeroMap L S)) page) page
       ≡ kept (erasing none L S tenths page) (replicate (length page) 0) page)
-  zero-map-erase = unmarked-erase L S zeros-right zeros-unmarked
+  zero-map-erase = unmarked-erase L S zeros-unmarked
 
 -- MORE MARKS, and the same page, data, code and weights
-module _ {few more : Option (List ℕ)} (W : List ℕ) (code L S : ℕ) (before content : List ℕ) (b : Octets content)
+module _ (few more : Option (List ℕ)) (W : List ℕ) (code L S : ℕ) (before content : List ℕ) (b : Octets content)
     (few-right : RightMap L S few) (more-right : RightMap L S more)
     (also : (c : ℕ) → c < cellCount oneBit L * S → markedBy few c ≡ true → markedBy more c ≡ true) where
   -- the two are refused on the same ground
   one-for-both : groundWith few W code L S before content ≡ groundWith more W code L S before content
-  one-for-both = right-ground none W code L S before content few-right ∙ sym (right-ground none W code L S before content more-right)
+  one-for-both =
+      same-ground none (mapSize few) W code L S (length before) (length content) few-right
+      ∙ sym (same-ground none (mapSize more) W code L S (length before) (length content) more-right)
 
   -- and the job is the same but for the marks
   fewer : Fewer (jobWith none W code L S before content) (markedBy few) (markedBy more)

@@ -8,8 +8,8 @@
 --   house-ground                                 with the house's weights it is refused as a read is
 --   weighted-in-order, map-in-order              a price or write without a ground, with a map or without
 --   count-in-order, single-ground                a list without a ground: its count, and each of its writes
---   erasing-shape, erasing-in-order              an erase without a ground: its shape, and its map
---   same-ground, same-erasing                    a map of the right length refuses nothing more
+--   erasing-shape                                an erase without a ground: its shape
+--   same-ground, same-erasing                    a map that has no ground refuses nothing more
 --   sizes-number                                 the code, L and S are refused by 1 to 3
 --   done-none, refused-some                      an answer tells its ground
 --   refused-first, done-next                     grounds tested one after the other
@@ -32,7 +32,7 @@ use Rattle.codes.specs.Layouts.{oneBit, byteCount, mapCount}
 use Rattle.codes.proofs.Codes.{Coded, short-coded, long-coded}
 use Rattle.refusals.specs.Refusals.{oneTo64, isCode, freeStep, first-of, codeGround, bytesGround, stripsGround, weightsGround}
 use Rattle.refusals.specs.Refusals.{countGround, pageGround, mapGround, dataCount, datasGround, lengthsGround}
-use Rattle.refusals.specs.Refusals.{limitsGround, sizesGround, shapeGround, ground, listGround, callGround, writeGround, eraseGround}
+use Rattle.refusals.specs.Refusals.{limitsGround, sizesGround, shapeGround, ground, listGround, callGround, writeGround}
 use Rattle.refusals.specs.Refusals.{erasingGround, completionOf, refusalNumber, numbered}
 use Rattle.refusals.specs.declared.Refusal.{Refusal}
 use Rattle.refusals.specs.declared.Refusal.the-variants.{CodeUnknown, BytesOutside, StripsOutside, WeightZero}
@@ -236,33 +236,22 @@ single-ground count map W code L S page content e =
     let r = neither (mapGround oneBit L S map) _ (q .1) in
     rw (p .sizes, p .weights, q .0, r .0, eq-eqb (L * S) (L * S) refl)
 
--- a map of the right length refuses nothing more
-right-map : (L S : ℕ) → mapGround oneBit L S (some (mapCount oneBit L * S)) ≡ none
-right-map L S = rw (eq-eqb (mapCount oneBit L * S) (mapCount oneBit L * S) refl)
-
-pub same-ground : (count : Option ℕ) (W : List ℕ) (code L S page content : ℕ)
-    → listGround count (some (mapCount oneBit L * S)) W code L S page content ≡ listGround count none W code L S page content
+-- a map that has no ground refuses nothing more
+pub same-ground : (count map : Option ℕ) (W : List ℕ) (code L S page content : ℕ) → mapGround oneBit L S map ≡ none
+    → listGround count map W code L S page content ≡ listGround count none W code L S page content
 unfolding listGround lengthsGround
-same-ground count W code L S page content = rw (right-map L S)
+same-ground count map W code L S page content e = rw e
 
--- AN ERASE without a ground: the lengths of its page and of its map
+-- AN ERASE without a ground: its shape
 pub erasing-shape : (map : Option ℕ) (L S page : ℕ) (tenths : ℤ) → erasingGround map L S page tenths ≡ none → InShape L S page
 unfolding erasingGround
 erasing-shape map L S page tenths e = shape-in-order L S page (neither (shapeGround L S page) _ e .0)
 
--- and its map, where it has one
-pub erasing-in-order : (map L S page : ℕ) (tenths : ℤ) → erasingGround (some map) L S page tenths ≡ none
-    → (page ≡ byteCount oneBit L * S) × (map ≡ mapCount oneBit L * S)
+-- a map that has no ground refuses nothing more
+pub same-erasing : (map : Option ℕ) (L S page : ℕ) (tenths : ℤ) → mapGround oneBit L S map ≡ none
+    → erasingGround map L S page tenths ≡ erasingGround none L S page tenths
 unfolding erasingGround
-erasing-in-order map L S page tenths e =
-    let q = neither (mapGround oneBit L S (some map)) (eraseGround tenths) (neither (shapeGround L S page) _ e .1) in
-    (erasing-shape (some map) L S page tenths e .page-is, same-length map (mapCount oneBit L * S) _ (q .0))
-
--- a map of the right length refuses nothing more
-pub same-erasing : (L S page : ℕ) (tenths : ℤ)
-    → erasingGround (some (mapCount oneBit L * S)) L S page tenths ≡ erasingGround none L S page tenths
-unfolding erasingGround
-same-erasing L S page tenths = rw (right-map L S)
+same-erasing map L S page tenths e = rw e
 
 -- WITHOUT A MAP a price or a write is refused as a read is, where no step is free
 pub permitted-ground : (W : List ℕ) (code L S page content : ℕ) → weightsGround W ≡ none
