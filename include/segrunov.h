@@ -1,12 +1,14 @@
 /*
  * Segrunov: rewriting a flash page by coset codes.
  *
- * A page has S strips of 6*L bytes each, one after another. Three bits are a cell; its level, 0 to 3, is how many of them are one, and only an erase
- * lowers it. A strip holds L bytes of data. A write raises cells so that the page reads as the data: it picks the cheapest of all pages that read as
- * the data with no cell lowered, and among equals the one with the lower level at the first cell that differs. What a page costs is the sum of the
- * steps that its cells climb. A step from level 0 to 1 costs 16, from 1 to 2 costs 20, from 2 to 3 costs 28: the house's weights. The calls that
- * end in _weighted, price and write with a map, and the two calls for a list of writes take three others, from the flash part's data sheet: with them
- * cheapest is meant in these. Whether a page is spent does not depend on them, and calls with any weights may follow each other on one page.
+ * A page has S strips of 6*L bytes each, one after another. Three bits are a cell; its level, 0 to 3, is how many of
+ * them are one, and only an erase lowers it. A strip holds L bytes of data. A write raises cells so that the page reads
+ * as the data: it picks the cheapest of all pages that read as the data with no cell lowered, and among equals the one
+ * with the lower level at the first cell that differs. What a page costs is the sum of the steps that its cells climb.
+ * A step from level 0 to 1 costs 16, from 1 to 2 costs 20, from 2 to 3 costs 28: the house's weights. The calls that
+ * end in _weighted, price and write with a map, and the two calls for a list of writes take three others, from the
+ * flash part's data sheet: with them cheapest is meant in these. Whether a page is spent does not depend on them, and
+ * calls with any weights may follow each other on one page.
  *
  * ARGUMENTS, the same in every call
  *   code      SEGRUNOV_SHORT (3) or SEGRUNOV_LONG (7)
@@ -18,43 +20,50 @@
  *   map       2*L*S bytes, map_len of them: a bit for each cell of the page, and a one marks the cell
  *   data      L*S bytes, data_len of them, strip 0 first; of a list count*L*S bytes, one data after another
  *   tenths    the temperature in tenths of a degree Celsius
- * Every value of the types is allowed and answered; no call asks anything of a number. A pointer must lead to as many bytes as its length says; with
- * length 0 it may be NULL. Buffers of one call must not overlap, the map and the page neither, and nobody else may write to them during the call.
+ * Every value of the types is allowed and answered; no call asks anything of a number. A pointer must lead to as many
+ * bytes as its length says; with length 0 it may be NULL. Buffers of one call must not overlap, the map and the page
+ * neither, and nobody else may write to them during the call.
  *
- * THE ANSWER is one number. SEGRUNOV_NUMBER, 8 bits of it, is 0 where the call is done, else the number of the refusal. SEGRUNOV_VALUE, its lower
- * half, is the cost of a write or price that is done, the strip's number where the page is spent, and 0 in every other case. The one exception is a
- * list's answer: where the page is spent, its value is the cost of what was written before, and the strip has a field of its own.
- * The grounds that a call has are tested in the order 1, 2, 3, 9, 10, 4, 11, 5, 7, 8, and the first that applies is the answer. With any refusal no
- * byte is changed: not the page, not the data, not the buffer, also not the strips before a spent one. The one exception is a list with a 7: the page
- * keeps what was written before. No call changes a map, and none but a read changes data.
+ * THE ANSWER is one number. SEGRUNOV_NUMBER, 8 bits of it, is 0 where the call is done, else the number of the refusal.
+ * SEGRUNOV_VALUE, its lower half, is the cost of a write or price that is done, the strip's number where the page is
+ * spent, and 0 in every other case. The one exception is a list's answer: where the page is spent, its value is the
+ * cost of what was written before, and the strip has a field of its own. The grounds that a call has are tested in the
+ * order 1, 2, 3, 9, 10, 4, 11, 5, 7, 8, and the first that applies is the answer. With any refusal no byte is changed:
+ * not the page, not the data, not the buffer, also not the strips before a spent one. The one exception is a list with
+ * a 7: the page keeps what was written before. No call changes a map, and none but a read changes data.
  *
- * LISTS. segrunov_write_list and segrunov_write_list_mapped write from 1 to 64 datas into one page, one after another. The page afterwards, the
- * number written and the summed cost are those of single writes in that order, by segrunov_write_weighted and segrunov_write_mapped. A list stops
- * before the first data for which the page is spent, also where a later one would fit. Its answer has four fields:
+ * LISTS. segrunov_write_list and segrunov_write_list_mapped write from 1 to 64 datas into one page, one after another.
+ * The page afterwards, the number written and the summed cost are those of single writes in that order, by
+ * segrunov_write_weighted and segrunov_write_mapped. A list stops before the first data for which the page is spent,
+ * also where a later one would fit. Its answer has four fields:
  *   SEGRUNOV_VALUE        the summed cost of the datas written, also where the page is spent
  *   SEGRUNOV_NUMBER       0 where all of them are written, else the number of the refusal
  *   SEGRUNOV_WRITTEN      the number written: the count with a 0, less than it with a 7, 0 with every other refusal
  *   SEGRUNOV_SPENT_STRIP  with a 7 the lowest strip that takes no pattern, else 0
- * After a 7 with some written, the page reads as the last of these and is to be programmed. Once it is erased, the list goes on with the data at byte
- * SEGRUNOV_WRITTEN*L*S, and its count is less by SEGRUNOV_WRITTEN (examples/relay.c). No field can run into the next one: a list costs at most
- * 64 * 16,711,680, which is SEGRUNOV_MAX_LIST_COST. The answers of all other calls have 0 in the last two fields.
- * Before version 1.3.0 SEGRUNOV_NUMBER was the whole upper half. Whoever kept that macro must not use it on a list's answer; on the answers of the
- * calls that there were it gives what this one gives, and nothing changes for their callers.
+ * After a 7 with some written, the page reads as the last of these and is to be programmed. Once it is erased, the list
+ * goes on with the data at byte SEGRUNOV_WRITTEN*L*S, and its count is less by SEGRUNOV_WRITTEN (examples/relay.c). No
+ * field can run into the next one: a list costs at most 64 * 16,711,680, which is SEGRUNOV_MAX_LIST_COST. The answers
+ * of all other calls have 0 in the last two fields. Before version 1.3.0 SEGRUNOV_NUMBER was the whole upper half.
+ * Whoever kept that macro must not use it on a list's answer; on the answers of the calls that there were it gives what
+ * this one gives, and nothing changes for their callers.
  *
- * WHICH BITS. Bit k of a strip is bit k mod 8 of its byte k div 8, bit 0 being worth 1, and its cell c is the bits 3*c, 3*c+1 and 3*c+2. A raise of the
- * cell turns one zero into a one: it starts at bit c mod 3 of these three, c being the cell's number in its strip, and goes round them until it meets a
- * zero, so that neighbouring bits wear evenly. A cell that isn't raised keeps its bits. Versions before 1.1.1 took the lowest zero of every cell. What a
- * page reads as, what a write costs, which levels it leaves and whether it is spent go by the levels alone: a page written by an older version needs
- * nothing, and an older version reads and writes the pages of this one.
+ * WHICH BITS. Bit k of a strip is bit k mod 8 of its byte k div 8, bit 0 being worth 1, and its cell c is the bits 3*c,
+ * 3*c+1 and 3*c+2. A raise of the cell turns one zero into a one: it starts at bit c mod 3 of these three, c being the
+ * cell's number in its strip, and goes round them until it meets a zero, so that neighbouring bits wear evenly. A cell
+ * that isn't raised keeps its bits. Versions before 1.1.1 took the lowest zero of every cell. What a page reads as,
+ * what a write costs, which levels it leaves and whether it is spent go by the levels alone: a page written by an older
+ * version needs nothing, and an older version reads and writes the pages of this one.
  *
- * MARKED CELLS. Old parts have cells that hold their level through writes and erases. The calls that end in _mapped take a map of them: cell c of
- * strip k is map bit 16*L*k + c, and bit n of the map is bit n mod 8 of its byte n div 8, bit 0 being worth 1; a one marks the cell. A marked cell
- * keeps its three bits, in a write and in an erase, whatever they are. Cheapest, ties and spent are judged among the pages that also leave every
- * marked cell at its level: one that shows the bit that is wanted serves as it is and costs nothing. So an erased page can be spent, and another
- * erase does not help: with every cell marked at level 0 it takes only zeros. A call without a map means a map with no cell marked: with a map of
- * zeros a call that takes one is the call that takes none, answer and page. Marking more cells never makes a write cheaper, and never makes a spent
- * page take the data. The map may be another one in each call, as cells wear out; examples/worn.c finds them, and keeps the map beside the page. What
- * a page reads as goes by all its cells, so segrunov_read takes no map.
+ * MARKED CELLS. Old parts have cells that hold their level through writes and erases. The calls that end in _mapped
+ * take a map of them: cell c of strip k is map bit 16*L*k + c, and bit n of the map is bit n mod 8 of its byte n div 8,
+ * bit 0 being worth 1; a one marks the cell. A marked cell keeps its three bits, in a write and in an erase, whatever
+ * they are. Cheapest, ties and spent are judged among the pages that also leave every marked cell at its level: one
+ * that shows the bit that is wanted serves as it is and costs nothing. So an erased page can be spent, and another
+ * erase does not help: with every cell marked at level 0 it takes only zeros. A call without a map means a map with no
+ * cell marked: with a map of zeros a call that takes one is the call that takes none, answer and page. Marking more
+ * cells never makes a write cheaper, and never makes a spent page take the data. The map may be another one in each
+ * call, as cells wear out; examples/worn.c finds them, and keeps the map beside the page. What a page reads as goes by
+ * all its cells, so segrunov_read takes no map.
  *
  * CERTAIN WRITES. With no cell marked, the first SEGRUNOV_CERTAIN_WRITES (3) writes after an erase are never spent,
  * whatever the data, the code, the size and the weights; so a list of three is written whole. The k-th of them costs at
@@ -63,13 +72,13 @@
  * data bit 0 of a strip, which is bit 0 of its first byte, changes at most SEGRUNOV_FIRST_BIT_CHANGES (6) times between
  * erases. Bits that change often belong late in a strip.
  *
- * THE FLASH. An erased page is zeros here, and a write turns zeros into ones. Nearly every NOR part has it the other way: an erase makes ones, and
- * programming turns ones into zeros. Its driver complements every byte, on load and on program (examples/relay.c); the calls need not know. No bit has
- * to go back before the next erase, but words are programmed again: a part that takes a word once only, as with error correction over each word, does
- * not serve.
+ * THE FLASH. An erased page is zeros here, and a write turns zeros into ones. Nearly every NOR part has it the other
+ * way: an erase makes ones, and programming turns ones into zeros. Its driver complements every byte, on load and on
+ * program (examples/relay.c); the calls need not know. No bit has to go back before the next erase, but words are
+ * programmed again: a part that takes a word once only, as with error correction over each word, does not serve.
  *
- * RESOURCES. No heap, no global state, no lock: calls on different buffers may run at the same time. Every call returns. Stack: SEGRUNOV_STACK
- * bytes at most. The C library must supply memcpy and memset; nothing else is needed.
+ * RESOURCES. No heap, no global state, no lock: calls on different buffers may run at the same time. Every call
+ * returns. Stack: SEGRUNOV_STACK bytes at most. The C library must supply memcpy and memset; nothing else is needed.
  */
 #ifndef SEGRUNOV_H
 #define SEGRUNOV_H
@@ -81,7 +90,8 @@
 extern "C" {
 #endif
 
-/* The version: its first number changes where a caller has to change, its second where there is more to call, else its third. */
+/* The version: its first number changes where a caller has to change, its second where there is more to call, else its
+ * third. */
 #define SEGRUNOV_VERSION "1.3.1"
 
 /* The two codes. */
@@ -100,8 +110,8 @@ extern "C" {
 #define SEGRUNOV_WRITTEN(answer) ((uint32_t)((answer) >> 40 & UINT64_C(0xff)))
 #define SEGRUNOV_SPENT_STRIP(answer) ((uint32_t)((answer) >> 48))
 
-/* The numbers of an answer: 1 to 5 and 9 to 11 from the input, tested in the order 1, 2, 3, 9, 10, 4, 11, 5; 7 and 8 from the state, after those. 6
- * belongs to the run program. */
+/* The numbers of an answer: 1 to 5 and 9 to 11 from the input, tested in the order 1, 2, 3, 9, 10, 4, 11, 5; 7 and 8
+ * from the state, after those. 6 belongs to the run program. */
 #define SEGRUNOV_DONE UINT32_C(0)
 #define SEGRUNOV_CODE UINT32_C(1)        /* the code is neither 3 nor 7 */
 #define SEGRUNOV_BYTES UINT32_C(2)       /* L is not from 1 to 64 */
@@ -122,8 +132,8 @@ extern "C" {
 /* The most datas of a list. */
 #define SEGRUNOV_MAX_LIST UINT32_C(64)
 
-/* The most that one write costs, with the house's weights and with any, the most that a list costs, and the stack that a call needs at most, in
- * bytes. */
+/* The most that one write costs, with the house's weights and with any, the most that a list costs, and the stack that
+ * a call needs at most, in bytes. */
 #define SEGRUNOV_MAX_COST UINT32_C(1835008)
 #define SEGRUNOV_MAX_WEIGHTED_COST UINT32_C(16711680)
 #define SEGRUNOV_MAX_LIST_COST UINT32_C(1069547520)
@@ -141,40 +151,46 @@ uint64_t segrunov_read(uint32_t code, uint32_t bytes, uint32_t strips, const uin
 /* The answer that segrunov_write gives on the same input. Nothing is changed. Refused by 1 to 5 and 7. */
 uint64_t segrunov_price(uint32_t code, uint32_t bytes, uint32_t strips, const uint8_t *page, size_t page_len, const uint8_t *data, size_t data_len);
 
-/* Writes the data into the page at the least cost. Refused by 1 to 5 and 7; the value of a 7 is the lowest strip that takes no pattern. The first
- * three writes after an erase are not refused by 7, and cost at most 128*L*S, 160*L*S and 224*L*S: CERTAIN WRITES, above. */
+/* Writes the data into the page at the least cost. Refused by 1 to 5 and 7; the value of a 7 is the lowest strip that
+ * takes no pattern. The first three writes after an erase are not refused by 7, and cost at most 128*L*S, 160*L*S and
+ * 224*L*S: CERTAIN WRITES, above. */
 uint64_t segrunov_write(uint32_t code, uint32_t bytes, uint32_t strips, uint8_t *page, size_t page_len, const uint8_t *data, size_t data_len);
 
 /* The answer that segrunov_write_weighted gives on the same input. Nothing is changed. Refused by 1 to 5, 7 and 9. */
 uint64_t segrunov_price_weighted(uint32_t code, uint32_t bytes, uint32_t strips, uint8_t w1, uint8_t w2, uint8_t w3, const uint8_t *page, size_t page_len, const uint8_t *data, size_t data_len);
 
-/* Writes the data into the page at the least cost in the weights given. Refused by 1 to 5, 7 and 9. With the house's weights it is segrunov_write. */
+/* Writes the data into the page at the least cost in the weights given. Refused by 1 to 5, 7 and 9. With the house's
+ * weights it is segrunov_write. */
 uint64_t segrunov_write_weighted(uint32_t code, uint32_t bytes, uint32_t strips, uint8_t w1, uint8_t w2, uint8_t w3, uint8_t *page, size_t page_len, const uint8_t *data, size_t data_len);
 
-/* Writes the datas one after another, each as segrunov_write_weighted, and stops before the first for which the page is spent. Refused by 1, 2, 3, 9,
- * 10, 4, 5 and 7, tested in this order; a 7 leaves what was written before it. */
+/* Writes the datas one after another, each as segrunov_write_weighted, and stops before the first for which the page is
+ * spent. Refused by 1, 2, 3, 9, 10, 4, 5 and 7, tested in this order; a 7 leaves what was written before it. */
 uint64_t segrunov_write_list(uint32_t code, uint32_t bytes, uint32_t strips, uint8_t w1, uint8_t w2, uint8_t w3, uint32_t count, uint8_t *page, size_t page_len, const uint8_t *data, size_t data_len);
 
 /* Makes every byte of the page 0. Refused by 2 to 4 and 8. */
 uint64_t segrunov_erase(uint32_t bytes, uint32_t strips, uint8_t *page, size_t page_len, int16_t tenths);
 
-/* The four calls with a map of the cells that no longer move: cell c of strip k is map bit 16*L*k + c. The map must not overlap the page, and is not
- * changed. A map of another length is refused by 11, so also (NULL, 0): where no cell is marked, the map is zeros or the call one without a map. */
+/* The four calls with a map of the cells that no longer move: cell c of strip k is map bit 16*L*k + c. The map must not
+ * overlap the page, and is not changed. A map of another length is refused by 11, so also (NULL, 0): where no cell is
+ * marked, the map is zeros or the call one without a map. */
 
-/* The answer that segrunov_write_mapped gives on the same input. Nothing is changed. Refused by 1, 2, 3, 9, 4, 11, 5 and 7, tested in this order. */
+/* The answer that segrunov_write_mapped gives on the same input. Nothing is changed. Refused by 1, 2, 3, 9, 4, 11, 5
+ * and 7, tested in this order. */
 uint64_t segrunov_price_mapped(uint32_t code, uint32_t bytes, uint32_t strips, uint8_t w1, uint8_t w2, uint8_t w3, const uint8_t *page, size_t page_len, const uint8_t *map, size_t map_len, const uint8_t *data, size_t data_len);
 
-/* Writes the data into the page at the least cost in the weights given, and raises no marked cell. Refused by 1, 2, 3, 9, 4, 11, 5 and 7, tested in
- * this order. An erased page can be spent too, and another erase does not help it. With a map of zeros it is segrunov_write_weighted. */
+/* Writes the data into the page at the least cost in the weights given, and raises no marked cell. Refused by 1, 2, 3,
+ * 9, 4, 11, 5 and 7, tested in this order. An erased page can be spent too, and another erase does not help it. With a
+ * map of zeros it is segrunov_write_weighted. */
 uint64_t segrunov_write_mapped(uint32_t code, uint32_t bytes, uint32_t strips, uint8_t w1, uint8_t w2, uint8_t w3, uint8_t *page, size_t page_len, const uint8_t *map, size_t map_len, const uint8_t *data, size_t data_len);
 
-/* Writes the datas one after another, each as segrunov_write_mapped with this map, and stops before the first for which the page is spent. Refused by
- * 1, 2, 3, 9, 10, 4, 11, 5 and 7, tested in this order; a 7 leaves what was written before it. An erased page can be spent too: a 7 with nothing
- * written right after an erase says that another does not help. With a map of zeros it is segrunov_write_list. */
+/* Writes the datas one after another, each as segrunov_write_mapped with this map, and stops before the first for which
+ * the page is spent. Refused by 1, 2, 3, 9, 10, 4, 11, 5 and 7, tested in this order; a 7 leaves what was written
+ * before it. An erased page can be spent too: a 7 with nothing written right after an erase says that another does not
+ * help. With a map of zeros it is segrunov_write_list. */
 uint64_t segrunov_write_list_mapped(uint32_t code, uint32_t bytes, uint32_t strips, uint8_t w1, uint8_t w2, uint8_t w3, uint32_t count, uint8_t *page, size_t page_len, const uint8_t *map, size_t map_len, const uint8_t *data, size_t data_len);
 
-/* Makes the three bits of every cell 0 that is not marked, and leaves those of the marked ones. Refused by 2, 3, 4, 11 and 8, tested in this order.
- * With a map of zeros it is segrunov_erase. */
+/* Makes the three bits of every cell 0 that is not marked, and leaves those of the marked ones. Refused by 2, 3, 4, 11
+ * and 8, tested in this order. With a map of zeros it is segrunov_erase. */
 uint64_t segrunov_erase_mapped(uint32_t bytes, uint32_t strips, uint8_t *page, size_t page_len, const uint8_t *map, size_t map_len, int16_t tenths);
 
 #ifdef __cplusplus

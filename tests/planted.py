@@ -144,6 +144,11 @@ FAULTS = {
         ("2 cells in a table of 3 columns", row("| planted | |")),
         ("no row names text/must-fail/planted", append("crates/text/must-fail/planted.edit", "")),
     ],
+    "prose.py": [
+        ("README.md:", append("README.md", "word " * 25 + "\n")),
+        ("docs/changes/K8.md:", append("docs/changes/K8.md", "- " + "word " * 24 + "\n")),
+        ("include/segrunov.h:", change("include/segrunov.h", r"^ \* THE FLASH\.", " * " + "word " * 25)),
+    ],
     "header.py": [
         ("SEGRUNOV_MAX_COST is 1835007,", change("include/segrunov.h", "1835008", "1835007")),
         ("SEGRUNOV_MAX_COST is 1835008,", change("crates/page_promises/specs/Writes.antt", r"^largestCost = .*", "largestCost = 1835009")),
