@@ -21,7 +21,8 @@ use Rattle.demand.specs.Computed.{stripBytes, stripWrite, pageWrite}
 use Rattle.demand.proofs.Jobs.{part-level}
 
 pub page-within : (J : Job) → InOrder J → meaningOf (J .layout) ≡ parity (J .layout .cells)
-    → Each OneFirst (encoderOf (J .code) .others) → Dear (stepsOf (J .weights)) → (k w : ℕ) → k ≤ 3 → ((l : ℕ) → l < k → weightOf (J .weights) l ≤ w)
+    → Each OneFirst (encoderOf (J .code) .others) → Dear (stepsOf (J .weights)) → (k w : ℕ) → k ≤ 3
+    → ((l : ℕ) → l < k → weightOf (J .weights) l ≤ w)
     → ((c : ℕ) → c < pageCells J → (J .marks c ≡ false) × (level (J .page) c < k))
     → Within (J .strips * (stageCount (J .layout) (J .bytes) * (J .layout .cells / 2 * w))) (pageWrite J)
 unfolding pageWrite stripWrite stripBytes

@@ -85,7 +85,8 @@ loop-again c =
     let l = c .before .before .before in
     let a = l .before .before .before .before .before .args in
     let s = shape-in-order (a .bytes) (a .strips) (length (a .page .now)) (shape-none (l .before)) in
-    let t = strip-there (a .bytes) (a .strips) (l .loop .k) (a .page .now) (s .bytes-in) (s .page-is) (c .before .before .loop-test .taken) in
+    let t = strip-there (a .bytes) (a .strips) (l .loop .k) (a .page .now) (s .bytes-in) (s .page-is)
+    (c .before .before .loop-test .taken) in
     let r =
     c .row-of .ensures ∙ ap (λ (x : List ℕ). rowOf (16 * a .bytes) (level x)) (c .before .strip .ensures .0 ∙ t)
     ∙ ap (λ (n : ℕ). rowOf n (level (part (byteCount oneBit (a .bytes)) (l .loop .k) (a .page .now)))) (sym (oneBit-cells (a .bytes)))
