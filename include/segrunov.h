@@ -146,29 +146,29 @@ extern "C" {
 #define SEGRUNOV_FIRST_BIT_CHANGES UINT32_C(6)
 
 /* Fills the buffer with what the page reads as. Refused by 1 to 5. */
-uint64_t segrunov_read(uint32_t code, uint32_t bytes, uint32_t strips, const uint8_t *page, size_t page_len, uint8_t *data, size_t data_len);
+uint64_t segrunov_read(uint32_t code, uint32_t bytes, uint32_t strips, const uint8_t *page, uint64_t page_len, uint8_t *data, uint64_t data_len);
 
 /* The answer that segrunov_write gives on the same input. Nothing is changed. Refused by 1 to 5 and 7. */
-uint64_t segrunov_price(uint32_t code, uint32_t bytes, uint32_t strips, const uint8_t *page, size_t page_len, const uint8_t *data, size_t data_len);
+uint64_t segrunov_price(uint32_t code, uint32_t bytes, uint32_t strips, const uint8_t *page, uint64_t page_len, const uint8_t *data, uint64_t data_len);
 
 /* Writes the data into the page at the least cost. Refused by 1 to 5 and 7; the value of a 7 is the lowest strip that
  * takes no pattern. The first three writes after an erase are not refused by 7, and cost at most 128*L*S, 160*L*S and
  * 224*L*S: CERTAIN WRITES, above. */
-uint64_t segrunov_write(uint32_t code, uint32_t bytes, uint32_t strips, uint8_t *page, size_t page_len, const uint8_t *data, size_t data_len);
+uint64_t segrunov_write(uint32_t code, uint32_t bytes, uint32_t strips, uint8_t *page, uint64_t page_len, const uint8_t *data, uint64_t data_len);
 
 /* The answer that segrunov_write_weighted gives on the same input. Nothing is changed. Refused by 1 to 5, 7 and 9. */
-uint64_t segrunov_price_weighted(uint32_t code, uint32_t bytes, uint32_t strips, uint8_t w1, uint8_t w2, uint8_t w3, const uint8_t *page, size_t page_len, const uint8_t *data, size_t data_len);
+uint64_t segrunov_price_weighted(uint32_t code, uint32_t bytes, uint32_t strips, uint8_t w1, uint8_t w2, uint8_t w3, const uint8_t *page, uint64_t page_len, const uint8_t *data, uint64_t data_len);
 
 /* Writes the data into the page at the least cost in the weights given. Refused by 1 to 5, 7 and 9. With the house's
  * weights it is segrunov_write. */
-uint64_t segrunov_write_weighted(uint32_t code, uint32_t bytes, uint32_t strips, uint8_t w1, uint8_t w2, uint8_t w3, uint8_t *page, size_t page_len, const uint8_t *data, size_t data_len);
+uint64_t segrunov_write_weighted(uint32_t code, uint32_t bytes, uint32_t strips, uint8_t w1, uint8_t w2, uint8_t w3, uint8_t *page, uint64_t page_len, const uint8_t *data, uint64_t data_len);
 
 /* Writes the datas one after another, each as segrunov_write_weighted, and stops before the first for which the page is
  * spent. Refused by 1, 2, 3, 9, 10, 4, 5 and 7, tested in this order; a 7 leaves what was written before it. */
-uint64_t segrunov_write_list(uint32_t code, uint32_t bytes, uint32_t strips, uint8_t w1, uint8_t w2, uint8_t w3, uint32_t count, uint8_t *page, size_t page_len, const uint8_t *data, size_t data_len);
+uint64_t segrunov_write_list(uint32_t code, uint32_t bytes, uint32_t strips, uint8_t w1, uint8_t w2, uint8_t w3, uint32_t count, uint8_t *page, uint64_t page_len, const uint8_t *data, uint64_t data_len);
 
 /* Makes every byte of the page 0. Refused by 2 to 4 and 8. */
-uint64_t segrunov_erase(uint32_t bytes, uint32_t strips, uint8_t *page, size_t page_len, int16_t tenths);
+uint64_t segrunov_erase(uint32_t bytes, uint32_t strips, uint8_t *page, uint64_t page_len, int16_t tenths);
 
 /* The four calls with a map of the cells that no longer move: cell c of strip k is map bit 16*L*k + c. The map must not
  * overlap the page, and is not changed. A map of another length is refused by 11, so also (NULL, 0): where no cell is
@@ -176,22 +176,22 @@ uint64_t segrunov_erase(uint32_t bytes, uint32_t strips, uint8_t *page, size_t p
 
 /* The answer that segrunov_write_mapped gives on the same input. Nothing is changed. Refused by 1, 2, 3, 9, 4, 11, 5
  * and 7, tested in this order. */
-uint64_t segrunov_price_mapped(uint32_t code, uint32_t bytes, uint32_t strips, uint8_t w1, uint8_t w2, uint8_t w3, const uint8_t *page, size_t page_len, const uint8_t *map, size_t map_len, const uint8_t *data, size_t data_len);
+uint64_t segrunov_price_mapped(uint32_t code, uint32_t bytes, uint32_t strips, uint8_t w1, uint8_t w2, uint8_t w3, const uint8_t *page, uint64_t page_len, const uint8_t *map, uint64_t map_len, const uint8_t *data, uint64_t data_len);
 
 /* Writes the data into the page at the least cost in the weights given, and raises no marked cell. Refused by 1, 2, 3,
  * 9, 4, 11, 5 and 7, tested in this order. An erased page can be spent too, and another erase does not help it. With a
  * map of zeros it is segrunov_write_weighted. */
-uint64_t segrunov_write_mapped(uint32_t code, uint32_t bytes, uint32_t strips, uint8_t w1, uint8_t w2, uint8_t w3, uint8_t *page, size_t page_len, const uint8_t *map, size_t map_len, const uint8_t *data, size_t data_len);
+uint64_t segrunov_write_mapped(uint32_t code, uint32_t bytes, uint32_t strips, uint8_t w1, uint8_t w2, uint8_t w3, uint8_t *page, uint64_t page_len, const uint8_t *map, uint64_t map_len, const uint8_t *data, uint64_t data_len);
 
 /* Writes the datas one after another, each as segrunov_write_mapped with this map, and stops before the first for which
  * the page is spent. Refused by 1, 2, 3, 9, 10, 4, 11, 5 and 7, tested in this order; a 7 leaves what was written
  * before it. An erased page can be spent too: a 7 with nothing written right after an erase says that another does not
  * help. With a map of zeros it is segrunov_write_list. */
-uint64_t segrunov_write_list_mapped(uint32_t code, uint32_t bytes, uint32_t strips, uint8_t w1, uint8_t w2, uint8_t w3, uint32_t count, uint8_t *page, size_t page_len, const uint8_t *map, size_t map_len, const uint8_t *data, size_t data_len);
+uint64_t segrunov_write_list_mapped(uint32_t code, uint32_t bytes, uint32_t strips, uint8_t w1, uint8_t w2, uint8_t w3, uint32_t count, uint8_t *page, uint64_t page_len, const uint8_t *map, uint64_t map_len, const uint8_t *data, uint64_t data_len);
 
 /* Makes the three bits of every cell 0 that is not marked, and leaves those of the marked ones. Refused by 2, 3, 4, 11
  * and 8, tested in this order. With a map of zeros it is segrunov_erase. */
-uint64_t segrunov_erase_mapped(uint32_t bytes, uint32_t strips, uint8_t *page, size_t page_len, const uint8_t *map, size_t map_len, int16_t tenths);
+uint64_t segrunov_erase_mapped(uint32_t bytes, uint32_t strips, uint8_t *page, uint64_t page_len, const uint8_t *map, uint64_t map_len, int16_t tenths);
 
 #ifdef __cplusplus
 }
