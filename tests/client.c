@@ -4,7 +4,8 @@
  * firmware would call it: refusals in their order, nothing changed by them, guard bytes around every buffer. The exit
  * status is 0 where every check holds.
  *
- * With FREESTANDING it is built with no C library: it brings the two functions that the archive needs, and ends by the system's exit.
+ * With FREESTANDING it is built with no C library: it brings what the archive needs of one, and ends by the system's exit, on a bare board by
+ * semihosting's. Where the processor does not divide 64 bits, the compiler's own library does it (libgcc).
  */
 #include "segrunov.h"
 
@@ -1498,11 +1499,21 @@ static void all(void)
 
 #ifdef FREESTANDING
 
+/* What goes by the names of ARM's EABI there, without an operating system. */
+#if defined(__arm__) && !defined(__linux__)
+#define BARE_ARM
+#endif
+
 #ifdef __cplusplus
 extern "C" {
 #endif
 void *memcpy(void *to, const void *from, size_t n);
 void *memset(void *to, int value, size_t n);
+#ifdef BARE_ARM
+void __aeabi_memcpy(void *to, const void *from, size_t n);
+void __aeabi_memclr(void *to, size_t n);
+void __aeabi_memclr4(void *to, size_t n);
+#endif
 void _start(void);
 #ifdef __cplusplus
 }
@@ -1527,6 +1538,23 @@ void *memset(void *to, int value, size_t n)
     return to;
 }
 
+#ifdef BARE_ARM
+void __aeabi_memcpy(void *to, const void *from, size_t n)
+{
+    (void)memcpy(to, from, n);
+}
+
+void __aeabi_memclr(void *to, size_t n)
+{
+    (void)memset(to, 0, n);
+}
+
+void __aeabi_memclr4(void *to, size_t n)
+{
+    (void)memset(to, 0, n);
+}
+#endif
+
 static void report(const char *what, int result)
 {
     (void)what;
@@ -1535,13 +1563,32 @@ static void report(const char *what, int result)
 
 static void leave(long status)
 {
+#if defined(__x86_64__)
     __asm__ volatile("syscall" : : "a"(60L), "D"(status) : "rcx", "r11", "memory");
+#elif defined(__aarch64__)
+    register long number __asm__("x8") = 93, first __asm__("x0") = status;
+    __asm__ volatile("svc #0" : : "r"(number), "r"(first) : "memory");
+#elif defined(__powerpc__)
+    register long number __asm__("r0") = 1, first __asm__("r3") = status;
+    __asm__ volatile("sc" : : "r"(number), "r"(first) : "memory");
+#elif defined(__riscv)
+    register long number __asm__("a7") = 93, first __asm__("a0") = status;
+    __asm__ volatile("ecall" : : "r"(number), "r"(first) : "memory");
+#elif defined(BARE_ARM)
+    register long number __asm__("r0") = 0x18, reason __asm__("r1") = status == 0 ? 0x20026 : 0x20023;
+    __asm__ volatile("bkpt 0xab" : : "r"(number), "r"(reason) : "memory");
+#elif defined(__arm__)
+    register long number __asm__("r7") = 1, first __asm__("r0") = status;
+    __asm__ volatile("svc #0" : : "r"(number), "r"(first) : "memory");
+#endif
 }
 
 void _start(void)
 {
+#ifdef __x86_64__
     /* The system enters with the stack at a multiple of 16, where a function expects it eight below. */
     __asm__ volatile("andq $-16, %rsp");
+#endif
     all();
     leave(failures == 0 && checks > 0 ? 0 : 1);
     for (;;) {

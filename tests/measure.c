@@ -1,18 +1,21 @@
 /*
  * Measures each call: the most stack that it needs, over both codes and the ends of L and S, and its time on the largest page. A list has two datas.
- * Fails where a call is refused or needs more stack than SEGRUNOV_STACK says, and where a price needs more than 2 KiB, or not the same for L = 1 and
- * L = 64: it keeps no array with a place for each stage or cell.
+ * Fails where a call is refused or needs more stack than SEGRUNOV_STACK says, and where a price needs more than PRICE_STACK, or not the same for L = 1
+ * and L = 64: it keeps no array with a place for each stage or cell.
  */
 #define _POSIX_C_SOURCE 200809L
 #define _XOPEN_SOURCE 700
 #include <stdio.h>
 #include <string.h>
-#include <time.h>
-#include <ucontext.h>
 
+#include "board.h"
 #include "segrunov.h"
 
-enum { MOST = 64, LISTED = 2, STACK = 1 << 16, PRICE_STACK = 2048, ROUNDS = 40 };
+#ifndef PRICE_STACK
+#define PRICE_STACK 2048 /* x86-64's; other processors have their own (tests/processors) */
+#endif
+
+enum { MOST = 64, LISTED = 2, STACK = 1 << 16 };
 
 static const uint8_t PAINT = 0xc3;
 static const uint32_t CODES[] = {SEGRUNOV_SHORT, SEGRUNOV_LONG};
@@ -26,7 +29,6 @@ static uint8_t data[SEGRUNOV_LIST_BYTES(LISTED, MOST, MOST)];
 static uint64_t answer;
 
 static uint8_t stack[STACK];
-static ucontext_t outside, inside;
 static int failed;
 
 static size_t page_bytes(void)
@@ -159,12 +161,7 @@ static size_t touched(void (*make)(void))
 {
     size_t clean = 0;
     memset(stack, PAINT, sizeof stack);
-    (void)getcontext(&inside);
-    inside.uc_stack.ss_sp = stack;
-    inside.uc_stack.ss_size = sizeof stack;
-    inside.uc_link = &outside;
-    makecontext(&inside, make, 0);
-    (void)swapcontext(&outside, &inside);
+    on_stack(make, stack, sizeof stack);
     while (clean < sizeof stack && stack[clean] == PAINT) {
         clean++;
     }
@@ -194,31 +191,22 @@ static size_t needed(const struct call *call, uint32_t c, uint32_t l, uint32_t s
     return all - nothing;
 }
 
-static double seconds(void)
+/* The least time of a call with this code on the largest page. */
+static double least_time(const struct call *call, uint32_t c)
 {
-    struct timespec now;
-    (void)clock_gettime(CLOCK_MONOTONIC, &now);
-    return (double)now.tv_sec + 1e-9 * (double)now.tv_nsec;
-}
-
-/* The least time of a call on the largest page, code 7, in milliseconds. */
-static double least_time(const struct call *call)
-{
-    double least = 1e9;
+    double least = 1e12;
     int i;
-    code = SEGRUNOV_LONG;
+    code = c;
     bytes = strips = MOST;
     for (i = 0; i < ROUNDS; i++) {
-        double began, took;
+        double took;
         renew();
-        began = seconds();
-        call->make();
-        took = seconds() - began;
+        took = elapsed(call->make);
         if (took < least) {
             least = took;
         }
     }
-    return least * 1e3;
+    return least;
 }
 
 static size_t greater(size_t a, size_t b)
@@ -254,8 +242,12 @@ int main(void)
     for (i = 0; i < sizeof CALLS / sizeof *CALLS; i++) {
         const struct call *call = &CALLS[i];
         const size_t most = most_needed(call);
-        printf("%-17s  stack %5zu bytes   %8.3f ms for a page of 64 strips of 64 bytes, code 7%s\n", call->name, most, least_time(call),
-               is_list(call) ? ", two datas" : "");
+        printf("%-17s  stack %5u bytes", call->name, (unsigned)most);
+        if (ROUNDS > 0) {
+            printf("   64 strips of 64 bytes%s: code 3 " CLOCK ", code 7 " CLOCK, is_list(call) ? ", two datas" : "",
+                   least_time(call, SEGRUNOV_SHORT), least_time(call, SEGRUNOV_LONG));
+        }
+        printf("\n");
     }
     return failed;
 }
