@@ -1577,9 +1577,6 @@ static void leave(long status)
 #elif defined(BARE_ARM)
     register long number __asm__("r0") = 0x18, reason __asm__("r1") = status == 0 ? 0x20026 : 0x20023;
     __asm__ volatile("bkpt 0xab" : : "r"(number), "r"(reason) : "memory");
-#elif defined(__arm__)
-    register long number __asm__("r7") = 1, first __asm__("r0") = status;
-    __asm__ volatile("svc #0" : : "r"(number), "r"(first) : "memory");
 #endif
 }
 
