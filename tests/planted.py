@@ -280,6 +280,8 @@ FAULTS = {
         ("FAILED: rt ci tried every crate and every edit", change("bin/rt", f"{PROVED} passed", f"{PROVED - 1} passed")),
         ("FAILED: every must-fail edit is refused", delete(LOG)),
         ("FAILED: these checks find planted faults", append("tests/planted.py", "raise SystemExit(1)\n")),
+        ("FAILED: the clients on a PowerPC", append("tests/clients", '[ "$1" != powerpc-linux-gnu ] || exit 1\n')),
+        ("FAILED: these clients find planted faults", append("tests/planted_on", "exit 1\n")),
         ("FAILED: comparison with Boost.Graph", append("tests/build", '[ "$1" != compare ] || exit 1\n')),
         ("FAILED: the count", change("tests/gate", r"^    passed=.*", "    :")),
     ],
@@ -307,6 +309,8 @@ STAND_INS = {
     "planted.c": DONE + "".join(f"\n{call}\n{{\n    return done(64); /* {name} */\n}}\n" for call, name in CALLS),
     "tests/measured": 'cd "$(dirname "$0")/.." && gcc -Iinclude tests/measure.c planted.c -o target/measured && target/measured\n',
     "tests/install": "#!/bin/sh\n",
+    "tests/clients": "#!/bin/sh\n",
+    "tests/planted_on": "#!/bin/sh\n",
     "tests/planted.py": "",
     "tests/run.py": read("tests/run.py").replace("    sys.exit(main())\n", "    pass\n"),  # the model is there, the run program is not tried
 }
