@@ -2,7 +2,7 @@
 --   length-listOf   listOf n f has n places, and f i at place i (listOf-at)
 --   listOf-same     a list, a sum (sumOf-same) and a number (number-same) depend on their places alone
 --   listOf-getD     a list is the list of its places
---   sumOf-more      a sum by its last place; of zeros (-zero); by parts (-parts); of two sums (-add)
+--   sumOf-more      a sum by its last place; of zeros (-zero); of more places (-append); by parts (-parts); of two sums (-add)
 --   sumOf-le        a sum of n numbers that are at most k each
 --   number-more     a number by its last bit, and as the code adds them up (-next)
 --   number-less     n bits make a number below 2 ^ n, which fits n bits and more (-fits)
@@ -97,7 +97,7 @@ sumOf-add zero f g = refl
 sumOf-add (suc n) f g = omega (arith, sumOf-add n (λ i. f (suc i)) (λ i. g (suc i)))
 
 -- a sum of n places, and of m more
-sumOf-append : (n m : ℕ) (f : ℕ → ℕ) → sumOf (n + m) f ≡ sumOf n f + sumOf m (λ i. f (n + i))
+pub sumOf-append : (n m : ℕ) (f : ℕ → ℕ) → sumOf (n + m) f ≡ sumOf n f + sumOf m (λ i. f (n + i))
 unfolding sumOf
 sumOf-append zero m f = let e : 0 + m ≡ m = omega arith in rw e (omega (arith, sumOf-same m f (λ i. f (0 + i)) (λ i h. ap f (omega arith))))
 sumOf-append (suc n) m f =

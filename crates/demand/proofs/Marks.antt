@@ -23,11 +23,11 @@ use borrow.Author.Tests.{ltb-true, ltb-false}
 use Rattle.cells.specs.Places.{listOf}
 use Rattle.cells.specs.Bytes.{Octets}
 use Rattle.cells.specs.Levels.{level, SameLevels}
-use Rattle.cells.specs.Climbs.{costOf, weightOf}
-use Rattle.cells.proofs.Places.{same?, sumOf-zero}
+use Rattle.cells.specs.Climbs.{weightOf}
+use Rattle.cells.proofs.Places.{same?}
 use Rattle.cells.proofs.Levels.{levels-at}
 use Rattle.cells.proofs.Raising.{raisedTo-same, raisedTo-none}
-use Rattle.cells.proofs.Climbs.{climb-stay}
+use Rattle.cells.proofs.Climbs.{cost-stay}
 use Rattle.cells.proofs.Parts.{place-inside}
 use Rattle.codes.specs.Layouts.{byteCount}
 use Rattle.search.specs.Best.{Solution}
@@ -138,8 +138,8 @@ stay-could J e = record { size = refl; reads = e; no-lower = λ c h. omega arith
 
 -- at no cost
 stay-free : (J : Job) → jobCost J (J .page) ≡ 0
-unfolding jobCost costOf
-stay-free J = sumOf-zero (pageCells J) _ (λ c h. climb-stay (weightOf (J .weights)) (level (J .page) c))
+unfolding jobCost
+stay-free J = cost-stay (weightOf (J .weights)) (pageCells J) (J .page)
 
 module _ (J : Job) (I : InOrder J) (p : Could J (J .page)) {start : ℕ → ℕ} {after : List ℕ} {cost : ℕ}
     (best : Cheapest start J after cost) where
