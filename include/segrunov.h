@@ -42,10 +42,11 @@
  *   SEGRUNOV_SPENT_STRIP  with a 7 the lowest strip that takes no pattern, else 0
  * After a 7 with some written, the page reads as the last of these and is to be programmed. Once it is erased, the list
  * goes on with the data at byte SEGRUNOV_WRITTEN*L*S, and its count is less by SEGRUNOV_WRITTEN (examples/relay.c). No
- * field can run into the next one: a list costs at most 64 * 16,711,680, which is SEGRUNOV_MAX_LIST_COST. The answers
- * of all other calls have 0 in the last two fields. Before version 1.3.0 SEGRUNOV_NUMBER was the whole upper half.
- * Whoever kept that macro must not use it on a list's answer; on the answers of the calls that there were it gives what
- * this one gives, and nothing changes for their callers.
+ * field can run into the next one: no write lowers a cell, so a list costs at most 16*L*S*(w1 + w2 + w3), each step of
+ * each cell once, and never more than SEGRUNOV_MAX_LIST_COST. The answers of all other calls have 0 in the last two
+ * fields. Before version 1.3.0 SEGRUNOV_NUMBER was the whole upper half. Whoever kept that macro must not use it on a
+ * list's answer; on the answers of the calls that there were it gives what this one gives, and nothing changes for
+ * their callers.
  *
  * WHICH BITS. Bit k of a strip is bit k mod 8 of its byte k div 8, bit 0 being worth 1, and its cell c is the bits 3*c,
  * 3*c+1 and 3*c+2. A raise of the cell turns one zero into a one: it starts at bit c mod 3 of these three, c being the
@@ -132,11 +133,11 @@ extern "C" {
 /* The most datas of a list. */
 #define SEGRUNOV_MAX_LIST UINT32_C(64)
 
-/* The most that one write costs, with the house's weights and with any, the most that a list costs, and the stack that
- * a call needs at most, in bytes. */
+/* What one write costs at most, with the house's weights and with any, what a list costs at most, and the stack that a
+ * call needs at most, in bytes. */
 #define SEGRUNOV_MAX_COST UINT32_C(1835008)
 #define SEGRUNOV_MAX_WEIGHTED_COST UINT32_C(16711680)
-#define SEGRUNOV_MAX_LIST_COST UINT32_C(1069547520)
+#define SEGRUNOV_MAX_LIST_COST UINT32_C(50135040)
 #define SEGRUNOV_STACK 12288
 
 /* With no cell marked: the writes after an erase that are certain, and what the k-th of them costs at most, by the

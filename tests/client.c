@@ -779,7 +779,7 @@ static void dearest_lists(void)
     size_t c, i, j;
     for (c = 0; c < 2; c++) {
         const struct list l = {codes[c], MOST, MOST, {255, 255, 255}, MOST};
-        const uint64_t expected = list_answer(SEGRUNOV_DONE, 255u * 3u * LARGE_CELLS, MOST, 0);
+        const uint64_t expected = list_answer(SEGRUNOV_DONE, SEGRUNOV_MAX_LIST_COST, MOST, 0);
         int with_map;
         for (i = 0; i < LARGE; i++) {
             wanted[i] = 0;
@@ -797,6 +797,45 @@ static void dearest_lists(void)
                 page[i] = 0;
             }
             check(what, listed(&l, page, with_map ? map : NULL, data) == expected);
+            for (i = 0; i < LARGE; i++) {
+                others += page[i] != 0xff;
+            }
+            check(what, others == 0);
+        }
+    }
+}
+
+/* Weights, and what a write costs with them. */
+struct known_cost {
+    struct weights weights;
+    uint32_t cost;
+};
+
+/*
+ * A write that raises every second cell of the largest page: of each stage one cell is full and the other at level 2, and no other raises lead to
+ * what the full page reads as. Three edits in crates/page_promises/must-fail/ are false by these costs. As a price, and as a list of one.
+ */
+static void dearest_writes(void)
+{
+    static const struct known_cost KNOWN[] = {{HOUSE_WEIGHTS, 917504}, {{255, 255, 255}, 8355840}, {{1, 1, 255}, 8355840}};
+    static const uint32_t codes[2] = {SEGRUNOV_SHORT, SEGRUNOV_LONG};
+    static uint8_t page[LARGE], data[MOST * MOST];
+    const char *const what = "every second cell of the largest page, from level 2";
+    size_t c, i, n;
+    for (c = 0; c < 2; c++) {
+        for (n = 0; n < sizeof KNOWN / sizeof *KNOWN; n++) {
+            const struct list l = {codes[c], MOST, MOST, KNOWN[n].weights, 1};
+            const struct weights *const w = &l.weights;
+            unsigned others = 0;
+            for (i = 0; i < LARGE; i++) {
+                page[i] = 0xff;
+            }
+            check(what, segrunov_read(codes[c], MOST, MOST, page, LARGE, data, sizeof data) == 0);
+            for (i = 5; i < 8 * (size_t)LARGE; i += 6) {
+                page[i / 8] = (uint8_t)(page[i / 8] & ~(1u << (i % 8)));
+            }
+            check(what, segrunov_price_weighted(codes[c], MOST, MOST, w->w1, w->w2, w->w3, page, LARGE, data, sizeof data) == KNOWN[n].cost);
+            check(what, listed(&l, page, NULL, data) == list_answer(SEGRUNOV_DONE, KNOWN[n].cost, 1, 0));
             for (i = 0; i < LARGE; i++) {
                 others += page[i] != 0xff;
             }
@@ -1007,10 +1046,10 @@ static const struct known_word KNOWN_WORDS[] = {
     {"the largest strip", UINT64_C(0xffff000000000000), 0, 0, 0, 65535},
     {"every field at its largest", UINT64_MAX, UINT32_MAX, 255, 255, 65535},
     {"the least of each field", UINT64_C(0x0001010100000001), 1, 1, 1, 1},
-    {"a list of 64 at the most that it costs", UINT64_C(0x000040003fc00000), SEGRUNOV_MAX_LIST_COST, SEGRUNOV_DONE, 64, 0},
+    {"a list of 64 at the bound of its cost", UINT64_C(0x0000400002fd0000), SEGRUNOV_MAX_LIST_COST, SEGRUNOV_DONE, 64, 0},
     {"a list that stops at the last data, in strip 63", UINT64_C(0x003f3f0700000001), 1, SEGRUNOV_SPENT, 63, 63},
     {"a list that is refused", UINT64_C(0x0000000a00000000), 0, SEGRUNOV_COUNT, 0, 0},
-    {"a write at the most that it costs", UINT64_C(0x0000000000ff0000), SEGRUNOV_MAX_WEIGHTED_COST, SEGRUNOV_DONE, 0, 0},
+    {"a write at the bound of its cost", UINT64_C(0x0000000000ff0000), SEGRUNOV_MAX_WEIGHTED_COST, SEGRUNOV_DONE, 0, 0},
     {"a write spent in strip 63", UINT64_C(0x000000070000003f), 63, SEGRUNOV_SPENT, 0, 0},
 };
 
@@ -1024,12 +1063,12 @@ static void known_words(void)
     }
     check("the bytes of a list", SEGRUNOV_LIST_BYTES(64, 64, 64) == 262144 && SEGRUNOV_LIST_BYTES(2, 3, 5) == 30);
     check("the bytes of a list, of sums", SEGRUNOV_LIST_BYTES(1 + 1, 1 + 2, 2 + 3) == 30);
-    check("the most of a list", SEGRUNOV_MAX_LIST * (uint64_t)SEGRUNOV_MAX_WEIGHTED_COST == SEGRUNOV_MAX_LIST_COST);
-    check("the most of the first write", SEGRUNOV_CERTAIN_COST(SEGRUNOV_HOUSE_W1, 1, 1) == 128);
-    check("the most of the second write", SEGRUNOV_CERTAIN_COST(SEGRUNOV_HOUSE_W2, 1, 1) == 160);
-    check("the most of the third write", SEGRUNOV_CERTAIN_COST(SEGRUNOV_HOUSE_W3, 1, 1) == 224);
-    check("the most of a certain write", SEGRUNOV_CERTAIN_COST(UINT8_C(255), 64, 64) == 8355840);
-    check("the most of a certain write, of sums", SEGRUNOV_CERTAIN_COST(1 + 1, 1 + 2, 2 + 3) == 240);
+    check("the bound of a list", 255u * 3u * LARGE_CELLS == SEGRUNOV_MAX_LIST_COST);
+    check("the bound of the first write", SEGRUNOV_CERTAIN_COST(SEGRUNOV_HOUSE_W1, 1, 1) == 128);
+    check("the bound of the second write", SEGRUNOV_CERTAIN_COST(SEGRUNOV_HOUSE_W2, 1, 1) == 160);
+    check("the bound of the third write", SEGRUNOV_CERTAIN_COST(SEGRUNOV_HOUSE_W3, 1, 1) == 224);
+    check("the bound of a certain write", SEGRUNOV_CERTAIN_COST(UINT8_C(255), 64, 64) == 8355840);
+    check("the bound of a certain write, of sums", SEGRUNOV_CERTAIN_COST(1 + 1, 1 + 2, 2 + 3) == 240);
 }
 
 /* A refusal from the input, for read, price and write alike, the calls with weights and a list of one data included. */
@@ -1491,6 +1530,7 @@ static void all(void)
     known_lists();
     known_long_lists();
     dearest_lists();
+    dearest_writes();
     catching_up();
     certain();
     known_words();

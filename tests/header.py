@@ -1,7 +1,7 @@
 #!/usr/bin/env python3
 """Fails where a number that include/segrunov.h defines is another one than in the definitions, or stands in none of
-them, where the bytes that a page or its map has for each byte of data are others than in the code, where the most that a
-certain write costs is another product, where the fields of an answer are not those of the definitions, and where
+them, where the bytes that a page or its map has for each byte of data are others than in the code, where what a certain
+write costs at most is another product, where the fields of an answer are not those of the definitions, and where
 tests/measure.c lacks a call that the header declares.
 
 The stack is no number of the definitions: tests/measure.c holds it against the calls.

@@ -1,5 +1,6 @@
 -- What a write cannot do, with any map and any weights of three bytes: raise a cell by more than one, or cost more than the dearest step
 -- for each cell.
+--   cells-most         the largest page has 65,536 cells
 --   write-near         no cell rises by more than one
 --   write-most         the cost is at most the dearest step for each cell
 --   write-largest      so at most 65,536 times that
@@ -8,6 +9,7 @@
 --   weighted-largest   and 16,711,680 with any
 --   write-kept         what answers so and leaves this page keeps promise and bound
 use mathlib.Core.Path.{_≡_, refl, sym}
+use mathlib.Core.Bool.{true}
 use mathlib.Core.List.{List, [], _∷_}
 use mathlib.Core.Option.{Option, none, some}
 use Prim.Native.Nat.{ℕ, zero, suc, _<_, _≤_, _*_, _-_}
@@ -27,7 +29,7 @@ use Rattle.search.specs.Levels.{levelAt}
 use Rattle.demand.specs.Demand.{jobCost}
 use Rattle.demand.specs.Computed.{pageWrite}
 use Rattle.demand.proofs.Demand.{solution-raised}
-use Rattle.refusals.specs.Refusals.{numbered}
+use Rattle.refusals.specs.Refusals.{oneTo64, numbered}
 use Rattle.page_promises.specs.Writes.{callPage, jobPage, markedBy, mapSize, groundWith, jobWith, pageWith, answerWith, largestCost}
 use Rattle.page_promises.specs.Writes.{largestWeightedCost}
 use Rattle.page_answers.specs.Answers.{valueOf}
@@ -56,6 +58,13 @@ climb-most weight w b from to h k = go (to - from) refl
     go : (n : ℕ) → to - from ≡ n → climb weight from to ≤ w
     go zero e = let z : to ≡ from = omega arith in rw (z, climb-stay weight from) (omega arith)
     go (suc n) e = let z : to ≡ suc from = omega arith in rw (z, climb-step weight from) (b from)
+
+-- the largest page has 65,536 cells
+pub cells-most : (L S w : ℕ) → oneTo64 L ≡ true → oneTo64 S ≡ true → 16 * L * S * w ≤ 65536 * w
+cells-most L S w l s =
+    let m = product-most L S l s in
+    let n : 16 * L * S ≤ 65536 = omega arith in
+    mul-le-mul {n₁ = 16 * L * S} {m₁ = w} {n₂ = 65536} {m₂ = w} n (omega arith)
 
 module _ (map : Option (List ℕ)) (W : List ℕ) (K : Weights W) (code L S : ℕ) (before content : List ℕ) (b : Octets content) where
   -- NO CELL RISES BY MORE THAN ONE in a write, wherever the raises start
@@ -96,18 +105,15 @@ module _ (map : Option (List ℕ)) (W : List ℕ) (K : Weights W) (code L S : �
             (level (pageWith map W code L S before content startOf) c)
             (p .could .no-lower c h) (write-near startOf c h)))
 
-    -- the largest page has 65,536 cells
+    -- and so at most w for each cell of the largest page
     pub write-largest : cost ≤ 65536 * w
     write-largest = go promised
       where
         go : WroteWith map W code L S before content (pageWith map W code L S before content startOf) (A.Done cost) → cost ≤ 65536 * w
         go (done g p) =
             let i = weighted-in-order none (mapSize map) W code L S (length before) (length content) g in
-            let m = product-most L S (i .bytes-in) (i .strips-in) in
-            let n : 16 * L * S ≤ 65536 = omega arith in
-            let q : 16 * L * S * w ≤ 65536 * w = mul-le-mul {n₁ = 16 * L * S} {m₁ = w} {n₂ = 65536} {m₂ = w} n (omega arith) in
             let r : cost ≤ 16 * L * S * w = rw (oneBit-cells L) at write-most in
-            omega arith
+            omega (arith, cells-most L S w (i .bytes-in) (i .strips-in))
 
 -- NO ANSWER HAS A GREATER VALUE, where no step costs more than w: the cost is at most that, and the number of a spent strip is below 64
 pub value-most : (map : Option (List ℕ)) (W : List ℕ) → Weights W → (w : ℕ) → 0 < w → ((l : ℕ) → weightOf W l ≤ w)

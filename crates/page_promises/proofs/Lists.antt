@@ -2,16 +2,17 @@
 --   with-one, not-ended              one more write; an end that has not come
 --   course-more, course-ended        a course that goes on, and one that has ended
 --   course-keeps                     what each single write keeps the course keeps
---   course-cost                      what the writes cost together
 --   course-alike                     single writes that answer alike make courses that do
 --   single-in-order                  the single writes of a list in order are in order
 --   list-course, list-refused        a list in order, and one that is refused, which writes none (refused-writes-none)
 --   list-promised                    a list keeps its promise
+--   list-climb                       it costs what the climb from the first page to the last costs
+--   list-most                        which is at most all three steps for each cell
 --   in-order-list                    the jobs of a list in order make its course
 --   list-bounds                      how large the fields of its answer are
 --   refused-list                     a list that is refused answers so, and changes nothing
 --   list-kept                        what answers so and leaves this page keeps promise and bounds
-use mathlib.Core.Path.{_≡_, refl, sym, _∙_, ap}
+use mathlib.Core.Path.{_≡_, refl, sym, _∙_, ap, ap₂}
 use mathlib.Core.Bool.{Bool, true, false, cond}
 use mathlib.Core.List.{List}
 use mathlib.Core.Option.{Option, none, some}
@@ -19,17 +20,22 @@ use Prim.Native.Nat.{ℕ, zero, suc, _<_, _≤_, _+_, _*_}
 use native.Mathlib.Omega.{arith}
 use lib.ListN.{length}
 use Rattle.cells.specs.Bytes.{Octets}
+use Rattle.cells.specs.Levels.{level}
 use Rattle.cells.specs.Raising.{startOf}
+use Rattle.cells.specs.Climbs.{costOf, weightOf, Weights}
+use Rattle.cells.proofs.Climbs.{cost-stay, cost-onward, cost-most}
 use Rattle.codes.specs.Generators.{Generators}
+use Rattle.codes.specs.Layouts.{oneBit, cellCount}
+use Rattle.codes.proofs.Layouts.{oneBit-cells}
+use Rattle.demand.specs.Demand.{jobCost}
 use Rattle.demand.proofs.Jobs.{part-length, part-octets}
 use Rattle.refusals.specs.Refusals.{numbered}
 use Rattle.page_promises.specs.Writes.{oneBitJob, jobAnswer, jobPage, markedBy, mapSize, groundWith, answerWith, pageWith}
-use Rattle.page_promises.specs.Writes.{largestWeightedCost}
-use Rattle.page_answers.specs.Answers.{valueOf, answerCost}
+use Rattle.page_answers.specs.Answers.{answerCost}
 use Rattle.page_promises.specs.Promise.{WroteBy, done, spent, refused}
 use Rattle.page_promises.specs.Lists.{dataOf, withWrite, Course, hasEnded, afterOne, courseAfter, unlessRefused}
-use Rattle.page_promises.specs.Lists.{refusedList, jobCourse, groundOf, listCourse, listWith, listAnswer, listPage, largestListCost}
-use Rattle.page_promises.specs.Lists.{ListBounds, WroteList}
+use Rattle.page_promises.specs.Lists.{refusedList, jobCourse, groundOf, listCourse, listWith, listAnswer, listPage, listMost}
+use Rattle.page_promises.specs.Lists.{largestListCost, ListBounds, WroteList}
 use Rattle.page_promises.specs.Lists.{InTurn, none-yet, one-more, ListPromised, all-written, stopped-at, not-begun}
 use Rattle.refusals.specs.declared.Refusal.{Refusal}
 use Rattle.page_answers.specs.declared.Answer.{Answer}
@@ -40,8 +46,7 @@ use Rattle.page_answers.specs.declared.ListAnswer.{ListAnswer}
 use Rattle.page_parts.proofs.Strips.{datas-length}
 use Rattle.refusals.proofs.Refusals.{one-to-64, weighted-in-order, count-in-order, single-ground}
 use Rattle.page_promises.proofs.Promise.{in-order-job, wrote-by, page-length, one-ground}
-use Rattle.cells.specs.Climbs.{Weights}
-use Rattle.page_promises.proofs.Bounds.{weighted-largest}
+use Rattle.page_promises.proofs.Bounds.{cells-most}
 
 -- one more write: at most one more is written, and its cost is added
 pub with-one : (a : ListAnswer) (r : Answer) → (withWrite a r .written ≤ suc (a .written)) × (withWrite a r .cost ≡ a .cost + answerCost r)
@@ -91,27 +96,6 @@ module _ (answers : List ℕ → List ℕ → Answer) (pages : List ℕ → List
       go p w cost E.Done i j = j
       go p w cost (E.Spent strip) i j = i
       go p w cost (E.Refused r) i j = i
-
-  -- WHAT THE WRITES COST together, where none costs more than m
-  pub course-cost : (m count : ℕ) → ((n : ℕ) → n < count → (p : List ℕ) → valueOf (answers p (datas n)) ≤ m) → (n : ℕ) → n ≤ count
-      → courseAfter answers pages datas before n .answer .cost ≤ m * n
-  unfolding courseAfter
-  course-cost m count b zero h = omega arith
-  course-cost m count b (suc n) h =
-      let c = courseAfter answers pages datas before n in
-      go (c .answer .end) (course-cost m count b n (omega arith)) (answers (c .page) (datas n)) (b n (omega arith) (c .page))
-    where
-      so-far : Course
-      so-far = courseAfter answers pages datas before n
-
-      go : (end : End) → so-far .answer .cost ≤ m * n → (r : Answer) → valueOf r ≤ m
-          → let next : Course = record { page = pages (so-far .page) (datas n); answer = withWrite (so-far .answer) r } in
-          cond (hasEnded end) so-far next .answer .cost ≤ m * suc n
-      go E.Done i (A.Done cost) v = omega arith
-      go E.Done i (A.Spent strip) v = omega arith
-      go E.Done i (A.Refused q) v = omega arith
-      go (E.Spent strip) i r v = omega arith
-      go (E.Refused q) i r v = omega arith
 
 -- TWO COURSES of single writes that answer alike, and leave pages that are again alike
 pub course-alike : (R : List ℕ → List ℕ → Type 0) (answers answers′ : List ℕ → List ℕ → Answer) (pages pages′ : List ℕ → List ℕ → List ℕ)
@@ -223,6 +207,37 @@ module _ (map : Option (List ℕ)) (W : List ℕ) (code L S count : ℕ) (before
         go none e = course-promised e b count (omega arith)
         go (some r) e = not-begun e refl
 
+    -- no write lowers a cell, so the first n cost what the climb to the page after them costs
+    turn-climb : {n cost : ℕ} {page : List ℕ} → InTurn start map W code L S before content n cost page
+        → ((c : ℕ) → c < cellCount oneBit L * S → level before c ≤ level page c)
+        × (costOf (weightOf W) (cellCount oneBit L * S) before page ≡ cost)
+    unfolding jobCost
+    turn-climb none-yet = (λ c h. omega arith, cost-stay (weightOf W) (cellCount oneBit L * S) before)
+    turn-climb (one-more {page = page} {after} t (done e p)) =
+        let i = turn-climb t in (
+          λ c h. omega (arith, i .0 c h, p .could .no-lower c h),
+          cost-onward (weightOf W) (cellCount oneBit L * S) before page after (i .0) (p .could .no-lower) ∙ ap₂ _+_ (i .1) (p .paid),
+        )
+
+    -- A LIST COSTS WHAT THE CLIMB from the first page to the last costs, wherever the raises start
+    pub list-climb : Octets content
+        → let c = listWith map W code L S count before content start in
+        costOf (weightOf W) (cellCount oneBit L * S) before (c .page) ≡ c .answer .cost
+    list-climb b = go (list-promised b)
+      where
+        go : {page : List ℕ} {a : ListAnswer}
+            → ListPromised start (groundOf map W code L S count before content) map W code L S count before content page a
+            → costOf (weightOf W) (cellCount oneBit L * S) before page ≡ a .cost
+        go (all-written e t) = turn-climb t .1
+        go (stopped-at e l t w) = turn-climb t .1
+        go (not-begun e q) = rw q (cost-stay (weightOf W) (cellCount oneBit L * S) before)
+
+    -- which is at most all three steps for each cell
+    pub list-most : Octets content → listWith map W code L S count before content start .answer .cost ≤ listMost L S W
+    list-most b =
+        rw (← (list-climb b), ← (oneBit-cells L))
+        (cost-most (weightOf W) (cellCount oneBit L * S) before (listWith map W code L S count before content start .page))
+
   -- WHERE ITS JOBS ANSWER SO, and leave this page, a list in order does
   pub in-order-list : groundOf map W code L S count before content ≡ none → {G : Generators} {marks : ℕ → Bool} → G ≡ numbered code
       → marks ≡ markedBy map → {r : ListAnswer} → r ≡ jobCourse marks G W L S count before content .answer
@@ -247,37 +262,33 @@ module _ (map : Option (List ℕ)) (W : List ℕ) (code L S count : ℕ) (before
 
   -- HOW LARGE THE FIELDS of its answer are, with weights of three bytes
   pub list-bounds : Weights W → Octets content → ListBounds (listAnswer map W code L S count before content)
-  list-bounds K b = go (list-promised startOf b) (summed (groundOf map W code L S count before content) refl)
+  unfolding weightOf
+  list-bounds K b = go (list-promised startOf b) (list-most startOf b)
     where
       -- at most 64 datas
       most : groundOf map W code L S count before content ≡ none → count ≤ 64
       most e = one-to-64 count (count-in-order count (mapSize map) W code L S (length before) (length content) e) .1
 
-      -- each for 16,711,680 or less
-      summed : (g : Option Refusal) → groundOf map W code L S count before content ≡ g
-          → listAnswer map W code L S count before content .cost ≤ largestListCost
-      summed none e =
-          let c = course-cost (answerWith map W code L S) (λ p one. pageWith map W code L S p one startOf) (dataOf L S content) before
-          largestWeightedCost count
-          (λ n h p. weighted-largest map W K code L S p (dataOf L S content n) (part-octets (L * S) n content b) refl) count
-          (omega arith) in
-          let z = ap (λ (c : Course). c .answer .cost) (list-course startOf e) in
-          omega (arith, most e)
-      summed (some r) e = let z = ap (λ (c : Course). c .answer .cost) (list-refused startOf e) in omega arith
+      -- three steps of 255 or less for each of 65,536 cells at the most
+      largest : groundOf map W code L S count before content ≡ none → listMost L S W ≤ largestListCost
+      largest e =
+          let i = weighted-in-order (some count) (mapSize map) W code L S (length before) (length content) e in
+          let c = cells-most L S (weightOf W 0 + weightOf W 1 + weightOf W 2) (i .bytes-in) (i .strips-in) in
+          omega (arith, K .bytes 0, K .bytes 1, K .bytes 2)
 
-      go : {page : List ℕ} {a : ListAnswer} → WroteList map W code L S count before content page a → a .cost ≤ largestListCost
+      go : {page : List ℕ} {a : ListAnswer} → WroteList map W code L S count before content page a → a .cost ≤ listMost L S W
           → ListBounds a
-      go (all-written e t) c = record { written-most = most e; cost-most = c; strip-most = omega arith }
+      go (all-written e t) c = record { written-most = most e; cost-most = omega (arith, largest e); strip-most = omega arith }
       go (stopped-at e l t (spent g p q)) c = record {
         written-most = omega (arith, most e);
-        cost-most = c;
+        cost-most = omega (arith, largest e);
         strip-most = omega (
           arith,
           p .inside,
           one-to-64 S (weighted-in-order (some count) (mapSize map) W code L S (length before) (length content) e .strips-in),
         );
       }
-      go (not-begun e q) c = record { written-most = omega arith; cost-most = c; strip-most = omega arith }
+      go (not-begun e q) c = record { written-most = omega arith; cost-most = omega arith; strip-most = omega arith }
 
 -- a list that is refused answers so, and changes nothing
 pub refused-list : (map : Option (List ℕ)) (W : List ℕ) (code L S count : ℕ) (before content : List ℕ) {r : Refusal}

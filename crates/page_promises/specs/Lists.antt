@@ -5,7 +5,8 @@
 --   jobCourse                those of jobs in order
 --   listCourse, listWith     the page and the answer of a list, with a map or without one, by any order of the raises
 --   listAnswer, listPage     those of this release
---   largestListCost          the most that a list costs
+--   listMost                 a list costs at most this, by its size and weights
+--   largestListCost          and this, whatever they are
 --   ListBounds               how large the fields of its answer are
 --   InTurn, ListPromised     what a list promises: the promise of each single write
 --   WroteList                the same of a call
@@ -16,6 +17,7 @@ use mathlib.Core.Option.{Option, none, some}
 use Prim.Native.Nat.{ℕ, zero, suc, _+_, _*_, _<_, _≤_}
 use lib.ListN.{length}
 use Rattle.cells.specs.Raising.{startOf}
+use Rattle.cells.specs.Climbs.{weightOf}
 use Rattle.codes.specs.Generators.{Generators}
 use Rattle.refusals.specs.Refusals.{listGround}
 use Rattle.demand.specs.Jobs.{part}
@@ -109,9 +111,13 @@ module _ (map : Option (List ℕ)) (W : List ℕ) (code L S count : ℕ) (before
   abbrev pub listPage : List ℕ
   listPage = listWith startOf .page
 
--- 64 writes of the largest page, each for 16,711,680
+-- a list costs at most this: no write lowers a cell, so that each of the page's 16·L·S cells climbs each of its three steps once at most
+abbrev pub listMost : ℕ → ℕ → List ℕ → ℕ
+listMost L S W = 16 * L * S * (weightOf W 0 + weightOf W 1 + weightOf W 2)
+
+-- so a list of the largest page costs at most this: each of 65,536 cells climbs three steps once, at 255 each
 abbrev pub largestListCost : ℕ
-largestListCost = 1069547520
+largestListCost = 50135040
 
 -- how large the fields of an answer are
 pub record ListBounds (a : ListAnswer) : Type 0 where

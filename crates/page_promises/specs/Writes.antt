@@ -7,8 +7,8 @@
 --   pageWith             the page after it, by any order of the raises
 --   answerOf             the answer of a write without a map
 --   pageBy, pageOf       the page after it, by any order of the raises, and by this release's
---   largestCost          the most that one write costs with the house's weights
---   largestWeightedCost  and with any
+--   largestCost          one write costs at most this with the house's weights
+--   largestWeightedCost  and this with any
 use mathlib.Core.Bool.{Bool, true, false}
 use mathlib.Core.List.{List}
 use mathlib.Core.Option.{Option, none, some}
