@@ -5,7 +5,7 @@
  *   store    price the new image, and write it where the page takes it; where the page is spent, keep the old image and ask for an erase
  *   erase    within the limits of the flash's certificate, 5.0 to 40.0 degrees Celsius
  *   enqueue  keep an image in RAM with a battery while the supply is too low to program the flash
- *   catch_up at the next start: write the images that queued up by one call, and program the page once; where it is spent, erase it and go on
+ *   catch_up at the next start: write the images that queued up as lists, and program the page once for each; where it is spent, erase it and go on
  *
  * The page is worked on in RAM. The three functions of the driver below stand for the real ones of a NOR flash: an erase makes its bits ones, and
  * programming turns ones into zeros. The library's erased page is zeros, and a write turns zeros into ones: so the driver complements every byte, on
@@ -27,12 +27,38 @@ enum { STRIP_BYTES = 8, STRIPS = 4 };
 
 static uint8_t page[STRIP_BYTES * STRIPS * 6];
 
-/* The images that queue up, the oldest first, how many there are, and how many of them are programmed by now. One call takes 64 at most. */
-enum { QUEUE = 16 };
-static uint8_t queue[QUEUE * STRIP_BYTES * STRIPS];
-static uint32_t queued, caught_up;
+/*
+ * The images that wait, in RAM with a battery, in a section that the start-up code leaves alone: a ring of slots, and one word that says which slot
+ * has the oldest and how many wait. The supply can be lost between any two stores, and the store of that word alone decides: before it the old state
+ * holds, after it the new one. It is volatile, and an image is stored by volatile accesses before it: a compiler keeps the order of these. Where the
+ * processor has a write buffer or a cache, its barrier or write-back goes into set_ring.
+ */
+enum { SLOTS = 16 }; /* one call takes 64 datas at most */
+static uint8_t slots[SLOTS * STRIP_BYTES * STRIPS];
+static volatile uint32_t ring; /* the slot of the oldest in the upper half, the number that wait in the lower */
 
-/* The driver: the flash of this example is an array. */
+static uint32_t oldest(void)
+{
+    return ring >> 16;
+}
+
+static uint32_t waiting(void)
+{
+    return ring & 0xffffu;
+}
+
+static void set_ring(uint32_t first, uint32_t count)
+{
+    /* here the processor's barrier: what was stored or programmed before is there before the word is */
+    ring = (first % SLOTS) << 16 | count;
+}
+
+static uint8_t *slot_of(uint32_t number)
+{
+    return slots + number % SLOTS * IMAGE_BYTES;
+}
+
+/* The driver: the flash of this example is an array. In a real one every access is volatile. */
 static uint8_t flash[sizeof page];
 
 static void flash_load(void)
@@ -106,33 +132,40 @@ static bool erase(const uint8_t *image, int16_t tenths)
     return erase_page(tenths) && store(image) == STORED;
 }
 
-/* Keeps an image until the flash can be programmed again. While some wait, newer ones are put behind them. False where the queue is full. */
+/* Keeps an image until the flash can be programmed again. While some wait, newer ones are put behind them. False where the ring is full. */
 static bool enqueue(const uint8_t *image)
 {
-    if (queued == QUEUE) {
+    volatile uint8_t *const slot = slot_of(oldest() + waiting());
+    size_t i;
+    if (waiting() == SLOTS) {
         return false;
     }
-    memcpy(queue + queued * IMAGE_BYTES, image, IMAGE_BYTES);
-    queued++;
+    for (i = 0; i < IMAGE_BYTES; i++) {
+        slot[i] = image[i];
+    }
+    set_ring(oldest(), waiting() + 1);
     return true;
 }
 
 /*
- * Writes the images that queued up, once start has loaded the page, which is then as if each had been stored in its time. A list that stops with a 7
- * has written the images before that one: they are programmed as those of a list that is done, and the next list begins behind them, on the erased
- * page. Where it is too cold or too warm to erase it, the flash holds the last of them, and the others wait. An erased page takes every image, so
- * that each round gets on.
+ * Writes the images that wait, once start has loaded the page, which is then as if each had been stored in its time. The datas of a list lie one
+ * after another: a list ends with the last slot at the latest, and the next one begins with slot 0. A list that stops with a 7 has written the images
+ * before that one: they are programmed as those of a list that is done, their slots are free again, and the next list begins behind them, on the
+ * erased page. Where it is too cold or too warm to erase it, the flash holds the last of them, and the others wait. An erased page takes every image,
+ * so that each round gets on. Were the supply lost between programming and set_ring, they would be written once more, and the newest is last again.
  */
 static enum store_result catch_up(int16_t tenths)
 {
-    while (caught_up < queued) {
-        const uint32_t count = queued - caught_up;
+    while (waiting() != 0) {
+        const uint32_t first = oldest(), to_the_end = SLOTS - first;
+        const uint32_t count = waiting() < to_the_end ? waiting() : to_the_end;
         const uint64_t answer = segrunov_write_list(SEGRUNOV_LONG, STRIP_BYTES, STRIPS, SEGRUNOV_HOUSE_W1, SEGRUNOV_HOUSE_W2, SEGRUNOV_HOUSE_W3,
-                                                    count, page, sizeof page, queue + caught_up * IMAGE_BYTES, count * IMAGE_BYTES);
+                                                    count, page, sizeof page, slot_of(first), count * IMAGE_BYTES);
+        const uint32_t written = SEGRUNOV_WRITTEN(answer);
         if (SEGRUNOV_VALUE(answer) != 0 && !flash_program()) {
             return FAULT;
         }
-        caught_up += SEGRUNOV_WRITTEN(answer);
+        set_ring(first + written, waiting() - written);
         if (SEGRUNOV_NUMBER(answer) == SEGRUNOV_SPENT) {
             if (!erase_page(tenths)) {
                 return ERASE_WANTED;
@@ -141,8 +174,6 @@ static enum store_result catch_up(int16_t tenths)
             return FAULT;
         }
     }
-    caught_up = 0; /* first: were the supply lost after the other, images to come would be taken for written */
-    queued = 0;
     return STORED;
 }
 
@@ -153,10 +184,28 @@ static bool held(const uint8_t *image)
     return start(again) && memcmp(again, image, sizeof again) == 0;
 }
 
+/* The supply is low: images queue up, and every byte changes, until there is no room. How many did; the image is then the newest of them. */
+static unsigned queue_up(uint8_t *image)
+{
+    unsigned count = 0;
+    for (;;) {
+        uint8_t next[STRIP_BYTES * STRIPS];
+        size_t i;
+        for (i = 0; i < sizeof next; i++) {
+            next[i] = (uint8_t)(image[i] * 5u + i + 1u);
+        }
+        if (!enqueue(next)) {
+            return count;
+        }
+        memcpy(image, next, sizeof next);
+        count++;
+    }
+}
+
 int main(void)
 {
     uint8_t image[STRIP_BYTES * STRIPS];
-    unsigned stored = 0;
+    unsigned stored = 0, written;
     flash_erase(); /* as a new part comes */
     if (!start(image)) {
         return 1;
@@ -192,24 +241,19 @@ int main(void)
     if (!held(image)) {
         return 1;
     }
-    /* The supply is low for a while, and every byte of the image changes. */
-    while (queued < QUEUE) {
-        size_t i;
-        for (i = 0; i < sizeof image; i++) {
-            image[i] = (uint8_t)(image[i] * 5u + i + 1u);
-        }
-        if (!enqueue(image)) {
-            return 1;
-        }
-    }
-    if (enqueue(image) || catch_up(450) != ERASE_WANTED || caught_up == 0 || !held(queue + (caught_up - 1) * IMAGE_BYTES)) {
+    /* The supply is low for a while. What is written by the catch-up makes room for as many. */
+    if (queue_up(image) != SLOTS || catch_up(450) != ERASE_WANTED || waiting() == SLOTS || !held(slot_of(oldest() + SLOTS - 1))) {
         return 1;
     }
-    printf("images that queued up: %u, written by one call: %u; for the next the page is spent, and at 45.0 degrees not erased\n", (unsigned)queued,
-           (unsigned)caught_up);
-    if (catch_up(250) != STORED || !held(image)) {
+    written = SLOTS - (unsigned)waiting();
+    printf("images that queued up: %d, written by one call: %u; for the next the page is spent, and at 45.0 degrees not erased\n", SLOTS, written);
+    if (queue_up(image) != written) {
         return 1;
     }
-    printf("at 25.0 degrees the page is erased and the others are written\n");
+    printf("images that queue up behind those that wait: %u\n", written);
+    if (catch_up(250) != STORED || waiting() != 0 || !held(image)) {
+        return 1;
+    }
+    printf("at 25.0 degrees the page is erased and all of them are written\n");
     return PAGE_BYTES == sizeof page ? 0 : 1;
 }
