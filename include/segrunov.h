@@ -119,7 +119,7 @@ extern "C" {
 #define SEGRUNOV_STRIPS UINT32_C(3)      /* S is not from 1 to 64 */
 #define SEGRUNOV_PAGE_LENGTH UINT32_C(4) /* the page is not 6*L*S bytes long */
 #define SEGRUNOV_DATA_LENGTH UINT32_C(5) /* the data, or the buffer for it, is not L*S bytes long; of a list: not count*L*S */
-#define SEGRUNOV_SPENT UINT32_C(7)       /* no page reads as the data with no cell lowered and the marked ones kept: erase it first */
+#define SEGRUNOV_SPENT UINT32_C(7)       /* no page reads as the data with no cell lowered and the marked ones kept: erase it; with a map that may not help */
 #define SEGRUNOV_TEMPERATURE UINT32_C(8) /* an erase outside 50 to 400 tenths of a degree */
 #define SEGRUNOV_WEIGHT UINT32_C(9)      /* a weight is 0 */
 #define SEGRUNOV_COUNT UINT32_C(10)      /* the count of a list is not from 1 to 64 */
@@ -157,11 +157,12 @@ uint64_t segrunov_price(uint32_t code, uint32_t bytes, uint32_t strips, const ui
  * 224*L*S: CERTAIN WRITES, above. */
 uint64_t segrunov_write(uint32_t code, uint32_t bytes, uint32_t strips, uint8_t *page, uint64_t page_len, const uint8_t *data, uint64_t data_len);
 
-/* The answer that segrunov_write_weighted gives on the same input. Nothing is changed. Refused by 1 to 5, 7 and 9. */
+/* The answer that segrunov_write_weighted gives on the same input. Nothing is changed. Refused by 1, 2, 3, 9, 4, 5 and
+ * 7, tested in this order. */
 uint64_t segrunov_price_weighted(uint32_t code, uint32_t bytes, uint32_t strips, uint8_t w1, uint8_t w2, uint8_t w3, const uint8_t *page, uint64_t page_len, const uint8_t *data, uint64_t data_len);
 
-/* Writes the data into the page at the least cost in the weights given. Refused by 1 to 5, 7 and 9. With the house's
- * weights it is segrunov_write. */
+/* Writes the data into the page at the least cost in the weights given. Refused by 1, 2, 3, 9, 4, 5 and 7, tested in
+ * this order. With the house's weights it is segrunov_write. */
 uint64_t segrunov_write_weighted(uint32_t code, uint32_t bytes, uint32_t strips, uint8_t w1, uint8_t w2, uint8_t w3, uint8_t *page, uint64_t page_len, const uint8_t *data, uint64_t data_len);
 
 /* Writes the datas one after another, each as segrunov_write_weighted, and stops before the first for which the page is

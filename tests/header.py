@@ -1,13 +1,15 @@
 #!/usr/bin/env python3
 """Fails where a number that include/segrunov.h defines is another one than in the definitions, or stands in none of
 them, where the bytes that a page or its map has for each byte of data are others than in the code, where what a certain
-write costs at most is another product, where the fields of an answer are not those of the definitions, and where
-tests/measure.c lacks a call that the header declares.
+write costs at most is another product, where the fields of an answer are not those of the definitions, where a call is
+declared otherwise than crates/firmware exports it, where the header or README.md has the grounds of a call, or the order
+in which they are tested, otherwise than the definitions, and where tests/measure.c lacks a call that the header declares.
 
 The stack is no number of the definitions: tests/measure.c holds it against the calls.
 """
 import re
 
+import rattle
 from repository import finish, read
 
 CLIMBS = "crates/cells/specs/Climbs.antt"
@@ -61,6 +63,32 @@ PLACES = [
     "listWord a = a .cost + listNumber a * 2 ^ {NUMBER} + a .written * 2 ^ {WRITTEN} + listStrip a * 2 ^ {SPENT_STRIP}",
 ]
 
+# What the types of the calls are to C. A slice is a pointer and a length.
+TYPES = {"u8": "uint8_t", "u32": "uint32_t", "u64": "uint64_t", "i16": "int16_t"}
+SLICES = {"&[u8]": "const uint8_t *", "&mut [u8]": "uint8_t *"}
+
+# The definition that has the grounds of a call, by the verb of its name, and the parameter that each ground is about: 'as far as a call has the
+# item'.
+GROUNDS = {"read": "ground", "price": "listGround", "write": "listGround", "erase": "erasingGround"}
+ITEMS = {1: "code", 2: "bytes", 3: "strips", 9: "w1", 10: "count", 4: "page", 11: "map", 5: "data", 8: "tenths"}
+
+# That of two grounds the one that stands first is tested first, and spent after all from the input.
+IN_TURN = [
+    (REFUSALS, "first-of (some r) later = some r"),
+    (WRITES, "callAnswer (some r) w k = A.Refused r"),
+    (LISTS, "unlessRefused (some r) c before = record { page = before; answer = refusedList r }"),
+]
+
+# Numbers in a sentence.
+NUMBERS = r"(\d+(?: to \d+)?(?:(?:, | and )\d+(?: to \d+)?)*)"
+
+# The sentences about the order of the tests: of all grounds, and of those from the input.
+ORDERS = [
+    ("include/segrunov.h", "The grounds that a call has are tested in the order {all}, and the first that applies is the answer."),
+    ("include/segrunov.h", "1 to 5 and 9 to 11 from the input, tested in the order {input}; 7 and 8 from the state, after those."),
+    ("README.md", "the order of the tests ({all})"),
+]
+
 
 def wrong(name, number):
     """What is wrong with a number of the header."""
@@ -93,6 +121,79 @@ def misplaced(header):
     return bad
 
 
+def named(function):
+    """What a function is called in C."""
+    return function.name.split("::")[-1]
+
+
+def prototype(function):
+    """How a function is to be declared to C."""
+    parameters = []
+    for name, kind in function.parameters:
+        parameters += [f"{SLICES[kind]}{name}", f"uint64_t {name}_len"] if kind in SLICES else [f"{TYPES[kind]} {name}"]
+    return f"{TYPES[function.result]} {named(function)}({', '.join(parameters)})"
+
+
+def declarations(header):
+    """What the header declares, each in one line: all of it but comments, directives and the braces for C++."""
+    code = re.sub(r"/\*.*?\*/", "", header, flags=re.S)
+    code = re.sub(r'^(?:#.*|extern "C" \{|\})$', "", code, flags=re.M)
+    return [" ".join(text.split()) for text in code.split(";") if text.strip()]
+
+
+def misdeclared(header, exported):
+    """What is wrong with the declarations: names, types and order of the parameters, a call that is missing, and what else there is."""
+    wanted, there = [prototype(f) for f in exported], declarations(header)
+    bad = [f"include/segrunov.h does not declare '{line}'" for line in wanted if line not in there]
+    return bad + [f"include/segrunov.h declares '{line}', and no function is exported so" for line in there if line not in wanted]
+
+
+def prose(path):
+    """A file's text in one line."""
+    return re.sub(r"\n \* |\s+", " ", read(path))
+
+
+def listed(numbers):
+    return ", ".join(map(str, numbers))
+
+
+def spelled(text):
+    """The numbers in words such as '1 to 5, 7 and 9'."""
+    spans = [span.split(" to ") for span in re.split(", | and ", text)]
+    return [number for span in spans for number in range(int(span[0]), int(span[-1]) + 1)]
+
+
+def tested(definition):
+    """The numbers of a definition's grounds in the order in which they are tested: that in which they stand."""
+    numbers = dict(re.findall(r"^refusalNumber (\w+) = (\d+)$", read(REFUSALS), re.M))
+    order = []
+    for equation in re.findall(rf"^{definition} .*?=(.*(?:\n +\S.*)*)", read(REFUSALS), re.M):
+        for word in re.findall(r"\w+", equation):
+            order += [int(numbers[word])] if word in numbers else tested(word) if word.endswith("Ground") else []
+    return order
+
+
+def grounds(function):
+    """The numbers of a call's refusals in the order in which they are tested."""
+    verb, items = named(function).split("_")[1], [name for name, _ in function.parameters]
+    return [number for number in tested(GROUNDS[verb]) if ITEMS[number] in items] + ([7] if verb in ("price", "write") else [])
+
+
+def misordered(exported):
+    """What is wrong with the sentences about the order of the tests, and with what each call is said to be refused by, in that order."""
+    bad = [f"{path} has no line '{line}'" for path, line in IN_TURN if line not in read(path).splitlines()]
+    given, state = tested("listGround"), [7, *tested("eraseGround")]
+    for path, sentence in ORDERS:
+        wanted = sentence.format(input=listed(given), all=listed(given + state))
+        bad += [] if wanted in prose(path) else [f"{path} does not say '{wanted}'"]
+    header = prose("include/segrunov.h")
+    for function in exported:
+        said = re.findall(rf"Refused by {NUMBERS}(?=(?:(?!/\*).)*\*/ \w+ {named(function)}\()", header)
+        if [spelled(text) for text in said] != [grounds(function)]:
+            bad.append(f"include/segrunov.h: {named(function)} is refused by {listed(grounds(function))}, tested in this order, and not as it says")
+    return bad
+
+
 def main():
     calls = re.findall(r"^uint64_t (segrunov\w+)\(", read("include/segrunov.h"), re.M)
     numbers = dict(re.findall(r"^#define SEGRUNOV_(\w+) UINT(?:8|32)_C\((\d+)\)", read("include/segrunov.h"), re.M))
@@ -101,10 +202,13 @@ def main():
     numbers |= re.findall(weighed, read("include/segrunov.h"), re.M)
     bad = [line for name, number in numbers.items() for line in wrong(name, number)]
     bad += [f"include/segrunov.h does not define SEGRUNOV_{name}" for name in DEFINED if name not in numbers]
+    exported = [function for function in rattle.functions() if function.exported]
     bad += misplaced(read("include/segrunov.h"))
+    bad += misdeclared(read("include/segrunov.h"), exported)
+    bad += misordered(exported)
     bad += [line for call in calls for line in unmeasured(call)]
-    seen = f"{len(numbers)} numbers and {len(FIELDS)} fields, each as in the definitions; {len(calls)} calls, each measured"
-    finish(bad, f"include/segrunov.h: {seen}")
+    seen = f"{len(numbers)} numbers and {len(FIELDS)} fields, each as in the definitions; {len(calls)} calls"
+    finish(bad, f"include/segrunov.h: {seen}, each declared as it is exported, refused in the order of the tests, and measured")
 
 
 main()

@@ -22,8 +22,10 @@ EDIT = f"crates/{CRATE}/must-fail/{NAME}.edit"
 LOG = f"target/must-fail/{CRATE}/{NAME}/.log"
 OLD = re.search(r"^old: (.*)$", read(EDIT), re.M)[1]
 
-# Files of the crates; most of them price.
+# Files that faults are planted in; most of them price.
 FIRMWARE = "crates/firmware/src/lib.rt"
+HEADER = "include/segrunov.h"
+REFUSALS = "crates/refusals/specs/Refusals.antt"
 WRITING = "crates/page/src/writing.rt"
 REWRITING = "crates/page_rewriting/src/lib.rt"
 BACKWARD = "crates/trellis/src/backward.rt"
@@ -44,6 +46,11 @@ def append(path, text):
 def change(path, pattern, text):
     """Another text where the pattern first fits."""
     return {path: lambda old: re.sub(pattern, lambda _: text, old, count=1, flags=re.M)}
+
+
+def instead(path, old, new):
+    """Another text for the first that is literally so."""
+    return change(path, re.escape(old), new)
 
 
 def before(path, line, text):
@@ -105,6 +112,17 @@ def priced_by(call):
 def used(call, result):
     """Another result of a call of the library that does nothing."""
     return change("planted.c", rf"done\(64\)(?=; /\* segrunov_{call} )", result)
+
+
+def declared(call, old, new):
+    """Another text in the header's declaration of a call."""
+    return {HEADER: lambda text: re.sub(rf"^(uint64_t segrunov_{call}\(.*?){re.escape(old)}", rf"\1{new}", text, flags=re.M)}
+
+
+def refused_by(call, old, new):
+    """Other numbers in the header's comment on a call."""
+    comment = rf"{re.escape(old)}(?=(?:(?!/\*).)*\*/\nuint64_t segrunov_{call}\()"
+    return {HEADER: lambda text: re.sub(rf"(?<=Refused by ){comment}", new, text, flags=re.S)}
 
 
 RESTS = "AT/proofs/Lib.antt:1:1: error: `rests`: `planted` was not admitted (it was rejected), so this cannot be checked"
@@ -178,6 +196,48 @@ FAULTS = {
         ("segrunov_planted, and tests/measure.c does not", append("include/segrunov.h", "uint64_t segrunov_planted(uint32_t code);\n")),
         ("segrunov_price, and tests/measure.c does not", change("tests/measure.c", r'\{"price", call_price\}', '{"quote", call_price}')),
         ("does not define SEGRUNOV_SPENT", change("include/segrunov.h", "SEGRUNOV_SPENT UINT32_C", "SEGRUNOV_SPENT UINT64_C")),
+        ("does not declare 'uint64_t segrunov_price(", declared("price", "uint32_t bytes, uint32_t strips", "uint32_t strips, uint32_t bytes")),
+        ("does not declare 'uint64_t segrunov_write_list(", declared("write_list", "w1, uint8_t w2, uint8_t w3", "w3, uint8_t w2, uint8_t w1")),
+        ("does not declare 'uint64_t segrunov_write_mapped(", declared("write_mapped", "uint64_t map_len", "size_t map_len")),
+        ("does not declare 'uint64_t segrunov_erase(", declared("erase", "int16_t tenths", "uint16_t tenths")),
+        ("does not declare 'uint64_t segrunov_read(", declared("read", "const uint8_t *page", "uint8_t *page")),
+        ("declares 'uint64_t segrunov_write(", declared("write", "uint8_t *page", "const uint8_t *page")),
+        ("does not declare 'uint64_t segrunov_erase(", change(HEADER, r"^uint64_t segrunov_erase\(.*\n", "")),
+        ("does not declare 'uint64_t segrunov_read(", instead(FIRMWARE, "bytes: u32,\n    strips: u32", "strips: u32,\n    bytes: u32")),
+        ("does not declare 'uint64_t segrunov_read_planted(", append(FIRMWARE, '\npub extern "C" fn segrunov_read_planted() -> u64 {\n    0\n}\n')),
+        ("declares 'extern int segrunov_planted', and no", append(HEADER, "extern int segrunov_planted;\n")),
+        ("does not say 'The grounds that a call has are tested in", instead(HEADER, "9, 10, 4, 11, 5, 7, 8", "9, 10, 4, 11, 5, 8, 7")),
+        ("does not say '1 to 5 and 9 to 11 from the input", instead(HEADER, "9, 10, 4, 11, 5; 7", "10, 9, 4, 11, 5; 7")),
+        ("README.md does not say 'the order of the tests", instead("README.md", "9, 10, 4, 11, 5, 7, 8", "9, 10, 11, 4, 5, 7, 8")),
+        *(
+            (f"segrunov_{call} is refused by", refused_by(call, old, new))
+            for call, old, new in (
+                ("read", "1 to 5", "1 to 4"),
+                ("price", "1 to 5 and 7", "1 to 5, 7 and 8"),
+                ("write", "1 to 5 and 7", "1 to 5"),
+                ("price_weighted", "1, 2, 3, 9, 4, 5 and\n * 7", "1 to 5, 7 and 9"),
+                ("write_weighted", "1, 2, 3, 9, 4, 5 and 7", "1, 2, 3, 4, 9, 5 and 7"),
+                ("write_list", "1, 2, 3, 9, 10, 4, 5 and 7", "1, 2, 3, 10, 9, 4, 5 and 7"),
+                ("erase", "2 to 4 and 8", "2, 3, 8 and 4"),
+                ("price_mapped", "1, 2, 3, 9, 4, 11, 5\n * and 7", "1, 2, 3, 9, 11, 4, 5 and 7"),
+                ("write_mapped", "1, 2, 3,\n * 9, 4, 11, 5 and 7", "1, 2, 3, 9, 4, 5, 11 and 7"),
+                ("write_list_mapped", "1, 2, 3, 9, 10, 4, 11, 5 and 7", "2, 1, 3, 9, 10, 4, 11, 5 and 7"),
+                ("erase_mapped", "2, 3, 4, 11\n * and 8", "2, 3, 4, 8 and 11"),
+            )
+        ),
+        *(
+            (words, instead(REFUSALS, f"first-of {one} {other}", f"first-of {other} {one}"))
+            for words, one, other in (
+                ("does not say 'The grounds", "(bytesGround L)", "(stripsGround S)"),
+                ("does not say '1 to 5", "(weightsGround W)", "(first-of (countGround count) (lengthsGround count map L S page content))"),
+                ("README.md does not say", "(pageGround oneBit L S page)", "(first-of (mapGround oneBit L S map) (datasGround count L S content))"),
+                ("segrunov_read is refused by 4, 5, 1,", "(sizesGround code L S)", "(lengthsGround none none L S page content)"),
+                ("segrunov_erase_mapped is refused by 2, 3, 4, 8, 11,", "(mapGround oneBit L S map)", "(eraseGround tenths)"),
+            )
+        ),
+        ("has no line 'first-of (some r) later", instead(REFUSALS, "first-of (some r) later = some r", "first-of (some r) later = later")),
+        ("has no line 'callAnswer (some r) w k", instead("crates/page_promises/specs/Writes.antt", "(some r) w k", "(some r) none k")),
+        ("has no line 'unlessRefused (some r) c", instead("crates/page_promises/specs/Lists.antt", "answer = refusedList r", "answer = c .answer")),
     ],
     "changes.py": [
         ("does not list K0.md", append("docs/changes/K0.md", "# K0\n\n## The check's time\n\n## Moved\n\n## Stayed\n")),
