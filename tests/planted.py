@@ -26,6 +26,7 @@ OLD = re.search(r"^old: (.*)$", read(EDIT), re.M)[1]
 FIRMWARE = "crates/firmware/src/lib.rt"
 HEADER = "include/segrunov.h"
 REFUSALS = "crates/refusals/specs/Refusals.antt"
+STDOUT = "crates/known/stdout"
 WRITING = "crates/page/src/writing.rt"
 REWRITING = "crates/page_rewriting/src/lib.rt"
 BACKWARD = "crates/trellis/src/backward.rt"
@@ -317,8 +318,18 @@ FAULTS = {
         ("stopped at a limit", logged(f"{PROOF} error: `planted`: {SEARCH}")),
     ],
     "known.py": [
-        ("there is no row 'seven writes", change("crates/known/stdout", r"(?<=^seven writes: answer 0 written 7 strip 0 cost )160", "32")),
-        ("there is no row 'spent at the third", change("crates/known/stdout", r"(?<=^spent at the third: answer 7 written 2 strip )1", "0")),
+        ("there is no row 'seven writes", change(STDOUT, r"(?<=^seven writes: answer 0 written 7 strip 0 cost )160", "32")),
+        ("there is no row 'spent at the third", change(STDOUT, r"(?<=^spent at the third: answer 7 written 2 strip )1", "0")),
+        ("there is no row 'code 7 state 37 digit 1 next 11'", instead(STDOUT, "state 37 digit 1 next 11", "state 37 digit 1 next 3")),
+        ("there is no row 'L = 4, strip 1: 24 bytes", instead(STDOUT, "L = 4, strip 1: 24", "L = 4, strip 1: 6")),
+        ("there is no row 'L = 3, strip 4: 0 bytes, page 41", change(STDOUT, r"(?<=^L = 3, strip 4: 0 bytes, page )41", "ee")),
+        ("there is no row 'code 3 080000000000 reads 07'", change(STDOUT, r"^code 3 080000000000 reads .*\n", "")),
+        ("there is no row 'erase at 401 8 0'", instead(STDOUT, "erase at 401 8 0", "erase at 401 0 0")),
+        ("there is no row 'a weight of 0: answer 9 ", instead(STDOUT, "a weight of 0: answer 9 ", "a weight of 0: answer 10 ")),
+        ("there is no row '  13 3 0 0'", instead(STDOUT, "  13 3 0 0", "  13 2 1 0")),
+        ("the model has no row 'planted' here", append(STDOUT, "planted\n")),
+        ("the model has no row '64' here", change(STDOUT, r"^64\n", "64\n64\n")),
+        ("the model has no row 'erase at 400 0 0' here", change(STDOUT, r"^erase at 50 0 0\n(?=(.*\n)erase)", "erase at 400 0 0\n")),
     ],
     "floor.py": [
         ("edits, and tests/floor.txt says", {**delete(EDIT), **change("docs/TRACE.md", rf"^.*`{CRATE}/must-fail/{NAME}`.*\n", "")}),

@@ -1,5 +1,5 @@
-// Known cells: what the compiled functions answer on known bytes, a row each, held against the file stdout. The proofs speak of the source;
-// this runs what the compiler made of it.
+// Known cells: what the compiled functions answer on known bytes, a row each, held against the file stdout, which tests/known.py works out by
+// the papers. The proofs speak of the source; this runs what the compiler made of it.
 use codes::Code;
 use libc::STDOUT_FILENO;
 use page::Row;
@@ -263,24 +263,44 @@ fn show_census(bytes: u32, strips: u32, page: &[u8]) {
     print_row(counted.rows[3]);
 }
 
-// Sets the first byte of strip k, as a part to be written; the answer is how long the part is.
+// Sets the last byte of strip k, as a part to be written; the answer is how long the part is.
 fn mark_strip(page: &mut [u8], bytes: usize, k: usize) -> usize {
     let part = page::shape::strip_mut(page, bytes, k);
-    if part.len() > 0 {
-        part[0] = 0xee;
+    let size = part.len();
+    if size > 0 {
+        part[size - 1] = 0xee;
     }
-    part.len()
+    size
 }
 
-// A page of 36 bytes with strip k marked: every other byte is as it was.
+// A page of 72 bytes, no two of them alike, with the last byte of strip k set: every other byte is as it was.
 fn show_strip(bytes: usize, k: usize) {
-    let mut page = [0x11u8; 36];
+    let mut page = *b"ABCDEFGHIJKLMNOPQRSTUVWXYZabcdefghijklmnopqrstuvwxyz0123456789+-*/=<>.,:";
     let size = mark_strip(&mut page, bytes, k);
-    io::write_all(STDOUT_FILENO, b"strip of ");
+    io::write_all(STDOUT_FILENO, b"L = ");
+    io::print_decimal(STDOUT_FILENO, bytes as u64);
+    io::write_all(STDOUT_FILENO, b", strip ");
+    io::print_decimal(STDOUT_FILENO, k as u64);
+    io::write_all(STDOUT_FILENO, b": ");
     io::print_decimal(STDOUT_FILENO, size as u64);
     io::write_all(STDOUT_FILENO, b" bytes, page ");
     print_bytes(&page);
     io::write_all(STDOUT_FILENO, b"\n");
+}
+
+// Strips of pages where L is not S, and parts that are empty: a strip beyond the end, also one that no product of its number fits, and L
+// outside its limits.
+fn show_strips() {
+    show_strip(3, 2);
+    show_strip(3, 3);
+    show_strip(4, 1);
+    show_strip(2, 1);
+    show_strip(1, 2);
+    show_strip(3, 4);
+    show_strip(5, 2);
+    show_strip(3, 18446744073709551615);
+    show_strip(0, 0);
+    show_strip(65, 0);
 }
 
 // Every call where L is not S, so that one taken for the other shows.
@@ -297,9 +317,15 @@ fn show_shapes() {
     show_census(65, 1, &page);
     show_census(1, 65, &page);
     show_erase_of(b"erase, L = 3, S = 2", 3, 2, &mut page, 200);
-    show_strip(2, 1);
-    show_strip(1, 2);
-    show_strip(2, 3);
+}
+
+// A write that changes the data of strip 1 alone: strip 0 keeps its bytes.
+fn show_one_strip() {
+    let mut page = [0u8; 48];
+    let mut data = [0x80, 0x01, 0xc3, 0x40, 0x5a, 0xff, 0x0f, 0x1e];
+    show_calls_on(b"L = 4, S = 2, code 3", 3, 4, 2, &mut page, &mut data);
+    data[5] = 0x3c;
+    show_calls_on(b"the same, strip 1", 3, 4, 2, &mut page, &mut data);
 }
 
 // Writes with weights one after the other on one page, with L not S.
@@ -448,7 +474,7 @@ fn show_marked() {
 }
 
 // Lists of writes: the paper's seven; one for whose third data strip 1 is spent, while its fourth would fit; lists where L is not S, with
-// other weights, on one page; 64 datas: answers and pages by write_list, the model in tests/run.py.
+// other weights, on one page; 64 datas.
 fn show_lists() {
     let house = cells::house_weights();
     let seven = [0x80, 0, 0x80, 0, 0x80, 0, 0x80];
@@ -491,7 +517,7 @@ fn show_lists() {
     );
 }
 
-// Those that are refused, by the paper: nothing is written, and the page stays.
+// Those that are refused: nothing is written, and the page stays.
 fn show_refused_lists() {
     let house = cells::house_weights();
     let seven = [0x80, 0, 0x80, 0, 0x80, 0, 0x80];
@@ -624,6 +650,36 @@ fn show_readings() {
     );
 }
 
+// The state that follows a state with a digit.
+fn show_next(code: Code, name: &[u8], state: u32, digit: u32) {
+    io::write_all(STDOUT_FILENO, name);
+    io::write_all(STDOUT_FILENO, b"state ");
+    io::print_decimal(STDOUT_FILENO, state as u64);
+    io::write_all(STDOUT_FILENO, b" digit ");
+    io::print_decimal(STDOUT_FILENO, digit as u64);
+    io::write_all(STDOUT_FILENO, b" next ");
+    io::print_decimal(STDOUT_FILENO, code.next(state, digit) as u64);
+    io::write_all(STDOUT_FILENO, b"\n");
+}
+
+// States and digits that give another state when one is taken for the other, also a state of 2^m and more and a digit above 1.
+fn show_states() {
+    show_next(Code::short(), b"code 3 ", 0, 1);
+    show_next(Code::short(), b"code 3 ", 1, 0);
+    show_next(Code::short(), b"code 3 ", 2, 1);
+    show_next(Code::short(), b"code 3 ", 3, 2);
+    show_next(Code::short(), b"code 3 ", 5, 4);
+    show_next(Code::short(), b"code 3 ", 4294967295, 6);
+    show_next(Code::short(), b"code 3 ", 6, 4294967295);
+    show_next(Code::long(), b"code 7 ", 0, 1);
+    show_next(Code::long(), b"code 7 ", 1, 0);
+    show_next(Code::long(), b"code 7 ", 37, 1);
+    show_next(Code::long(), b"code 7 ", 63, 10);
+    show_next(Code::long(), b"code 7 ", 100, 7);
+    show_next(Code::long(), b"code 7 ", 4294967295, 6);
+    show_next(Code::long(), b"code 7 ", 6, 4294967295);
+}
+
 // Cells raised, and the cost of a climb.
 fn show_raises() {
     show_raise([0, 0, 0, 0, 0, 0], 0);
@@ -643,11 +699,14 @@ fn show_raises() {
 
 fn main() {
     show_readings();
+    show_states();
     show_raises();
     show_calls();
     show_erases();
     show_counts();
     show_shapes();
+    show_strips();
+    show_one_strip();
     show_weights();
     show_zero_weights();
     show_maps();
