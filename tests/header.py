@@ -182,11 +182,13 @@ def grounds(function):
 def misordered(exported):
     """What is wrong with the sentences about the order of the tests, and with what each call is said to be refused by, in that order."""
     bad = [f"{path} has no line '{line}'" for path, line in IN_TURN if line not in read(path).splitlines()]
-    given, state = tested("listGround"), [7, *tested("eraseGround")]
+    given, header = tested("listGround"), prose("include/segrunov.h")
+    orders = {"input": listed(given), "all": listed([*given, 7, *tested("eraseGround")])}
     for path, sentence in ORDERS:
-        wanted = sentence.format(input=listed(given), all=listed(given + state))
+        wanted = sentence.format(**orders)
         bad += [] if wanted in prose(path) else [f"{path} does not say '{wanted}'"]
-    header = prose("include/segrunov.h")
+    for said in re.findall(r"in the order (\d+(?:, \d+)*)", header):
+        bad += [] if said in orders.values() else [f"include/segrunov.h has the order {said}, which is none of the definitions'"]
     for function in exported:
         said = re.findall(rf"Refused by {NUMBERS}(?=(?:(?!/\*).)*\*/ \w+ {named(function)}\()", header)
         if [spelled(text) for text in said] != [grounds(function)]:

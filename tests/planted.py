@@ -209,6 +209,7 @@ FAULTS = {
         ("declares 'extern int segrunov_planted', and no", append(HEADER, "extern int segrunov_planted;\n")),
         ("does not say 'The grounds that a call has are tested in", instead(HEADER, "9, 10, 4, 11, 5, 7, 8", "9, 10, 4, 11, 5, 8, 7")),
         ("does not say '1 to 5 and 9 to 11 from the input", instead(HEADER, "9, 10, 4, 11, 5; 7", "10, 9, 4, 11, 5; 7")),
+        ("has the order 2, 1, which is none", append(HEADER, "/* tested in the order 2, 1 */\n")),
         ("README.md does not say 'the order of the tests", instead("README.md", "9, 10, 4, 11, 5, 7, 8", "9, 10, 11, 4, 5, 7, 8")),
         *(
             (f"segrunov_{call} is refused by", refused_by(call, old, new))
