@@ -13,6 +13,9 @@ void reset(void)
     *(volatile uint32_t *)0xe000ed88 |= UINT32_C(0xf) << 20; /* CPACR: the floating-point unit is off at reset */
     __asm__ volatile("dsb\n isb");
 #endif
+#ifdef FREESTANDING
+    *(volatile uint32_t *)0xe000ed14 |= UINT32_C(1) << 3; /* CCR: trap unaligned accesses. newlib makes some, the library is to make none */
+#endif
     _start();
 }
 
