@@ -56,6 +56,7 @@ fn marks_of(map: &[u8], q: usize) -> u64
 fn levels_of(bits: u64) -> u64
     requires { ⌜ bits < 2 ^ 48 ⌝ }
     ensures { λ r. ⌜ r ≡ packedOf 3 (cellKind bits 0) 16 ⌝ }
+    ensures { λ _. do ⌜ (← ⟦LOWEST⟧ .entry) ≡ packedOf 3 (λ c. 1) 16 ⌝ }
 {
     (bits & LOWEST) + ((bits >> 1) & LOWEST) + ((bits >> 2) & LOWEST)
 }

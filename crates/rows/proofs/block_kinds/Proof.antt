@@ -45,11 +45,11 @@ kinds-of-requires c κs = bits-fit (c .before .before .before)
 returns : tie.Need-returns
 returns c =
     let a = c .before .before .before .before .before .args in
-    c .levels-of .ensures ∙ ap₂ cells (c .before .before .bits-of .ensures) (none-marked (a .map .now) (a .q) (c .before .if1 .taken))
+    c .levels-of .ensures .0 ∙ ap₂ cells (c .before .before .bits-of .ensures) (none-marked (a .map .now) (a .q) (c .before .if1 .taken))
 
 returns-2 : tie.Need-returns-2
 returns-2 c =
-    c .levels-of2 .ensures
+    c .levels-of2 .ensures .0
     ∙ ap₂ cells (c .before .before .before .before .bits-of .ensures) (sym (c .before .if2 .taken) ∙ c .before .before .marks-of .ensures)
 
 returns-3 : tie.Need-returns-3

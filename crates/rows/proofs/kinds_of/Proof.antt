@@ -13,7 +13,7 @@ abbrev second : tie.After-marked-cells → ℕ
 second c = bitAnd (c .marked-cells .result) seconds
 
 levels-less : (c : tie.After-marked-cells) → c .before .levels-of .result < 2 ^ 48
-levels-less c = kinds-less _ _ (c .before .levels-of .ensures)
+levels-less c = kinds-less _ _ (c .before .levels-of .ensures .0)
 
 second-less : (c : tie.After-marked-cells) → second c < 2 ^ 48
 second-less c = omega (arith, and-le-r (c .marked-cells .result) seconds, seconds-less)
@@ -50,7 +50,7 @@ returns : tie.Need-returns
 unfolding packedOf
 returns c =
     let a = c .before .before .args in
-    kinds-packed (a .bits) (a .marks) _ _ (c .before .levels-of .ensures) (c .marked-cells .ensures)
+    kinds-packed (a .bits) (a .marks) _ _ (c .before .levels-of .ensures .0) (c .marked-cells .ensures)
 
 pub kinds-of-spec : {M : Type 1} → statement M
 kinds-of-spec = tie.close (tie.spec levels-of-requires marked-cells-requires mul-result mul-result-2 add-result returns)

@@ -1,4 +1,5 @@
 -- The three layers of bits, added up; their sum is 48 bits.
+use mathlib.Core.Path.{refl}
 use Prim.Native.Nat.{_/_}
 use native.Mathlib.Omega.{arith}
 use lib.Bits.{and-le-r}
@@ -22,7 +23,7 @@ add-result-2 c =
 
 returns : tie.Need-returns
 unfolding packedOf
-returns c = levels-packed (c .args .bits)
+returns c = (levels-packed (c .args .bits), refl)
 
 pub levels-of-spec : {M : Type 1} → statement M
 levels-of-spec = tie.close (tie.spec add-result add-result-2 returns)
