@@ -1,5 +1,5 @@
 #!/usr/bin/env python3
-"""Fails where the contract of a function says too little or asks too much.
+"""Fails where the contract of a function says too little or asks too much, or where no contract speaks of a public constant.
 
 1. 'Every public call has a contract on its result' (document 01): every public function of a library has an `ensures`, and where it has a
    result, one that names the result and speaks of it.
@@ -7,7 +7,11 @@
    function returns a part of the buffer to be written, nothing can be said at exit (docs/DECISIONS.md).
 3. The public functions of the crates in TAKE_ALL but those of BEHIND, those that the crate `page` hands on, and what is exported to C take
    every input: they have no `requires`.
+4. No `ensures` has the same text on both sides of ≡ or ≤, alone or beside others: that is true whatever the function does. So what the rules
+   above take for a word about a result or a buffer is one.
+5. Every public constant of a library is tied to its definition: an `ensures` names it, as ⟦CLOSED⟧.
 """
+import collections
 import re
 
 import rattle
@@ -24,6 +28,39 @@ BEHIND = {"refusals::judge_page", "refusals::judge_map", "refusals::judge_data"}
 def words(clause):
     """The words of a clause's text, without the marks of a name that is also a keyword."""
     return [word.strip("«»") for word in re.findall(r"[^\s(){}⌜⌝,;]+", clause)]
+
+
+def bare(said):
+    """Words without the brackets around all of them."""
+    return said[0] if len(said) == 1 else said
+
+
+def nested(clause):
+    """The words of a clause, those in brackets as a list of their own."""
+    open_lists = [[]]
+    for word in re.findall(r"[(){}⌜⌝]|[^\s(){}⌜⌝]+", clause):
+        if word in "({⌜":
+            open_lists.append([])
+        elif word in ")}⌝":
+            closed = open_lists.pop()
+            open_lists[-1].append(bare(closed))
+        else:
+            open_lists[-1].append(word)
+    return open_lists[0]
+
+
+def empty_claims(said):
+    """The relations with the same words on both sides. A relation ends at × and →, and begins after the names that λ binds."""
+    parts = [[]]
+    for word in said:
+        if isinstance(word, list):
+            yield from empty_claims(word)
+        if word in ("×", "→") or word[-1:] == ".":
+            parts.append([])
+        else:
+            parts[-1].append(word)
+    for part in parts:
+        yield from (word for n, word in enumerate(part) if word in ("≡", "≤") and bare(part[:n]) == bare(part[n + 1 :]))
 
 
 def speaks_of_result(clause):
@@ -66,14 +103,23 @@ def main():
     for f in total:
         if f.requires:
             bad.append(f"{f.where}: {f.name} is to take every input and has a requires (rule 3)")
+    for f in everything:
+        for claim in (claim for clause in f.ensures for claim in empty_claims(nested(clause))):
+            bad.append(f"{f.where}: {f.name} has an ensures with the same on both sides of {claim} (rule 4)")
+    constants = [constant for crate in sorted(libraries) for constant in rattle.constants(crate)]
+    named = collections.Counter(name for f in everything for clause in f.ensures for name in re.findall(r"⟦(?:\w+::)*(\w+)⟧", clause))
+    for name, count in collections.Counter(name for _, name in constants).items():
+        if named[name] < count:
+            at = ", ".join(where for where, constant in constants if constant == name)
+            bad.append(f"{at}: {count} public constants {name}, and {named[name]} ensures that say what it is (rule 5)")
     bad += [f"BEHIND has {name}, which asks nothing" for name in sorted(BEHIND - {f.name for f in entries if f.requires})]
     bad += [f"crates/page hands on {name}, which is no function" for name in sorted(handed_on - {f.name for f in everything})]
-    if not (public and lenders and total and handed_on):
+    if not (public and lenders and total and handed_on and constants):
         bad.append("a rule found no function that it is about")
     finish(
         bad,
         f"contracts: {len(everything)} functions, {len(public)} public ones of a library, {len(lenders)} that are lent a buffer, "
-        f"{len(total)} that take every input",
+        f"{len(total)} that take every input; {len(constants)} public constants",
     )
 
 

@@ -1,4 +1,4 @@
-"""The functions of the crates, read from src/: their names as rt writes them, parameters, results and contracts.
+"""The functions of the crates, read from src/: their names as rt writes them, parameters, results and contracts; and the public constants.
 
 Every word `fn` of the code is accounted for: a check that passed over a function it cannot read would say nothing of it.
 """
@@ -123,6 +123,13 @@ def handed_on(crate):
     """The names of the functions of other crates that a crate hands on by `pub use`; a type's name begins with a capital letter."""
     lines = (line for _, _, text in sources(crate) for line in re.findall(r"^\s*pub use ([\w:]+);$", text, re.M))
     return {name for name in lines if not name.split("::")[-1][0].isupper()}
+
+
+def constants(crate):
+    """The public constants of a crate: where each stands, and its name."""
+    for _, path, text in sources(crate):
+        for item in re.finditer(r"\bpub\b(?:\([^)]*\))?\s+const\s+(\w+)", text):
+            yield f"{path}:{len(text[:item.end()].splitlines())}", item[1]
 
 
 def functions():
