@@ -4,7 +4,7 @@
 1. 'Every public call has a contract on its result' (document 01): every public function of a library has an `ensures`, and where it has a
    result, one that names the result and speaks of it.
 2. Every function of a library says what becomes of each buffer that it is lent to change: an `ensures` speaks of it at exit. Where the
-   function returns a part of the buffer to be written, nothing can be said at exit (docs/DECISIONS.md).
+   function returns a part of the buffer to be written, nothing can be said at exit (docs/DECISIONS.md); tests/parts.py is for these.
 3. The public functions of the crates in TAKE_ALL but those of BEHIND, those that the crate `page` hands on, and what is exported to C take
    every input: they have no `requires`.
 4. No `ensures` has the same text on both sides of ≡ or ≤, alone or beside others: that is true whatever the function does. So what the rules

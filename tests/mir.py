@@ -1,5 +1,5 @@
-"""The functions of the libraries as the compiler has them, in its intermediate form (MIR): the types of their locals, what they call, and
-what each local can lead to.
+"""The functions of the libraries as the compiler has them, in its intermediate form (MIR): the types of their locals, what they call, what
+each local can lead to, and through which ones they store.
 
 The form is the term that the kit's `rattle-print-mir` writes of the source. `rt mir` prints the same, but proves the crates below it first,
 and the faults of tests/planted.py are not proved.
@@ -24,6 +24,7 @@ class Function:
     locals: list  # their types
     in_memory: set  # the locals that have an address: no other array can be indexed or lent
     calls: set  # the names of what it calls
+    stores: set  # the locals through which it stores: not the local itself is assigned, but what it leads to
     leads: list  # for each local where it can lead: ("own", n) to the local n itself, ("lent", n) where the parameter n leads
 
 
@@ -122,14 +123,28 @@ def sources(value, leads):
     return own.union(*(leads[int(place[1])] for place in within(value, "place") if place not in addresses))
 
 
-def leads_of(parameters, size, body):
+def stores(body):
+    """The places that are stored in, by an assignment or as the result of a call, and what each is made of."""
+    left = [body]
+    while left:
+        match left.pop():
+            case ["assign", place, value] | ["call", _, value, place]:
+                yield place, value
+            case ["seq" | "loop" | "block" | "default", *parts] | ["if" | "switch" | "arm", _, *parts]:
+                left += parts
+            case "skip" | "return" | "noDefault" | ["exit", _]:
+                pass
+            case other:
+                sys.exit(f"mir: the statement {other} is not understood")
+
+
+def leads_of(parameters, size, stored):
     """Where each local can lead, whatever the order of the statements."""
-    stores = [(store[1], store[2]) for store in within(body, "assign")] + [(call[3], call[2]) for call in within(body, "call")]
     leads = [{("lent", n)} if 1 <= n <= parameters else set() for n in range(size)]
     before = None
     while before != leads:
         before = [set(places) for places in leads]
-        for (_, local, _), value in stores:
+        for (_, local, _), value in stored:
             leads[int(local)] |= sources(value, leads)
     return leads
 
@@ -138,6 +153,7 @@ def function(definition):
     _, name, (_, _, _, parameters, kinds, body), *_ = definition
     locals_ = list(members(kinds))
     callees = [call[1] for call in within(body, "call")]
+    stored = list(stores(body))
     if other := [callee for callee in callees if callee[0] != "direct"]:
         sys.exit(f"mir: {name} has a call that is not understood: {other[0]}")
     return Function(
@@ -146,7 +162,8 @@ def function(definition):
         [kind for _, kind, _ in locals_],
         {n for n, (_, _, stored) in enumerate(locals_) if stored == "memorySlot"},
         {callee[1][1] for callee in callees},
-        leads_of(int(parameters), len(locals_), body),
+        {int(local) for (_, local, path), _ in stored if any(within(path, "deref"))},
+        leads_of(int(parameters), len(locals_), stored),
     )
 
 

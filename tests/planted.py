@@ -32,6 +32,7 @@ REWRITING = "crates/page_rewriting/src/lib.rt"
 BACKWARD = "crates/trellis/src/backward.rt"
 READING = "crates/page_reading/src/lib.rt"
 ROWS = "crates/rows/src/lib.rt"
+PARTS = "crates/page_parts/src/lib.rt"
 STRIP = "code, &rows, strip(page, bytes, k), map_part(map, bytes, k), &data[a..a + bytes]"
 KEPT = "let mut kept = [0u8; 64]; kept[0] = 1;"
 
@@ -105,6 +106,11 @@ def in_price_strip(line, item=""):
     return {**before(BACKWARD, "    while q > 0", f"    {line}\n"), **append(ROWS, f"\n{item}\n")}
 
 
+def in_strip_mut(line, item=""):
+    """strip_mut with a line more before it returns the part, and an item more beside it, for the line to use."""
+    return {PARTS: lambda old: re.sub(r"^(?=    &mut page\[)", f"    {line}\n", old, flags=re.M) + f"\n{item}\n"}
+
+
 def priced_by(call):
     """price_strips with another call for the price of a strip, and an array that it may use."""
     return change(REWRITING, r"let price = price_strip\([^;]*;", f"let mut kept = [0u8; 64]; let price = {call};")
@@ -132,6 +138,7 @@ SAID = f"note: what antt said of a `search` in the proof that rattle made: AT/sr
 NOTE = "note: AT/src/lib.rt:1:1: it is not proved that P (`planted`)"
 PROOF = "AT/proofs/planted/Proof.antt:1:1:"
 ASKS = "requires { ⌜ ⊤ ⌝ }"
+STORE = "if page.len() > 0 { page[0] = 0; }"
 
 # For each check, what it is to say, and the fault.
 FAULTS = {
@@ -292,6 +299,30 @@ FAULTS = {
         ),
         ("cells::bit keeps [u8; 3] 0 times, and 1 are named", change("tests/pricing.py", r'"cells::weight"', '"cells::bit"')),
         ("has no place for a word", change("tests/pricing.py", r'(?<="\[u32; 64\]"\): \(1, )"a state"', '"a word"')),
+        ("the source is rejected", append(ROWS, "\npub fn planted() -> u32 {}\n")),
+    ],
+    "parts.py": [
+        ("page_parts::strip_mut stores through a reference", in_strip_mut(STORE)),
+        ("page_parts::strip_mut stores through a reference", in_strip_mut("let mut i = 0; while i < page.len() { page[i] = 0; i += 1; }")),
+        ("page_parts::strip_mut lends page_parts::planted", in_strip_mut("planted(page);", f"fn planted(page: &mut [u8]) {{ {STORE} }}")),
+        ("page_parts::strip_mut lends cells::raise", in_strip_mut("cells::raise(page, 0);")),
+        (
+            "page_parts::planted stores through a reference",
+            in_strip_mut("let page = planted(page);", f"fn planted(page: &mut [u8]) -> &mut [u8] {{ {STORE} page }}"),
+        ),
+        (
+            "rows::planted stores through a reference",
+            append(ROWS, "\npub fn planted(n: &mut u32) -> &mut u32 {\n    *n = 0;\n    n\n}\n"),
+        ),
+        (
+            "rows::planted stores through a reference",
+            append(
+                ROWS,
+                "\npub struct Part<'a> {\n    pub part: &'a mut [u8],\n}\n\n"
+                f"pub fn planted(page: &mut [u8]) -> Part {{\n    {STORE}\n    Part {{ part: page }}\n}}\n",
+            ),
+        ),
+        ("no function hands out a &mut", {PARTS: lambda old: old.replace("-> &mut [u8]", "-> &[u8]").replace("&mut page[", "&page[")}),
         ("the source is rejected", append(ROWS, "\npub fn planted() -> u32 {}\n")),
     ],
     "measured": [
