@@ -16,6 +16,9 @@ from repository import ROOT, crates
 
 TOKEN = re.compile(r'[()]|"[^"]*"|[^\s()"]+')
 
+# The number of its variant, which a value of an enum has beside the fields.
+VARIANT = ["tyInt", "8"]
+
 
 @dataclasses.dataclass
 class Function:
@@ -72,7 +75,7 @@ class Types:
                 case [_, name, ["fields", fields]]:
                     self.named[name] = list(members(fields))
                 case [_, name, ["variants", variants]]:
-                    self.named[name] = [kind for fields in members(variants) for kind in members(fields)]
+                    self.named[name] = [VARIANT, *(kind for fields in members(variants) for kind in members(fields))]
 
     def parts(self, kind):
         """The types that a type is made of."""
@@ -87,14 +90,19 @@ class Types:
                 return self.named[name]
         sys.exit(f"mir: the type {kind} is not understood")
 
-    def arrays(self, kind):
-        """The arrays that a value of this type holds: not those that a reference leads to."""
+    def held(self, kind):
+        """A type and those that it is made of, but not those that a reference leads to."""
+        parts = [] if kind[0] == "tyRef" else self.parts(kind)
+        return [kind, *(inner for part in parts for inner in self.held(part))]
+
+    def numbers(self, kind):
+        """How many numbers a value of this type has room for. A reference is one, to a slice two; an enum has those of all its variants."""
         match kind:
-            case ["tyArray", *_]:
-                return [kind]
-            case ["tyRef", *_]:
-                return []
-        return [array for part in self.parts(kind) for array in self.arrays(part)]
+            case ["tyArray", element, [_, length]]:
+                return int(length) * self.numbers(element)
+            case "tyBool" | "tyPtr" | ["tyInt" | "tyRef", *_]:
+                return 1
+        return sum(map(self.numbers, self.parts(kind)))
 
     def mutable(self, kind):
         """Whether a value of this type holds a `&mut`."""

@@ -106,6 +106,16 @@ def in_price_strip(line, item=""):
     return {**before(BACKWARD, "    while q > 0", f"    {line}\n"), **append(ROWS, f"\n{item}\n")}
 
 
+def each(count, text):
+    """A text for each number below this, which stands in it for #."""
+    return " ".join(text.replace("#", str(n)) for n in range(count))
+
+
+def struct(name, count, kind, value):
+    """A struct with so many fields of a type, and a value of it by the value of a field."""
+    return f"pub struct {name} {{ {each(count, f'pub a#: {kind},')} }}", f"rows::{name} {{ {each(count, f'a#: {value},')} }}"
+
+
 def in_strip_mut(line, item=""):
     """strip_mut with a line more before it returns the part, and an item more beside it, for the line to use."""
     return {PARTS: lambda old: re.sub(r"^(?=    &mut page\[)", f"    {line}\n", old, flags=re.M) + f"\n{item}\n"}
@@ -139,6 +149,12 @@ NOTE = "note: AT/src/lib.rt:1:1: it is not proved that P (`planted`)"
 PROOF = "AT/proofs/planted/Proof.antt:1:1:"
 ASKS = "requires { ⌜ ⊤ ⌝ }"
 STORE = "if page.len() > 0 { page[0] = 0; }"
+FLAG = "pub enum Flag { No, Yes }"
+FIELDS, FIELDS_VALUE = struct("Fields", 64, "u32", "0")
+BITS, BITS_VALUE = struct("Bits", 8, "u64", "0")  # a bit for each stage
+OUTER, OUTER_VALUE = struct("Outer", 8, "Bits", BITS_VALUE)
+FLAGS, FLAGS_VALUE = struct("Flags", 64, "Flag", "rows::Flag::No")
+ROOMS, ROOMS_VALUE = struct("Rooms", 8, "[u32; 4]", "[0; 4]")
 
 # For each check, what it is to say, and the fault.
 FAULTS = {
@@ -294,9 +310,32 @@ FAULTS = {
             append(WRITING, "\npub fn price_planted(page: &[u8]) -> crate::Census {\n    crate::counting::census(1, 1, page)\n}\n"),
         ),
         (
-            "planted has [u8; 512], the type of no array that is named",
+            "planted has [u8; 512], the type of nothing that is named",
             in_price_strip("rows::planted([0; 512]);", "pub fn planted(kept: [u8; 512]) {}"),
         ),
+        ("price_strip has rows::Fields, the type of nothing that is named", in_price_strip(f"let kept = {FIELDS_VALUE};", FIELDS)),
+        ("price_strip has rows::Bits, the type of nothing that is named", in_price_strip(f"let kept = {BITS_VALUE};", BITS)),
+        ("price_strip has rows::Outer, the type of nothing that is named", in_price_strip(f"let kept = {OUTER_VALUE};", f"{BITS}\n{OUTER}")),
+        ("price_strip has rows::Flags, the type of nothing that is named", in_price_strip(f"let kept = {FLAGS_VALUE};", f"{FLAG}\n{FLAGS}")),
+        ("price_strip has rows::Rooms, the type of nothing that is named", in_price_strip(f"let kept = {ROOMS_VALUE};", ROOMS)),
+        (
+            "rows::planted has rows::Bits, the type of nothing that is named",
+            in_price_strip(f"rows::planted({BITS_VALUE});", f"{BITS}\npub fn planted(kept: Bits) {{}}"),
+        ),
+        (
+            "price_strip has rows::Kept, the type of nothing that is named",
+            in_price_strip(f"let kept = rows::Kept::Some({each(8, '0,')});", f"pub enum Kept {{ None, Some({each(8, 'u64,')}) }}"),
+        ),
+        (
+            "price_strip keeps rows::Bits 1 times, and 0 are named",
+            in_price_strip(f"let kept = {BITS_VALUE}; rows::planted(&kept);", f"{BITS}\npub fn planted(kept: &Bits) {{}}"),
+        ),
+        (
+            "price_strip keeps [rows::Bits; 64] 1 times, and 0 are named",
+            in_price_strip(f"let kept = [{BITS_VALUE}; 64]; let bit = kept[q % 64].a0;", BITS),
+        ),
+        ("numbers, and a strip has 64 blocks", in_price_strip(each(64, "let a# = q;"))),
+        ("numbers, and a strip has 64 blocks", in_price_strip(each(64, "let a# = [0u32; 4];"))),
         ("cells::bit keeps [u8; 3] 0 times, and 1 are named", change("tests/pricing.py", r'"cells::weight"', '"cells::bit"')),
         ("has no place for a word", change("tests/pricing.py", r'(?<="\[u32; 64\]"\): \(1, )"a state"', '"a word"')),
         ("the source is rejected", append(ROWS, "\npub fn planted() -> u32 {}\n")),

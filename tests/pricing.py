@@ -5,8 +5,11 @@ and all that these call.
 1. What has the word in its name is lent nothing that it may change: no parameter of it has a `&mut`.
 2. A `&mut` leads to an array that `price_strip` itself keeps, and to nothing else.
 3. The arrays that are kept in memory are those of KEPT, and those that are only passed by value have the types of these. KEPT says of each
-   array what it has a place for, one of PLACES: a stage or a cell is not among them.
+   array what it has a place for, one of PLACES: a stage or a cell is not among them. A struct or an enum with room for more than SMALL
+   numbers is an array under another name, and is named in the same way.
 4. No function calls itself, directly or by others: the frames of such calls would be an array too.
+5. The locals of a function, its temporaries among them, are room for fewer numbers than a strip has blocks of eight stages; an array counts
+   as one here.
 """
 import collections
 import re
@@ -23,6 +26,12 @@ PLACES = {
     "a word of a row": 4 * 64,  # by the kind of the first cell, the level of the second and a label
     "a state": 64,
 }
+
+# The numbers of an answer, the largest that a price has: a cost, a strip, a refusal, and which of the three it is.
+SMALL = 4
+
+# The blocks of eight stages of the longest strip; its stages and its cells are more.
+BLOCKS = 64
 
 # The arrays that the functions keep: how many of a type, and what each has a place for.
 KEPT = {
@@ -47,6 +56,16 @@ def is_price(name):
     return re.search(r"(?:^|_)price(?:_|$)", name.split("::")[-1])
 
 
+def is_array(kind):
+    return kind[0] == "tyArray"
+
+
+def places(kind, types):
+    """How many places a type has that is to be named: an array its elements, a struct or an enum its numbers. 0 where it is not to be."""
+    room = types.numbers(kind)
+    return int(kind[2][1]) if is_array(kind) else room if room > SMALL else 0
+
+
 def reached(functions, names):
     """These functions and all that they call."""
     seen, new = set(), set(names)
@@ -68,31 +87,33 @@ def led_elsewhere(f, types):
     keeper = f.name.split("::")[-1] == "price_strip"
     targets = {n for local, kind in enumerate(f.locals) if types.mutable(kind) for how, n in f.leads[local] if how == "own"}
     for n in sorted(targets):
-        if not keeper or types.arrays(f.locals[n]) != [f.locals[n]]:
+        if not keeper or not is_array(f.locals[n]):
             yield f"{f.name} makes a &mut of its own {mir.text(f.locals[n])}: only price_strip does so, and of an array (rule 2)"
 
 
-def kept(f, types):
-    """The arrays that a function keeps in memory, and those that it has as values, by their types."""
-    arrays = [(n in f.in_memory, mir.text(array)) for n, kind in enumerate(f.locals) for array in types.arrays(kind)]
-    return collections.Counter(text for stored, text in arrays if stored), {text for stored, text in arrays if not stored}
-
-
-def other_arrays(held, types):
+def unnamed(held, types):
     """Faults by rule 3."""
     types_named = {text for _, text in KEPT}
-    found = {}
+    found, sizes = collections.Counter(), {}
     for f in held:
-        stored, passed = kept(f, types)
-        found |= {(f.name, text): count for text, count in stored.items()}
-        yield from (f"{f.name} has {text}, the type of no array that is named (rule 3)" for text in passed - types_named)
+        kinds = [(n, kind) for n, local in enumerate(f.locals) for kind in types.held(local) if places(kind, types)]
+        sizes |= {mir.text(kind): places(kind, types) for _, kind in kinds}
+        found.update((f.name, mir.text(kind)) for n, kind in kinds if n in f.in_memory)
+        passed = {mir.text(kind) for n, kind in kinds if n not in f.in_memory}
+        yield from (f"{f.name} has {text}, the type of nothing that is named (rule 3)" for text in sorted(passed - types_named))
     for name, text in sorted(found.keys() | KEPT.keys()):
-        count, there = KEPT.get((name, text), (0, None))[0], found.get((name, text), 0)
-        if there != count:
-            yield f"{name} keeps {text} {there} times, and {count} are named (rule 3)"
-    for (name, text), (_, place) in KEPT.items():
-        if not text.endswith(f"; {PLACES[place]}]"):
+        count, place = KEPT.get((name, text), (0, None))
+        if found[name, text] != count:
+            yield f"{name} keeps {text} {found[name, text]} times, and {count} are named (rule 3)"
+        elif sizes[text] != PLACES[place]:
             yield f"{name}: {text} has no place for {place}, of which there are {PLACES[place]} (rule 3)"
+
+
+def roomy(f, types):
+    """Faults by rule 5."""
+    room = sum(1 if is_array(kind) else types.numbers(kind) for kind in f.locals)
+    if room >= BLOCKS:
+        yield f"{f.name} has locals for {room} numbers, and a strip has {BLOCKS} blocks (rule 5)"
 
 
 def main():
@@ -101,8 +122,9 @@ def main():
     held = reached(functions, (f.name for f in prices))
     bad = [line for f in prices for line in lent(f, types)]
     bad += [line for f in held for line in led_elsewhere(f, types)]
-    bad += other_arrays(held, types)
+    bad += unnamed(held, types)
     bad += [f"{f.name} calls itself (rule 4)" for f in held if f in reached(functions, f.calls)]
+    bad += [line for f in held for line in roomy(f, types)]
     named = sum(count for count, _ in KEPT.values())
     finish(bad, f"pricing: {len(prices)} functions that price, {len(held)} with what they call; {named} arrays, each named")
 
