@@ -283,6 +283,7 @@ FAULTS = {
     "changes.py": [
         ("does not list K0.md", append("docs/changes/K0.md", "# K0\n\n## The check's time\n\n## Moved\n\n## Stayed\n")),
         ("lists K0.md, and there is none", append("docs/changes/README.md", "| [K0](K0.md) | planted |\n")),
+        ("K8.md has a command that does not name two commits", change("docs/changes/K8.md", r"(?<=git diff \w{7}) \w{7}", "")),
         ("K4.md has no part '## Moved'", change("docs/changes/K4.md", r"^## Moved$", "## Planted")),
         ("quotes what stands in no crate: pub fn price(", change(WRITING, r"valueOf r ≤ largestCost", "valueOf r ≤ valueOf r")),
         ("quotes what stands in no crate: pub extern", change("docs/changes/K4.md", r"r % 4294967296", "r % 4294967295")),
