@@ -20,9 +20,10 @@
  *   map       2*L*S bytes, map_len of them: a bit for each cell of the page, and a one marks the cell
  *   data      L*S bytes, data_len of them, strip 0 first; of a list count*L*S bytes, one data after another
  *   tenths    the temperature in tenths of a degree Celsius
- * Every value of the types is allowed and answered; no call asks anything of a number. A pointer must lead to as many
- * bytes as its length says; with length 0 it may be NULL. Buffers of one call must not overlap, the map and the page
- * neither, and nobody else may write to them during the call.
+ * Every value of the types is allowed and answered; no call asks anything of a number. A length has 64 bits on every
+ * processor, also where size_t has fewer. A pointer must lead to as many bytes as its length says; with length 0 it may
+ * be NULL. Buffers of one call must not overlap, the map and the page neither, and nobody else may write to them during
+ * the call.
  *
  * THE ANSWER is one number. SEGRUNOV_NUMBER, 8 bits of it, is 0 where the call is done, else the number of the refusal.
  * SEGRUNOV_VALUE, its lower half, is the cost of a write or price that is done, the strip's number where the page is
@@ -79,7 +80,10 @@
  * programmed again: a part that takes a word once only, as with error correction over each word, does not serve.
  *
  * RESOURCES. No heap, no global state, no lock: calls on different buffers may run at the same time. Every call
- * returns. Stack: SEGRUNOV_STACK bytes at most. The C library must supply memcpy and memset; nothing else is needed.
+ * returns. Stack: SEGRUNOV_STACK bytes at most, on each processor that is tested. The C library must supply memcpy and
+ * memset, on a bare ARM by the names of its EABI (__aeabi_memcpy, __aeabi_memclr, __aeabi_memclr4). Where the processor
+ * does not divide 64 bits, the compiler's own library must (libgcc or compiler-rt: __aeabi_uldivmod or __udivdi3), and
+ * on a Cortex-M0 also shift, multiply and divide. Nothing else is needed; docs/PROCESSORS.md has the list by processor.
  */
 #ifndef SEGRUNOV_H
 #define SEGRUNOV_H
@@ -93,7 +97,7 @@ extern "C" {
 
 /* The version: its first number changes where a caller has to change, its second where there is more to call, else its
  * third. */
-#define SEGRUNOV_VERSION "1.3.1"
+#define SEGRUNOV_VERSION "1.3.2"
 
 /* The two codes. */
 #define SEGRUNOV_SHORT UINT32_C(3)
