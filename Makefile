@@ -9,7 +9,7 @@
 # make figures lines of code, definitions and proof by crate
 # make measure stack and time of each call of the C interface
 # make bench   the library's time beside other programs: docs/PERFORMANCE.md (ARCHIVE=file for another archive of the C interface)
-# make soak    the comparison ten times longer, with a new seed (or SEED=n, FACTOR=n or 1/n); TARGET=triple: on that processor, in qemu
+# make soak    the comparison ten times longer, with a new seed (or SEED=n, FACTOR=n or 1/n); TARGET=triple: on that processor in qemu, once
 
 .PHONY: test run lib install clients setup figures measure bench soak clean always
 
@@ -85,7 +85,7 @@ bench:
 	@bash bench/run
 
 SEED = $(shell date +%s)
-FACTOR = 10
+FACTOR = $(if $(TARGET),1,10)
 soak: lib
 	@bash tests/setup $(if $(TARGET),cpp $(TARGET))
 	@tests/build compare $(TARGET)
