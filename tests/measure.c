@@ -1,5 +1,6 @@
 /*
- * Measures each call: the most stack that it needs, over both codes and the ends of L and S, and its time on the largest page. A list has two datas.
+ * Measures each call: the most stack that it needs, over both codes and the ends of L and S, and its time on the largest page and on that of
+ * examples/relay.c. A list has two datas.
  * Fails where a call is refused or needs more stack than SEGRUNOV_STACK says, and where a price needs more than PRICE_STACK, or not the same for L = 1
  * and L = 64: it keeps no array with a place for each stage or cell.
  */
@@ -20,6 +21,7 @@ enum { MOST = 64, LISTED = 2, STACK = 1 << 16 };
 static const uint8_t PAINT = 0xc3;
 static const uint32_t CODES[] = {SEGRUNOV_SHORT, SEGRUNOV_LONG};
 static const uint32_t STRIPS[] = {1, MOST};
+static const uint32_t TIMED[][2] = {{MOST, MOST}, {8, 4}}; /* L and S */
 
 /* What the calls are made with; L and S say how much of the page, of the map and of the data is used. There is data for a list. */
 static uint32_t code, bytes, strips;
@@ -191,13 +193,14 @@ static size_t needed(const struct call *call, uint32_t c, uint32_t l, uint32_t s
     return all - nothing;
 }
 
-/* The least time of a call with this code on the largest page. */
-static double least_time(const struct call *call, uint32_t c)
+/* The least time of a call with these arguments. */
+static double least_time(const struct call *call, uint32_t c, uint32_t l, uint32_t s)
 {
     double least = 1e12;
     int i;
     code = c;
-    bytes = strips = MOST;
+    bytes = l;
+    strips = s;
     for (i = 0; i < ROUNDS; i++) {
         double took;
         renew();
@@ -238,14 +241,15 @@ static size_t most_needed(const struct call *call)
 
 int main(void)
 {
-    size_t i;
+    size_t i, s;
     for (i = 0; i < sizeof CALLS / sizeof *CALLS; i++) {
         const struct call *call = &CALLS[i];
         const size_t most = most_needed(call);
         printf("%-17s  stack %5u bytes", call->name, (unsigned)most);
-        if (ROUNDS > 0) {
-            printf("   64 strips of 64 bytes%s: code 3 " CLOCK ", code 7 " CLOCK, is_list(call) ? ", two datas" : "",
-                   least_time(call, SEGRUNOV_SHORT), least_time(call, SEGRUNOV_LONG));
+        for (s = 0; ROUNDS > 0 && s < 2; s++) {
+            const uint32_t l = TIMED[s][0], t = TIMED[s][1];
+            printf("   %2u strips of %2u bytes%s: code 3 " CLOCK ", code 7 " CLOCK, (unsigned)t, (unsigned)l, is_list(call) ? ", two datas" : "",
+                   least_time(call, SEGRUNOV_SHORT, l, t), least_time(call, SEGRUNOV_LONG, l, t));
         }
         printf("\n");
     }
