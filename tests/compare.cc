@@ -22,6 +22,7 @@
 #include <cstdint>
 #include <cstdio>
 #include <cstdlib>
+#include <cstring>
 #include <limits>
 #include <random>
 #include <set>
@@ -254,20 +255,32 @@ struct StripPath {
   bool tie = false;  // another path costs as much
 };
 
+// The strip is searched in pieces, from its end on, each a graph of its own: the widest strip would need hundreds of megabytes at once.
 class StripSearch {
  public:
-  StripSearch(const Trellis& trellis, const Weights& weights, Levels old, Levels highest, const Bytes& data)
+  StripSearch(const Trellis& trellis, const Weights& weights, const Levels& old, const Levels& highest, const Bytes& data)
       : trellis_(trellis),
-        step_weights_(weights),
-        old_(std::move(old)),
-        highest_(std::move(highest)),
         data_(data),
         stages_(8 * data.size()),
-        numbers_((stages_ + 1) * trellis.states(), kEnd) {}
+        piece_stages_(std::min(stages_, kPieceStates / trellis.states())),
+        reached_((stages_ + 1) * trellis.states(), 0),
+        chosen_(stages_ * trellis.states(), 0),
+        numbers_((piece_stages_ + 1) * trellis.states()),
+        ahead_(trellis.states(), 0) {
+    for (std::size_t t = 0; t < stages_; ++t) {
+      first_climbs_.push_back(climbs_.size());
+      for (unsigned x = old[2 * t]; x <= highest[2 * t]; ++x) {
+        for (unsigned y = old[2 * t + 1]; y <= highest[2 * t + 1]; ++y) {
+          climbs_.push_back(Climb{x, y, climb_cost(weights, old[2 * t], x) + climb_cost(weights, old[2 * t + 1], y)});
+        }
+      }
+    }
+    first_climbs_.push_back(climbs_.size());
+  }
 
   StripPath least() {
-    collect();
-    measure();
+    reach();
+    for (std::size_t last = stages_; last > 0;) last = measure(last);
     return walk();
   }
 
@@ -278,91 +291,131 @@ class StripSearch {
   };
   using Graph = boost::compressed_sparse_row_graph<boost::directedS, boost::no_property, Weight, boost::no_property, Vertex, std::uint32_t>;
 
-  static constexpr Vertex kEnd = 0;  // joined to every state after the last stage; as a state's number it says "never reached"
-  static constexpr std::uint32_t kFar = std::numeric_limits<std::uint32_t>::max();
+  // Levels that the two cells of a stage can take.
+  struct Climb {
+    unsigned x;
+    unsigned y;
+    std::uint32_t cost;
+  };
 
-  // Calls visit(x, y, next state, weight) for the edges that leave a state, the lower levels first.
+  static constexpr Vertex kEnd = 0;  // joined to every state after the last stage of a piece
+  static constexpr std::uint32_t kFar = std::numeric_limits<std::uint32_t>::max();
+  static constexpr std::size_t kPieceStates = 32768;  // a piece has no more in its stages, reached or not
+  static constexpr Vertex kPieceVertices = 10000;     // with so many it ends
+  static constexpr unsigned kTie = 16;                // in a choice, beside 4 * x + y
+
+  std::size_t place(std::size_t t, unsigned state) const { return t * trellis_.states() + state; }
+  Vertex& number(std::size_t t, unsigned state) { return numbers_[place(t % (piece_stages_ + 1), state)]; }
+
+  // Calls visit(climb, next state) for the edges that leave a state, the lower levels first.
   template <class Visit>
   void for_each_edge(std::size_t t, unsigned state, Visit visit) const {
-    for (unsigned x = old_[2 * t]; x <= highest_[2 * t]; ++x) {
-      for (unsigned y = old_[2 * t + 1]; y <= highest_[2 * t + 1]; ++y) {
-        const Trellis::Step& step = trellis_.step(state, x, y);
-        if (step.data_bit != bit_at(data_, t)) continue;
-        visit(x, y, step.next, climb_cost(step_weights_, old_[2 * t], x) + climb_cost(step_weights_, old_[2 * t + 1], y));
-      }
+    for (std::size_t i = first_climbs_[t]; i < first_climbs_[t + 1]; ++i) {
+      const Trellis::Step& step = trellis_.step(state, climbs_[i].x, climbs_[i].y);
+      if (step.data_bit == bit_at(data_, t)) visit(climbs_[i], step.next);
     }
   }
 
-  Vertex& number(std::size_t t, unsigned state) { return numbers_[t * trellis_.states() + state]; }
+  template <class Visit>
+  void for_each_reached(std::size_t t, Visit visit) const {
+    const std::uint8_t* const begin = reached_.data() + place(t, 0);
+    const std::uint8_t* const end = begin + trellis_.states();
+    for (const std::uint8_t* at = begin; at != end; ++at) {
+      const void* const found = std::memchr(at, 1, static_cast<std::size_t>(end - at));
+      if (found == nullptr) return;
+      at = static_cast<const std::uint8_t*>(found);
+      visit(static_cast<unsigned>(at - begin));
+    }
+  }
 
+  // From state 0 on, since before stage 0 every bit is 0: only the states that can be reached become vertices.
+  void reach() {
+    reached_[0] = 1;
+    for (std::size_t t = 0; t < stages_; ++t) {
+      for_each_reached(t, [&](unsigned state) {
+        for_each_edge(t, state, [&](const Climb&, unsigned next) { reached_[place(t + 1, next)] = 1; });
+      });
+    }
+  }
+
+  // An edge is turned round, so that one search from the end measures every vertex.
   void join(Vertex from, Vertex to, std::uint32_t cost) {
-    // Turned round, so that one search from the end measures every vertex.
     edges_.emplace_back(to, from);
     weights_.push_back(Weight{cost});
   }
 
-  // Breadth first from state 0, since before stage 0 every bit is 0: only the states that can be reached become vertices.
-  void collect() {
-    std::vector<unsigned> present = {0};
-    number(0, 0) = vertices_++;
-    for (std::size_t t = 0; t < stages_; ++t) {
-      std::vector<unsigned> following;
-      for (const unsigned state : present) {
-        const Vertex from = number(t, state);
-        for_each_edge(t, state, [&](unsigned, unsigned, unsigned next, std::uint32_t cost) {
-          Vertex& to = number(t + 1, next);
-          if (to == kEnd) {
-            to = vertices_++;
-            following.push_back(next);
-          }
-          join(from, to, cost);
-        });
-      }
-      present.swap(following);
+  // Measures the piece that ends before stage `last`, where ahead_ has what each state costs from there on, and gives back its first stage.
+  std::size_t measure(std::size_t last) {
+    edges_.clear();
+    weights_.clear();
+    Vertex vertices = kEnd + 1;
+    for_each_reached(last, [&](unsigned state) {
+      number(last, state) = vertices++;
+      if (ahead_[state] != kFar) join(number(last, state), kEnd, ahead_[state]);
+    });
+    std::size_t first = last;
+    while (first > 0 && last - first < piece_stages_ && vertices < kPieceVertices) {
+      --first;
+      for_each_reached(first, [&](unsigned state) {
+        number(first, state) = vertices++;
+        for_each_edge(first, state, [&](const Climb& climb, unsigned next) { join(number(first, state), number(first + 1, next), climb.cost); });
+      });
     }
-    for (const unsigned state : present) join(number(stages_, state), kEnd, 0);
+    search(vertices);
+    for (std::size_t t = first; t < last; ++t) {
+      for_each_reached(t, [&](unsigned state) { chosen_[place(t, state)] = choice(t, state); });
+    }
+    for_each_reached(first, [&](unsigned state) { ahead_[state] = distance_[number(first, state)]; });
+    return first;
   }
 
-  void measure() {
-    const Graph graph(boost::edges_are_unsorted_multi_pass, edges_.begin(), edges_.end(), weights_.begin(), vertices_);
-    distance_.assign(vertices_, kFar);
+  void search(Vertex vertices) {
+    const Graph graph(boost::edges_are_unsorted_multi_pass, edges_.begin(), edges_.end(), weights_.begin(), vertices);
+    distance_.assign(vertices, kFar);
     const auto index = boost::get(boost::vertex_index, graph);
     const auto distance = boost::make_iterator_property_map(distance_.begin(), index);
     boost::dag_shortest_paths(graph, kEnd, boost::weight_map(boost::get(&Weight::cost, graph)).distance_map(distance).distance_inf(kFar));
   }
 
+  // The lowest levels that lose no cost.
+  std::uint8_t choice(std::size_t t, unsigned state) {
+    const std::uint32_t here = distance_[number(t, state)];
+    unsigned chosen = 0;
+    unsigned tight = 0;
+    for_each_edge(t, state, [&](const Climb& climb, unsigned next) {
+      const std::uint32_t there = distance_[number(t + 1, next)];
+      if (there == kFar || climb.cost + there != here) return;
+      if (tight++ == 0) chosen = 4 * climb.x + climb.y;
+    });
+    return static_cast<std::uint8_t>(tight > 1 ? kTie + chosen : chosen);
+  }
+
   // Equal levels lead to equal states, so the lowest levels that lose no cost at each stage are the lowest of the strip.
-  StripPath walk() {
+  StripPath walk() const {
     StripPath path;
-    path.cost = distance_[number(0, 0)];
+    path.cost = ahead_[0];
     path.found = path.cost != kFar;
     unsigned state = 0;
     for (std::size_t t = 0; path.found && t < stages_; ++t) {
-      const std::uint32_t here = distance_[number(t, state)];
-      unsigned chosen = state;
-      unsigned tight = 0;
-      for_each_edge(t, state, [&](unsigned x, unsigned y, unsigned next, std::uint32_t cost) {
-        const std::uint32_t there = distance_[number(t + 1, next)];
-        if (there == kFar || cost + there != here) return;
-        if (tight++ > 0) return;
-        chosen = next;
-        path.levels.push_back(x);
-        path.levels.push_back(y);
-      });
-      path.tie = path.tie || tight > 1;
-      state = chosen;
+      const unsigned chosen = chosen_[place(t, state)];
+      path.levels.push_back(chosen / 4 % 4);
+      path.levels.push_back(chosen % 4);
+      path.tie = path.tie || chosen >= kTie;
+      state = trellis_.step(state, chosen / 4, chosen).next;
     }
     return path;
   }
 
   const Trellis& trellis_;
-  const Weights step_weights_;
-  const Levels old_;
-  const Levels highest_;
   const Bytes& data_;
   const std::size_t stages_;
-  std::vector<Vertex> numbers_;
-  Vertex vertices_ = kEnd + 1;
+  const std::size_t piece_stages_;         // the most that a piece has
+  std::vector<Climb> climbs_;              // stage by stage, the lower levels first
+  std::vector<std::size_t> first_climbs_;  // of each stage
+  Bytes reached_;                          // by stage and state, 1 where it is reached
+  Bytes chosen_;                           // by stage and state
+  std::vector<Vertex> numbers_;            // of the states of a piece that are reached
+  std::vector<std::uint32_t> ahead_;       // by state
   std::vector<std::pair<Vertex, Vertex>> edges_;
   std::vector<Weight> weights_;
   std::vector<std::uint32_t> distance_;
