@@ -8,7 +8,12 @@
 // weight is the cost of the two climbs. Boost gives the distance of every vertex to the end of the strip; a walk from the start along edges that lose
 // no cost, the lowest levels first, is then the write that document 01 asks for, ties included. A list is judged as such writes, one after another.
 // The first three writes after an erase are also held to the bound that document 02 has for them.
-// At the first disagreement the whole case is printed and the exit status is 1. FACTOR multiplies the number of random cases.
+// Reads, erases, refusals and writes of what is held need no search: the papers say outright what they give. Pages too wide for the search are held
+// against the library's own single writes. The last line has the three numbers of calls. Of every write the levels are summed, too: document 01's ledger.
+//
+// At the first disagreement the whole case is printed and the exit status is 1. FACTOR is a number n, and multiplies the random cases; or 1/n, up to
+// 1/100, and takes about so much of them: of the rounds, of the bytes that a page is tried with, of the shapes that a loop goes through. Every kind of
+// case is still met. A seed and a factor make the same calls on every machine: no two draws stand in one expression, unless C++ orders them.
 
 #include "segrunov.h"
 
@@ -18,6 +23,7 @@
 
 #include <algorithm>
 #include <array>
+#include <bitset>
 #include <cstddef>
 #include <cstdint>
 #include <cstdio>
@@ -174,9 +180,12 @@ bool marked_stay(const Bytes& page, const Bytes& after, const Bytes& map) { retu
 
 std::uint64_t sum_of_levels(const Bytes& page) {
   std::uint64_t sum = 0;
-  for (std::size_t k = 0; k < 8 * page.size(); ++k) sum += bit_at(page, k);
+  for (const std::uint8_t byte : page) sum += std::bitset<8>(byte).count();
   return sum;
 }
+
+// The ledger of documents 01 and 02: the sum of a page's levels is that of the page from which raises are counted, and the raises since.
+bool ledger_holds(const Bytes& from, std::uint64_t raises, const Bytes& page) { return sum_of_levels(page) == sum_of_levels(from) + raises; }
 
 // ---------------------------------------------------------------- document 02, K7: pages of an older release
 
@@ -428,9 +437,15 @@ std::uint64_t list_answer_of(std::uint32_t number, std::uint32_t cost, std::uint
   return answer_of(number, cost) + (std::uint64_t{written} << 40) + (std::uint64_t{strip} << 48);
 }
 
+// By what a call is judged: by the search, by what documents 01 and 02 say outright, or by the library's own answer to another call.
+enum Basis : unsigned { kBySearch, kByPapers, kByOwn, kBases };
+constexpr std::array<const char*, kBases> kBasisName = {"by the search", "by the papers", "by another call"};
+
 struct PageSearch {
   std::uint64_t answer = 0;
   Bytes page;
+  std::uint64_t raises = 0;    // the steps that cells climb, by the levels found
+  Basis basis = kByPapers;
   bool tie = false;
   bool out_of_order = false;   // a cell is raised whose ones are not those that the library alone would have set
   bool strip_decides = false;  // a raise that started by the cell's number in the page would set another bit
@@ -443,6 +458,7 @@ PageSearch search_page(const Code& code, Shape shape, const Weights& weights, co
   const Trellis& trellis = trellises[code.name == kCodes[0].name ? 0 : 1];
   PageSearch result;
   result.page = page;
+  result.basis = kBySearch;
   std::uint32_t cost = 0;
   for (std::uint32_t k = 0; k < shape.strips; ++k) {
     Bytes strip = part(page, k, strip_length(shape));
@@ -454,10 +470,12 @@ PageSearch search_page(const Code& code, Shape shape, const Weights& weights, co
       PageSearch spent;
       spent.answer = answer_of(SEGRUNOV_SPENT, k);
       spent.page = page;
+      spent.basis = kBySearch;
       spent.late_spent = cost > 0;
       return spent;
     }
     for (std::size_t cell = 0; cell < path.levels.size(); ++cell) {
+      result.raises += path.levels[cell] - old[cell];
       result.marked_one = result.marked_one || (highest[cell] == 1 && old[cell] == 1);
       for (unsigned level = level_of(strip, cell); level < path.levels[cell]; ++level) {
         const std::size_t in_page = k * path.levels.size() + cell;
@@ -508,6 +526,8 @@ struct Outcome {
   std::uint64_t answer;
   Bytes page;
   Bytes data;
+  std::uint64_t raises = 0;
+  Basis basis = kByPapers;  // of what is expected
 };
 
 std::string hex(const Bytes& bytes) {
@@ -521,10 +541,11 @@ std::string hex(const Bytes& bytes) {
 }
 
 void print_outcome(const char* whose, const Outcome& outcome) {
-  std::printf("%s number %lu value %lu written %lu spent strip %lu\n  page %s\n  data %s\n", whose,
+  std::printf("%s number %lu value %lu written %lu spent strip %lu raises %lu levels %lu\n  page %s\n  data %s\n", whose,
               static_cast<unsigned long>(SEGRUNOV_NUMBER(outcome.answer)), static_cast<unsigned long>(SEGRUNOV_VALUE(outcome.answer)),
               static_cast<unsigned long>(SEGRUNOV_WRITTEN(outcome.answer)), static_cast<unsigned long>(SEGRUNOV_SPENT_STRIP(outcome.answer)),
-              hex(outcome.page).c_str(), hex(outcome.data).c_str());
+              static_cast<unsigned long>(outcome.raises), static_cast<unsigned long>(sum_of_levels(outcome.page)), hex(outcome.page).c_str(),
+              hex(outcome.data).c_str());
 }
 
 [[noreturn]] void disagree(const char* what, const Call& call, const Outcome& expected, const Outcome& got) {
@@ -547,7 +568,7 @@ void print_outcome(const char* whose, const Outcome& outcome) {
 // A copy of some bytes between guard bytes. The front guard's length differs from buffer to buffer, so that every alignment is met.
 class Guarded {
  public:
-  Guarded(const Bytes& inner, std::size_t shift) : front_(kGuard + shift % 8), length_(inner.size()), all_(front_ + length_ + kGuard) {
+  Guarded(const Bytes& inner, std::uint64_t shift) : front_(kGuard + static_cast<std::size_t>(shift % 8)), length_(inner.size()), all_(front_ + length_ + kGuard) {
     for (std::size_t i = 0; i < all_.size(); ++i) all_[i] = pattern(i);
     std::copy(inner.begin(), inner.end(), all_.begin() + static_cast<std::ptrdiff_t>(front_));
   }
@@ -556,10 +577,8 @@ class Guarded {
   std::uint8_t* pointer() { return length_ == 0 && front_ % 2 == 0 ? nullptr : all_.data() + front_; }
   std::size_t length() const { return length_; }
 
-  Bytes inner() const {
-    const auto first = all_.begin() + static_cast<std::ptrdiff_t>(front_);
-    return Bytes(first, first + static_cast<std::ptrdiff_t>(length_));
-  }
+  Bytes inner() const { return Bytes(first(), first() + static_cast<std::ptrdiff_t>(length_)); }
+  bool holds(const Bytes& bytes) const { return bytes.size() == length_ && std::equal(bytes.begin(), bytes.end(), first()); }
 
   bool intact() const {
     for (std::size_t i = 0; i < all_.size(); ++i) {
@@ -571,6 +590,7 @@ class Guarded {
 
  private:
   static constexpr std::size_t kGuard = 32;
+  Bytes::const_iterator first() const { return all_.begin() + static_cast<std::ptrdiff_t>(front_); }
   static std::uint8_t pattern(std::size_t i) { return static_cast<std::uint8_t>(0xa5 ^ (i * 29)); }
 
   std::size_t front_;
@@ -597,6 +617,7 @@ enum CertainDatas : unsigned { kSomeDatas, kComplements, kDearDatas, kCertainDat
 // What was met, so that a run that judged nothing of a kind cannot pass.
 struct Counts {
   std::array<std::uint64_t, kFunctions> calls{};
+  std::array<std::uint64_t, kBases> judged{};  // calls by what they are judged by
   std::array<std::array<std::uint64_t, 12>, kFunctions> refused{};  // by function and number
   std::array<std::uint64_t, 2> done{};                              // writes by code, and so on
   std::array<std::uint64_t, 2> spent{};
@@ -610,6 +631,8 @@ struct Counts {
   std::array<std::uint64_t, 2> older{};         // writes that raise cells of an older release's page, with other bits than the case has
   std::array<std::uint64_t, 2> older_strips{};  // of these, pages where some cells have another number mod 3 than in their strips
   std::array<std::uint64_t, 2> older_runs{};    // runs until spent beside an older release's page
+  std::array<std::uint64_t, 2> plain_runs{};    // runs until spent without weights
+  std::array<std::uint64_t, 2> mixed_runs{};    // with weights that change from write to write
   std::uint64_t several_grounds = 0;
 
   // Of the calls with a map.
@@ -631,7 +654,7 @@ struct Counts {
   std::array<std::uint64_t, 2> dearer{};            // more marks, and a higher cost
   std::array<std::uint64_t, 2> spent_by_more{};     // more marks, and spent
   std::array<std::uint64_t, 2> mapped_runs{};       // runs until spent under a map
-  std::array<std::uint64_t, 2> ledgers{};           // of these, with raises counted
+  std::array<std::uint64_t, 2> runs_of_1{};         // of these, with steps of 1
   std::uint64_t erases_that_keep = 0;               // erases that empty some cells and leave bits of others
   std::array<std::array<std::array<std::uint64_t, 12>, 12>, kFunctions> pairs{};  // refused with two grounds: by function, first and second
 
@@ -660,6 +683,12 @@ struct Counts {
   std::uint64_t certain_wide = 0;                // the three and a list of them, held to the bounds alone
 };
 
+// How much is done: the random cases so many times, or one part in so many.
+struct Factor {
+  unsigned times;
+  unsigned part;
+};
+
 // How a price and a write are asked for: without weights, which means the house's, or with these.
 struct Weighing {
   bool given;
@@ -669,7 +698,7 @@ constexpr Weighing kPlain = {false, kHouse};
 
 class Judge {
  public:
-  explicit Judge(std::uint64_t seed) : random_(seed) {}
+  Judge(std::uint64_t seed, Factor factor) : random_(seed), factor_(factor) {}
 
   const Counts& counts() const { return counts_; }
   std::uint64_t calls() const {
@@ -680,26 +709,45 @@ class Judge {
 
   // The standard leaves its distributions to each library; a remainder gives the same cases everywhere.
   std::uint64_t below(std::uint64_t limit) { return random_() % limit; }
+  std::size_t place_below(std::size_t limit) { return static_cast<std::size_t>(below(limit)); }
   bool chance(std::uint64_t of, std::uint64_t in) { return below(in) < of; }
 
-  // Calls the library and holds answer, page, data and guards against the expected outcome.
+  // Of so many rounds of random cases those to be done, at least as many as it takes to meet every kind of case.
+  unsigned rounds(unsigned whole, unsigned least) const { return std::max(least, whole * factor_.times / factor_.part); }
+  unsigned times() const { return factor_.times; }
+  bool whole() const { return factor_.part == 1; }
+
+  // Of the cases that a loop goes through by number, whether this one is to be done; the first always is.
+  bool due(unsigned number) const { return number % factor_.part == 0; }
+
+  // Calls visit(byte) for every byte, or with a part of them for bytes that are so far apart.
+  template <class Visit>
+  void for_each_byte(Visit visit) {
+    for (auto byte = static_cast<unsigned>(below(factor_.part)); byte < 256; byte += factor_.part) visit(static_cast<std::uint8_t>(byte));
+  }
+
+  // Calls the library and holds answer, ledger, page, data and guards against the expected outcome.
   void judge(const Call& call, const Outcome& expected) {
     Guarded page(call.page, calls());
     Guarded data(call.data, calls() / 8);
     Guarded map(call.map, calls() / 64);
     ++counts_.calls[call.function];
+    ++counts_.judged[expected.basis];
     const std::uint64_t answer = perform(call, page, map, data);
-    const Outcome got = {answer, page.inner(), data.inner()};
+    const Bytes left = page.inner();
+    const auto hold = [&](bool right, const char* what) {
+      if (!right) disagree(what, call, expected, Outcome{answer, left, data.inner(), levels_between(call.page, left)});
+    };
     const std::uint32_t number = SEGRUNOV_NUMBER(answer);
-    if (!page.intact() || !data.intact() || !map.intact()) disagree("bytes beside a buffer changed", call, expected, got);
-    if (map.inner() != call.map) disagree("the map changed", call, expected, got);
-    if (got.answer != expected.answer) disagree("answer", call, expected, got);
     const bool right_lengths = number == SEGRUNOV_DONE || number == SEGRUNOV_SPENT;
-    if (takes_map(call.function) && right_lengths && !marked_stay(call.page, got.page, call.map)) {
-      disagree("bits of a marked cell changed", call, expected, got);
-    }
-    if (got.page != expected.page) disagree("page", call, expected, got);
-    if (got.data != expected.data) disagree("data", call, expected, got);
+    hold(page.intact() && data.intact() && map.intact(), "bytes beside a buffer changed");
+    hold(map.holds(call.map), "the map changed");
+    hold(answer == expected.answer, "answer");
+    hold(!takes_map(call.function) || !right_lengths || marked_stay(call.page, left, call.map), "bits of a marked cell changed");
+    // after an erase raises are counted from what it leaves
+    hold(ledger_holds(is_erase(call.function) ? expected.page : call.page, expected.raises, left), "the sum of levels");
+    hold(left == expected.page, "page");
+    hold(data.holds(expected.data), "data");
     if (number != SEGRUNOV_DONE) ++counts_.refused[call.function][number];
   }
 
@@ -809,14 +857,14 @@ class Judge {
 
   Bytes near_data(const Code& code, Shape shape, const Bytes& page) {
     Bytes data = read_page(code, shape, page);
-    for (std::uint64_t flips = 1 + below(3); flips > 0; --flips) flip_bit(data, below(8 * data.size()));
+    for (std::uint64_t flips = 1 + below(3); flips > 0; --flips) flip_bit(data, place_below(8 * data.size()));
     return data;
   }
 
   // Fitting data with one bit changed in the last strip, so that a spent strip comes late.
   Bytes late_data(const Code& code, Shape shape, const Bytes& page) {
     Bytes data = fitting_data(code, shape, page);
-    flip_bit(data, 8 * data.size() - 1 - below(8 * std::uint64_t{shape.bytes}));
+    flip_bit(data, 8 * data.size() - 1 - place_below(8 * std::size_t{shape.bytes}));
     return data;
   }
 
@@ -844,7 +892,7 @@ class Judge {
       const Outcome in_turn = {got.answer, raised_page(shape, erased, got.page), data};
       if (got.page != in_turn.page) disagree("bits of a page that only the library has written", call, in_turn, got);
       const Bytes raised = raised_page(shape, older, got.page);
-      judge(Call{write, code.name, shape.bytes, shape.strips, weighing.weights, older, data, 0}, Outcome{got.answer, raised, data});
+      judge(Call{write, code.name, shape.bytes, shape.strips, weighing.weights, older, data, 0}, Outcome{got.answer, raised, data, got.raises, kByOwn});
       page = got.page;
       older = older_page(raised);
       answer = got.answer;
@@ -912,7 +960,8 @@ class Judge {
       case kAll: return Bytes(none.size(), 0xff);
       default: {
         Bytes map = none;
-        put_part(map, below(shape.strips), random_bytes(2 * std::size_t{shape.bytes}));
+        const std::size_t strip = place_below(shape.strips);
+        put_part(map, strip, random_bytes(2 * std::size_t{shape.bytes}));
         return map;
       }
     }
@@ -934,14 +983,21 @@ class Judge {
     Bytes data = mapped_fitting_data(code, shape, page, map);
     const std::uint64_t flips = chance(1, 3) ? 1 + below(2) : 0;
     // in the last strip as a rule, so that a spent strip comes late
-    const std::uint64_t among = 8 * (chance(1, 4) ? data.size() : std::uint64_t{shape.bytes});
-    for (std::uint64_t i = 0; i < flips; ++i) flip_bit(data, 8 * data.size() - 1 - below(among));
+    const std::size_t among = 8 * (chance(1, 4) ? data.size() : std::size_t{shape.bytes});
+    for (std::uint64_t i = 0; i < flips; ++i) flip_bit(data, 8 * data.size() - 1 - place_below(among));
     return data;
   }
 
-  void count_mapped_run(const Code& code, bool counted) {
+  // Of a run, after each write: the raises are those since the erase that left the first page.
+  static void hold_ledger(const Bytes& erased, std::uint64_t raises, const Bytes& page) {
+    if (!ledger_holds(erased, raises, page)) give_up("the sum of levels is not that of the raises since the erase");
+  }
+
+  void count_run(const Code& code, bool mixed) { ++(mixed ? counts_.mixed_runs : counts_.plain_runs)[code_index(code)]; }
+
+  void count_mapped_run(const Code& code, bool steps_of_1) {
     ++counts_.mapped_runs[code_index(code)];
-    counts_.ledgers[code_index(code)] += counted ? 1 : 0;
+    counts_.runs_of_1[code_index(code)] += steps_of_1 ? 1 : 0;
   }
 
   // Judges a list, and each of its writes as a single call, by the search: without a map where none is given, and then also with a map of zeros. Each
@@ -950,9 +1006,9 @@ class Judge {
     const Bytes marks = map == nullptr ? no_marks(shape) : *map;
     const Function single = map == nullptr ? kWriteWeighted : kWriteMapped;
     Call list = {kListMapped, code.name, shape.bytes, shape.strips, weights, page, Bytes(), 0, marks, count};
-    Outcome after = {0, page, Bytes()};
+    Outcome after = {0, page, Bytes(), 0, kBySearch};
     std::uint32_t cost = 0;
-    std::uint32_t written = 0;
+    std::uint32_t number = 0;
     std::vector<Bytes> all;
     for (bool spent = false; all.size() < count;) {
       const Bytes data = listed_data(spent ? kFittingDatas : datas, code, shape, after.page, marks);
@@ -960,14 +1016,15 @@ class Judge {
       list.data.insert(list.data.end(), data.begin(), data.end());
       if (spent) continue;
       const PageSearch least = search_page(code, shape, weights, after.page, marks, data);
-      judge(Call{single, code.name, shape.bytes, shape.strips, weights, after.page, data, 0, marks}, Outcome{least.answer, least.page, data});
+      judge(Call{single, code.name, shape.bytes, shape.strips, weights, after.page, data, 0, marks}, written(least, data));
       after.page = least.page;
+      after.raises += least.raises;
       spent = SEGRUNOV_NUMBER(least.answer) == SEGRUNOV_SPENT;
       if (spent) {
-        after.answer = list_answer_of(SEGRUNOV_SPENT, cost, written, SEGRUNOV_VALUE(least.answer));
+        after.answer = list_answer_of(SEGRUNOV_SPENT, cost, number, SEGRUNOV_VALUE(least.answer));
       } else {
         cost += SEGRUNOV_VALUE(least.answer);
-        after.answer = list_answer_of(SEGRUNOV_DONE, cost, ++written, 0);
+        after.answer = list_answer_of(SEGRUNOV_DONE, cost, ++number, 0);
       }
     }
     after.data = list.data;
@@ -984,12 +1041,12 @@ class Judge {
   // A list against the library's own single writes. There is no search here, so that any shape is quick enough.
   void judge_list_beside_singles(const Code& code, Shape shape, const Weights& weights, const Bytes& page, const Bytes& map, std::uint32_t count) {
     Call list = {kListMapped, code.name, shape.bytes, shape.strips, weights, page, Bytes(), 0, map, count};
-    Outcome after = {0, page, Bytes()};
+    Outcome after = {0, page, Bytes(), 0, kByOwn};
     std::uint32_t cost = 0;
     Bytes data = read_page(code, shape, page);
     for (std::uint32_t j = 0; j < count; ++j) {
       if (chance(1, 12)) data = random_bytes(data.size());
-      for (std::uint64_t flips = 1 + below(3); flips > 0; --flips) flip_bit(data, below(8 * data.size()));
+      for (std::uint64_t flips = 1 + below(3); flips > 0; --flips) flip_bit(data, place_below(8 * data.size()));
       list.data.insert(list.data.end(), data.begin(), data.end());
       if (SEGRUNOV_NUMBER(after.answer) == SEGRUNOV_SPENT) continue;
       const Outcome one = made(Call{kWriteMapped, code.name, shape.bytes, shape.strips, weights, after.page, data, 0, map});
@@ -1001,6 +1058,7 @@ class Judge {
         after.answer = list_answer_of(SEGRUNOV_DONE, cost, j + 1, 0);
       }
       after.page = one.page;
+      after.raises += one.raises;
     }
     after.data = list.data;
     judge(list, after);
@@ -1024,10 +1082,11 @@ class Judge {
       const Bytes data = read_page(code, shape, wanted);
       list.data.insert(list.data.end(), data.begin(), data.end());
     }
-    const auto cost = static_cast<std::uint32_t>(3 * 255 * cells);
+    const std::size_t raises = 3 * cells;
+    const auto cost = static_cast<std::uint32_t>(255 * raises);
     for (const Function function : {kList, kListMapped}) {
       list.function = function;
-      judge(list, Outcome{list_answer_of(SEGRUNOV_DONE, cost, kMost, 0), Bytes(list.page.size(), 0xff), list.data});
+      judge(list, Outcome{list_answer_of(SEGRUNOV_DONE, cost, kMost, 0), Bytes(list.page.size(), 0xff), list.data, raises});
     }
     ++counts_.dearest[code_index(code)];
   }
@@ -1041,6 +1100,7 @@ class Judge {
     Bytes page(page_length(shape), 0);
     judge(erase, Outcome{0, page, Bytes()});
     Call list = {kList, code.name, shape.bytes, shape.strips, weights, page, Bytes(), 0, no_marks(shape), kCertain};
+    Outcome after = {0, Bytes(), Bytes(), 0, searched ? kBySearch : kByOwn};
     std::uint32_t cost = 0;
     std::uint64_t share = 0;
     for (const std::uint32_t bound : certain_bounds(shape, weights)) {
@@ -1048,16 +1108,19 @@ class Judge {
       const PageSearch least = searched ? judge_write(code, shape, weighing, page, data)
                                         : own_write(code, shape, weighing, page, data);
       const Call write = {kWriteWeighted, code.name, shape.bytes, shape.strips, weights, page, data, 0};
-      hold_certain(write, bound, Outcome{least.answer, least.page, data});
+      hold_certain(write, bound, written(least, data));
       list.data.insert(list.data.end(), data.begin(), data.end());
       cost += SEGRUNOV_VALUE(least.answer);
       share = std::max(share, std::uint64_t{100} * SEGRUNOV_VALUE(least.answer) / bound);
       page = least.page;
+      after.raises += least.raises;
     }
-    const Outcome written = {list_answer_of(SEGRUNOV_DONE, cost, kCertain, 0), page, list.data};
+    after.answer = list_answer_of(SEGRUNOV_DONE, cost, kCertain, 0);
+    after.page = page;
+    after.data = list.data;
     for (const Function function : {kList, kListMapped}) {
       list.function = function;
-      judge(list, written);
+      judge(list, after);
     }
     ++(searched ? counts_.certain[code_index(code)] : counts_.certain_wide);
     return share;
@@ -1073,16 +1136,16 @@ class Judge {
     for (std::size_t k = 0; k < kCertain; ++k) {
       std::set<Bytes> left;
       for (const Bytes& page : pages) {
-        for (unsigned byte = 0; byte < 256; ++byte) {
-          const Bytes data = {static_cast<std::uint8_t>(byte)};
-          const Call write = {kWrite, code.name, shape.bytes, shape.strips, kHouse, page, data, 0};
+        const auto write_byte = [&](std::uint8_t byte) {
+          const Call write = {kWrite, code.name, shape.bytes, shape.strips, kHouse, page, Bytes{byte}, 0};
           const Outcome got = made(write);
           hold_certain(write, bounds[k], got);
           most[k] = std::max(most[k], SEGRUNOV_VALUE(got.answer));
           if (k + 1 < kCertain) left.insert(got.page);
-        }
+          ++counts_.certain_bytes[code_index(code)];
+        };
+        for_each_byte(write_byte);
       }
-      counts_.certain_bytes[code_index(code)] += 256 * pages.size();
       pages.swap(left);
     }
     return most;
@@ -1093,6 +1156,8 @@ class Judge {
 
  private:
   static std::size_t code_index(const Code& code) { return code.name == kCodes[0].name ? 0 : 1; }
+
+  static std::uint64_t levels_between(const Bytes& page, const Bytes& after) { return sum_of_levels(after) - sum_of_levels(page); }
 
   static std::uint64_t perform(const Call& call, Guarded& page, Guarded& map, Guarded& data) {
     switch (call.function) {
@@ -1123,13 +1188,14 @@ class Judge {
     }
   }
 
-  // What the library makes of a call, unjudged.
+  // What the library makes of a call, unjudged. The raises are then those that its page shows.
   static Outcome made(const Call& call) {
     Guarded page(call.page, 0);
     Guarded data(call.data, 0);
     Guarded map(call.map, 0);
     const std::uint64_t answer = perform(call, page, map, data);
-    return Outcome{answer, page.inner(), data.inner()};
+    const Bytes left = page.inner();
+    return Outcome{answer, left, data.inner(), levels_between(call.page, left), kByOwn};
   }
 
   void judge_read_into(const Bytes& buffer, const Code& code, Shape shape, const Bytes& page, const Bytes& data) {
@@ -1141,8 +1207,7 @@ class Judge {
   void judge_older(const Code& code, Shape shape, const Weighing& weighing, const Bytes& page, const Bytes& data, const PageSearch& least) {
     const Bytes older = older_page(page);
     if (older == page) return;
-    PageSearch beside;
-    beside.answer = least.answer;
+    PageSearch beside = least;
     beside.page = raised_page(shape, older, least.page);
     const Bytes held = read_page(code, shape, page);
     judge_read_into(complement(held), code, shape, older, held);
@@ -1153,19 +1218,22 @@ class Judge {
     counts_.older_strips[code_index(code)] += raises && shape.strips > 1 && shape.bytes % 3 != 0 ? 1 : 0;
   }
 
+  static Outcome priced(const PageSearch& least, const Bytes& page, const Bytes& data) { return Outcome{least.answer, page, data, 0, least.basis}; }
+  static Outcome written(const PageSearch& least, const Bytes& data) { return Outcome{least.answer, least.page, data, least.raises, least.basis}; }
+
   void price_and_write(const Code& code, Shape shape, const Weighing& weighing, const Bytes& page, const Bytes& data, const PageSearch& least) {
     const Function price = weighing.given ? kPriceWeighted : kPrice;
     const Function write = weighing.given ? kWriteWeighted : kWrite;
-    judge(Call{price, code.name, shape.bytes, shape.strips, weighing.weights, page, data, 0}, Outcome{least.answer, page, data});
-    judge(Call{write, code.name, shape.bytes, shape.strips, weighing.weights, page, data, 0}, Outcome{least.answer, least.page, data});
+    judge(Call{price, code.name, shape.bytes, shape.strips, weighing.weights, page, data, 0}, priced(least, page, data));
+    judge(Call{write, code.name, shape.bytes, shape.strips, weighing.weights, page, data, 0}, written(least, data));
     // With a map of zeros it is the same call.
     if (weighing.given) price_and_write_mapped(code, shape, weighing.weights, page, no_marks(shape), data, least);
   }
 
   void price_and_write_mapped(const Code& code, Shape shape, const Weights& weights, const Bytes& page, const Bytes& map, const Bytes& data,
                               const PageSearch& least) {
-    judge(Call{kPriceMapped, code.name, shape.bytes, shape.strips, weights, page, data, 0, map}, Outcome{least.answer, page, data});
-    judge(Call{kWriteMapped, code.name, shape.bytes, shape.strips, weights, page, data, 0, map}, Outcome{least.answer, least.page, data});
+    judge(Call{kPriceMapped, code.name, shape.bytes, shape.strips, weights, page, data, 0, map}, priced(least, page, data));
+    judge(Call{kWriteMapped, code.name, shape.bytes, shape.strips, weights, page, data, 0, map}, written(least, data));
   }
 
   // From no marks over fewer and more to all: no write becomes cheaper, and no spent page takes the data. The strip of a spent page is no later one.
@@ -1240,6 +1308,8 @@ class Judge {
     PageSearch own;
     own.answer = got.answer;
     own.page = got.page;
+    own.raises = got.raises;
+    own.basis = got.basis;
     price_and_write(code, shape, weighing, page, data, own);
     if (SEGRUNOV_NUMBER(own.answer) == SEGRUNOV_DONE) judge_read(code, shape, own.page, data);
     return own;
@@ -1287,7 +1357,7 @@ class Judge {
     const Outcome plain = made(Call{kWrite, code.name, shape.bytes, shape.strips, kHouse, page, data, 0});
     const bool spent = SEGRUNOV_NUMBER(plain.answer) == SEGRUNOV_SPENT;
     if (spent != (SEGRUNOV_NUMBER(least.answer) == SEGRUNOV_SPENT) || (spent && plain.answer != least.answer)) {
-      disagree("spent depends on the weights", call, plain, Outcome{least.answer, least.page, data});
+      disagree("spent depends on the weights", call, plain, written(least, data));
     }
     counts_.decided[code_index(code)] += plain.page != least.page ? 1 : 0;
   }
@@ -1303,6 +1373,7 @@ class Judge {
   }
 
   std::mt19937_64 random_;
+  const Factor factor_;
   Counts counts_;
 };
 
@@ -1374,24 +1445,24 @@ void progress(const Judge& judge, const char* section) {
 
 void every_data_byte(Judge& judge, const Code& code, const Weighing& weighing, const Bytes& page) {
   const Shape shape = {1, 1};
-  for (unsigned byte = 0; byte < 256; ++byte) judge.judge_write(code, shape, weighing, page, Bytes{static_cast<std::uint8_t>(byte)});
+  judge.for_each_byte([&](std::uint8_t byte) { judge.judge_write(code, shape, weighing, page, Bytes{byte}); });
   judge.judge_kept(code, shape, page);
 }
 
 // One-byte strips: each of the 256 data on pages of every kind.
-void small_pages(Judge& judge, unsigned rounds) {
+void small_pages(Judge& judge) {
   for (const Code& code : kCodes) {
     for (const Bytes& page : {Bytes(6, 0), Bytes(6, 0xff)}) {
       every_data_byte(judge, code, kPlain, page);
       every_data_byte(judge, code, judge.random_weighted(), page);
     }
-    for (unsigned round = 0; round < rounds; ++round) {
+    for (unsigned round = 40 * judge.times(); round > 0; --round) {
       for (std::uint64_t kind = 1; kind + 1 < Judge::kStripKinds; ++kind) {
         const Bytes page = judge.strip_of_kind(kind, 6);
         every_data_byte(judge, code, kPlain, page);
         every_data_byte(judge, code, judge.random_weighted(), page);
       }
-      if (round % 10 == 9) progress(judge, "one-byte strips");
+      if (round % 10 == 1) progress(judge, "one-byte strips");
     }
   }
 }
@@ -1401,7 +1472,8 @@ void one_page(Judge& judge, const Code& code, Shape shape) {
   judge.judge_kept(code, shape, page);
   const Bytes after = judge.judge_write(code, shape, kPlain, page, judge.random_data(code, shape, page)).page;
   judge.judge_kept(code, shape, after);
-  judge.judge_write(code, shape, judge.random_weighted(), after, judge.random_data(code, shape, after));
+  const Weighing weighing = judge.random_weighted();
+  judge.judge_write(code, shape, weighing, after, judge.random_data(code, shape, after));
 }
 
 // Any L and S with few bytes in all: the search of the long code has 4096 states a stage.
@@ -1411,12 +1483,12 @@ Shape random_shape(Judge& judge, std::uint32_t most_bytes) {
   return Shape{bytes, std::min(std::max(product / bytes, 1U), kMost)};
 }
 
-void random_shapes(Judge& judge, unsigned rounds) {
-  for (unsigned round = 0; round < rounds; ++round) {
+void random_shapes(Judge& judge) {
+  for (unsigned round = judge.rounds(200, 4); round > 0; --round) {
     for (unsigned i = 0; i < 8; ++i) one_page(judge, kCodes[0], random_shape(judge, 64));
     for (unsigned i = 0; i < 4; ++i) one_page(judge, kCodes[1], random_shape(judge, 4));
     one_page(judge, kCodes[1], random_shape(judge, 16));
-    if (round % 50 == 49) progress(judge, "random shapes");
+    if (round % 50 == 1) progress(judge, "random shapes");
   }
 }
 
@@ -1424,6 +1496,8 @@ Shape any_shape(Judge& judge) {
   const auto bytes = static_cast<std::uint32_t>(1 + judge.below(kMost));
   return Shape{bytes, static_cast<std::uint32_t>(1 + judge.below(kMost))};
 }
+
+constexpr std::array<Shape, 5> kLargeShapes = {Shape{64, 64}, Shape{64, 1}, Shape{1, 64}, Shape{63, 64}, Shape{64, 63}};
 
 void fitting_write(Judge& judge, const Code& code, const Weighing& weighing, Shape shape, std::uint64_t kind) {
   const Bytes page = judge.strip_of_kind(kind, page_length(shape));
@@ -1445,21 +1519,39 @@ void late_write(Judge& judge, const Code& code, Shape shape) {
   }
 }
 
+struct LargePage {
+  std::size_t code;
+  Shape shape;
+  std::uint64_t kind;
+};
+
 // The limits of L and S. With the long code the widest page has half its cells full, or the search would not end in time.
-void large_pages(Judge& judge, unsigned rounds) {
-  for (const Shape shape : {Shape{64, 64}, Shape{64, 1}, Shape{1, 64}, Shape{63, 64}, Shape{64, 63}}) {
-    for (const std::uint64_t kind : {0, 1, 4, 5, 6}) fitting_writes(judge, kCodes[0], shape, kind);
-    for (const std::uint64_t kind : {4, 5}) fitting_writes(judge, kCodes[1], shape, kind);
+std::vector<LargePage> every_large_page() {
+  std::vector<LargePage> pages;
+  for (const Shape shape : kLargeShapes) {
+    for (const std::uint64_t kind : {0, 1, 4, 5, 6}) pages.push_back(LargePage{0, shape, kind});
+    for (const std::uint64_t kind : {4, 5}) pages.push_back(LargePage{1, shape, kind});
+  }
+  for (const std::uint64_t kind : {0, 1, 2, 6}) pages.push_back(LargePage{1, Shape{1, 64}, kind});
+  for (const std::uint64_t kind : {0, 1, 2, 6}) pages.push_back(LargePage{1, Shape{64, 1}, kind});
+  for (const std::uint64_t kind : {0, 1}) pages.push_back(LargePage{1, Shape{8, 8}, kind});
+  return pages;
+}
+
+void large_pages(Judge& judge) {
+  unsigned number = 0;
+  for (const LargePage& large : every_large_page()) {
+    if (judge.due(number++)) fitting_writes(judge, kCodes[large.code], large.shape, large.kind);
+  }
+  progress(judge, "large pages");
+  for (const Shape shape : kLargeShapes) {
     for (const Code& code : kCodes) {
+      if (!judge.due(number++)) continue;
       judge.judge_kept(code, shape, judge.random_page(shape));
       late_write(judge, code, shape);
     }
-    progress(judge, "large pages");
   }
-  for (const std::uint64_t kind : {0, 1, 2, 6}) fitting_writes(judge, kCodes[1], Shape{1, 64}, kind);
-  for (const std::uint64_t kind : {0, 1, 2, 6}) fitting_writes(judge, kCodes[1], Shape{64, 1}, kind);
-  for (const std::uint64_t kind : {0, 1}) fitting_writes(judge, kCodes[1], Shape{8, 8}, kind);
-  for (unsigned round = 0; round < rounds; ++round) {
+  for (unsigned round = judge.rounds(30, 4); round > 0; --round) {
     for (const Code& code : kCodes) late_write(judge, code, Shape{1, 64});
     one_page(judge, kCodes[0], any_shape(judge));
     for (const std::uint64_t kind : {4, 5}) fitting_writes(judge, kCodes[1], any_shape(judge), kind);
@@ -1468,10 +1560,11 @@ void large_pages(Judge& judge, unsigned rounds) {
 }
 
 // From erased until spent and some writes beyond, then an erase; with mixed, each write with or without weights as it falls. The page is carried
-// along; the judged calls have shown it to be the library's.
+// along; the judged calls have shown it to be the library's. The sum of its levels is the raises since the start, whatever they cost.
 void run_until_spent(Judge& judge, const Code& code, Shape shape, bool small_changes, bool mixed) {
   const Bytes erased(page_length(shape), 0);
   Bytes page = erased;
+  std::uint64_t raises = 0;
   unsigned beyond = 0;
   while (beyond < 4) {
     const Bytes data = small_changes ? judge.near_data(code, shape, page) : judge.random_bytes(data_length(shape));
@@ -1479,25 +1572,30 @@ void run_until_spent(Judge& judge, const Code& code, Shape shape, bool small_cha
     const PageSearch least = judge.judge_write(code, shape, weighing, page, data);
     if (beyond > 0 || SEGRUNOV_NUMBER(least.answer) == SEGRUNOV_SPENT) ++beyond;
     page = least.page;
+    raises += least.raises;
+    judge.hold_ledger(erased, raises, page);
   }
+  judge.count_run(code, mixed);
   judge.judge_kept(code, shape, page);
   const auto tenths = static_cast<std::int16_t>(50 + judge.below(351));
   judge.judge(Call{kErase, 0, shape.bytes, shape.strips, kHouse, page, Bytes(), tenths}, Outcome{0, erased, Bytes()});
 }
 
-void runs(Judge& judge, unsigned rounds) {
+void runs(Judge& judge) {
+  unsigned number = 0;
   for (const bool mixed : {false, true}) {
-    for (unsigned round = 0; round < rounds; ++round) {
+    for (unsigned round = judge.rounds(50, 1); round > 0; --round) {
       for (const bool small_changes : {false, true}) {
         run_until_spent(judge, kCodes[0], random_shape(judge, 16), small_changes, mixed);
         run_until_spent(judge, kCodes[1], random_shape(judge, 2), small_changes, mixed);
       }
-      if (round % 25 == 24) progress(judge, "runs until spent");
     }
-    run_until_spent(judge, kCodes[0], Shape{64, 2}, false, mixed);
-    run_until_spent(judge, kCodes[0], Shape{3, 20}, false, mixed);
-    run_until_spent(judge, kCodes[1], Shape{1, 16}, false, mixed);
-    run_until_spent(judge, kCodes[1], Shape{6, 1}, false, mixed);
+    for (const Shape shape : {Shape{3, 20}, Shape{64, 2}}) {
+      if (judge.due(number++)) run_until_spent(judge, kCodes[0], shape, false, mixed);
+    }
+    for (const Shape shape : {Shape{1, 16}, Shape{6, 1}}) {
+      if (judge.due(number++)) run_until_spent(judge, kCodes[1], shape, false, mixed);
+    }
   }
   progress(judge, "runs until spent");
 }
@@ -1531,12 +1629,12 @@ std::vector<std::uint32_t> grounds(const Call& call) {
 
 std::uint32_t bad_code(Judge& judge) {
   const std::array<std::uint32_t, 12> values = {0, 1, 2, 4, 5, 6, 8, 259, 263, 0x80000003U, 0x10007U, 0xffffffffU};
-  return values[judge.below(values.size())];
+  return values[judge.place_below(values.size())];
 }
 
 std::uint32_t bad_number(Judge& judge) {
   const std::array<std::uint32_t, 10> values = {0, 65, 66, 128, 255, 257, 0x10001U, 0x40000000U, 0x80000001U, 0xffffffffU};
-  return values[judge.below(values.size())];
+  return values[judge.place_below(values.size())];
 }
 
 // Another length than the right one: nothing, a little off, one strip or page more, 2^16 more.
@@ -1554,7 +1652,7 @@ std::size_t bad_length(Judge& judge, std::size_t right) {
 
 std::int16_t bad_temperature(Judge& judge) {
   const std::array<std::int16_t, 9> values = {49, 401, -1, -32768, 32767, 0, -50, -400, 656};
-  return values[judge.below(values.size())];
+  return values[judge.place_below(values.size())];
 }
 
 // The length that goes with L and S, also with bad ones as far as memory allows, so that often a single ground applies. The product wraps at 2^32, as
@@ -1567,7 +1665,7 @@ std::size_t length_for(std::uint32_t bytes, std::uint32_t strips, std::size_t fa
 // The data of so many with that many bytes each, also with a bad count as far as memory allows.
 std::size_t list_length_for(std::uint32_t count, std::size_t data_bytes) {
   const std::uint64_t product = count * std::uint64_t{data_bytes};
-  return product <= 1048576 ? product : data_bytes;
+  return product <= 524288 ? static_cast<std::size_t>(product) : data_bytes;
 }
 
 // A call with these items at fault: bit 0 the code, 1 L, 2 S, 3 the page, 4 the data or the temperature, 5 a weight, 6 the map, 7 the count. Half of
@@ -1577,7 +1675,7 @@ Call call_with_faults(Judge& judge, Function function, Shape shape, std::uint64_
   if ((set & 1) != 0) call.code = bad_code(judge);
   if ((set & 2) != 0) call.bytes = bad_number(judge);
   if ((set & 4) != 0) call.strips = bad_number(judge);
-  if ((set & 32) != 0) call.weights[judge.below(kFull)] = 0;
+  if ((set & 32) != 0) call.weights[judge.place_below(kFull)] = 0;
   std::size_t page_bytes = length_for(call.bytes, call.strips, 6);
   std::size_t data_bytes = length_for(call.bytes, call.strips, 1);
   if (is_list(function)) {
@@ -1613,12 +1711,14 @@ Call spoiled_call(Judge& judge, const Group& group) {
   Shape shape = {static_cast<std::uint32_t>(1 + judge.below(4)), static_cast<std::uint32_t>(1 + judge.below(4))};
   if (judge.chance(1, 8)) shape = Shape{kMost, kMost};
   const std::uint64_t sets = std::uint64_t{1} << group.items;
-  const std::uint64_t set = judge.chance(1, 3) ? std::uint64_t{1} << judge.below(group.items) : judge.below(sets) & judge.below(sets);
-  return call_with_faults(judge, function, shape, set);
+  const std::uint64_t one = std::uint64_t{1} << judge.below(group.items);
+  const std::uint64_t any = judge.below(sets);
+  const std::uint64_t few = any & judge.below(sets);
+  return call_with_faults(judge, function, shape, judge.chance(1, 3) ? one : few);
 }
 
-void refusals(Judge& judge, unsigned rounds, const Group& group) {
-  for (unsigned round = 0; round < rounds; ++round) {
+void refusals(Judge& judge, unsigned whole, const Group& group) {
+  for (unsigned round = judge.rounds(whole, 1000); round > 0; --round) {
     const Call call = spoiled_call(judge, group);
     const std::vector<std::uint32_t> numbers = grounds(call);
     if (numbers.empty()) continue;
@@ -1681,13 +1781,13 @@ void two_grounds(Judge& judge, Function function, std::uint32_t first, std::uint
 }
 
 // Every two grounds of some calls.
-void pairs_of_grounds(Judge& judge, unsigned rounds, const Group& group) {
+void pairs_of_grounds(Judge& judge, const Group& group) {
   for (unsigned f = group.first; f < group.last; ++f) {
     const auto function = static_cast<Function>(f);
     const std::vector<std::uint32_t> order = refusals_of(function);
     for (std::size_t i = 0; i < order.size(); ++i) {
       for (std::size_t j = i + 1; j < order.size(); ++j) {
-        for (unsigned round = 0; round < rounds; ++round) two_grounds(judge, function, order[i], order[j]);
+        for (unsigned round = judge.rounds(40, 20); round > 0; --round) two_grounds(judge, function, order[i], order[j]);
       }
     }
   }
@@ -1704,12 +1804,12 @@ void erase_at(Judge& judge, Shape shape, std::int16_t tenths) {
   }
 }
 
-void erases(Judge& judge, unsigned rounds) {
+void erases(Judge& judge) {
   const std::array<std::int16_t, 14> boundaries = {-32768, -32767, -400, -50, -1, 0, 1, 49, 50, 51, 399, 400, 401, 32767};
   for (const Shape shape : {Shape{1, 1}, Shape{64, 64}, Shape{64, 1}, Shape{1, 64}, Shape{3, 5}}) {
     for (const std::int16_t tenths : boundaries) erase_at(judge, shape, tenths);
   }
-  for (unsigned round = 0; round < rounds; ++round) {
+  for (unsigned round = judge.rounds(2000, 20); round > 0; --round) {
     const Shape shape = random_shape(judge, 128);
     erase_at(judge, shape, static_cast<std::int16_t>(static_cast<int>(judge.below(65536)) - 32768));
     erase_at(judge, shape, static_cast<std::int16_t>(static_cast<int>(judge.below(450)) - 20));
@@ -1718,12 +1818,13 @@ void erases(Judge& judge, unsigned rounds) {
 }
 
 // Shapes whose strip 1 begins with a cell of number 1 or 2 mod 3 in the page, the largest, and any.
-void older_runs(Judge& judge, unsigned rounds) {
+void older_runs(Judge& judge) {
   for (const Code& code : kCodes) {
     for (const Shape shape : {Shape{1, 2}, Shape{2, 3}, Shape{64, 64}}) judge.judge_run_beside_older(code, shape, kPlain);
-    for (unsigned round = 0; round < rounds; ++round) {
+    for (unsigned round = judge.rounds(5, 1); round > 0; --round) {
       judge.judge_run_beside_older(code, any_shape(judge), kPlain);
-      judge.judge_run_beside_older(code, any_shape(judge), judge.random_weighted());
+      const Weighing weighing = judge.random_weighted();
+      judge.judge_run_beside_older(code, any_shape(judge), weighing);
     }
   }
   progress(judge, "older pages until spent");
@@ -1733,14 +1834,15 @@ void older_runs(Judge& judge, unsigned rounds) {
 
 constexpr std::array<MapKind, kMapKinds> kAllMapKinds = {kNone, kFew, kHalf, kNearlyAll, kAll, kOneStrip};
 
-MapKind random_kind(Judge& judge) { return kAllMapKinds[judge.below(kMapKinds)]; }
+MapKind random_kind(Judge& judge) { return kAllMapKinds[judge.place_below(kMapKinds)]; }
 
 Weights some_weights(Judge& judge) { return judge.chance(1, 3) ? kHouse : judge.random_weights(); }
 
 void mapped_page(Judge& judge, const Code& code, Shape shape, const Bytes& page, MapKind kind) {
   const Bytes map = judge.map_of_kind(kind, shape);
   judge.count_map(kind);
-  const PageSearch least = judge.judge_mapped(code, shape, some_weights(judge), page, map, judge.mapped_data(code, shape, page, map));
+  const Weights weights = some_weights(judge);
+  const PageSearch least = judge.judge_mapped(code, shape, weights, page, map, judge.mapped_data(code, shape, page, map));
   judge.judge_mapped_kept(code, shape, least.page, map);
   judge.judge_all_marked(code, shape, page, judge.near_data(code, shape, page));
   judge.judge_all_marked(code, shape, page, read_page(code, shape, page));
@@ -1748,16 +1850,17 @@ void mapped_page(Judge& judge, const Code& code, Shape shape, const Bytes& page,
 
 void fitting_mapped_write(Judge& judge, const Code& code, Shape shape, const Bytes& page, MapKind kind) {
   const Bytes map = judge.map_of_kind(kind, shape);
-  judge.judge_mapped(code, shape, some_weights(judge), page, map, judge.mapped_fitting_data(code, shape, page, map));
+  const Weights weights = some_weights(judge);
+  judge.judge_mapped(code, shape, weights, page, map, judge.mapped_fitting_data(code, shape, page, map));
 }
 
 void every_mapped_byte(Judge& judge, const Code& code, const Bytes& page, const Bytes& map) {
   const Weights weights = some_weights(judge);
-  for (unsigned byte = 0; byte < 256; ++byte) judge.judge_mapped(code, Shape{1, 1}, weights, page, map, Bytes{static_cast<std::uint8_t>(byte)});
+  judge.for_each_byte([&](std::uint8_t byte) { judge.judge_mapped(code, Shape{1, 1}, weights, page, map, Bytes{byte}); });
 }
 
 // One-byte strips: each of the 256 data, with each cell marked by itself and with maps of every kind.
-void mapped_small_pages(Judge& judge, unsigned rounds) {
+void mapped_small_pages(Judge& judge) {
   for (const Code& code : kCodes) {
     for (std::size_t cell = 0; cell < 16; ++cell) {
       Bytes map(2, 0);
@@ -1765,21 +1868,22 @@ void mapped_small_pages(Judge& judge, unsigned rounds) {
       every_mapped_byte(judge, code, Bytes(6, 0), map);
       every_mapped_byte(judge, code, judge.random_bytes(6), map);
     }
-    for (unsigned round = 0; round < rounds; ++round) {
+    for (unsigned round = 30 * judge.times(); round > 0; --round) {
       for (const MapKind kind : kAllMapKinds) {
-        every_mapped_byte(judge, code, judge.strip_of_kind(judge.below(Judge::kStripKinds), 6), judge.map_of_kind(kind, Shape{1, 1}));
+        const Bytes page = judge.strip_of_kind(judge.below(Judge::kStripKinds), 6);
+        every_mapped_byte(judge, code, page, judge.map_of_kind(kind, Shape{1, 1}));
       }
     }
     progress(judge, "one-byte strips with a map");
   }
 }
 
-void mapped_shapes(Judge& judge, unsigned rounds) {
+void mapped_shapes(Judge& judge) {
   const auto one = [&](const Code& code, Shape shape) {
     const Bytes page = judge.chance(1, 4) ? Bytes(page_length(shape), 0) : judge.random_page(shape);
     mapped_page(judge, code, shape, page, random_kind(judge));
   };
-  for (unsigned round = 0; round < rounds; ++round) {
+  for (unsigned round = judge.rounds(300, 10); round > 0; --round) {
     for (unsigned i = 0; i < 8; ++i) one(kCodes[0], random_shape(judge, 64));
     for (unsigned i = 0; i < 6; ++i) one(kCodes[1], random_shape(judge, 4));
     one(kCodes[1], random_shape(judge, 16));
@@ -1789,7 +1893,9 @@ void mapped_shapes(Judge& judge, unsigned rounds) {
 
 // The limits of L and S. With the long code the search of a wide page ends in time only where most of its cells are marked or full.
 void mapped_large_pages(Judge& judge) {
-  for (const Shape shape : {Shape{64, 64}, Shape{64, 1}, Shape{1, 64}, Shape{63, 64}, Shape{64, 63}}) {
+  unsigned number = 0;
+  for (const Shape shape : kLargeShapes) {
+    if (!judge.due(number++)) continue;
     for (const MapKind kind : kAllMapKinds) mapped_page(judge, kCodes[0], shape, judge.strip_of_kind(6, page_length(shape)), kind);
     fitting_mapped_write(judge, kCodes[0], shape, judge.strip_of_kind(6, page_length(shape)), kFew);
     mapped_page(judge, kCodes[1], shape, judge.random_page(shape), kNearlyAll);
@@ -1818,32 +1924,36 @@ void late_mapped_write(Judge& judge, const Code& code, Shape shape) {
   judge.judge_mapped(code, shape, some_weights(judge), page, map, data);
 }
 
-// From an erase that leaves the marked cells until spent and some writes beyond, then an erase. With steps of 1 a write's cost is its raises, and the
-// sum of the levels is that of the marked cells and the raises since the erase. Without them the map grows on the way, as cells wear out.
-void mapped_run(Judge& judge, const Code& code, Shape shape, bool small_changes, bool counted) {
+// From an erase that leaves the marked cells until spent and some writes beyond, then an erase. The sum of the levels is that of the marked cells and
+// the raises since the erase, whatever they cost; with steps of 1 a write's cost is its raises. Without these the map grows on the way, as cells wear
+// out.
+void mapped_run(Judge& judge, const Code& code, Shape shape, bool small_changes, bool steps_of_1) {
   Bytes map = judge.map_of_kind(judge.chance(1, 2) ? kFew : kOneStrip, shape);
-  Bytes page = judge.judge_mapped_erase(shape, judge.random_page(shape), map, 50);
-  std::uint64_t levels = sum_of_levels(page);
+  const Bytes erased = judge.judge_mapped_erase(shape, judge.random_page(shape), map, 50);
+  Bytes page = erased;
+  std::uint64_t raises = 0;
   for (unsigned beyond = 0; beyond < 4;) {
     const Bytes data = small_changes ? judge.near_data(code, shape, page) : judge.mapped_data(code, shape, page, map);
-    const PageSearch least = judge.judge_mapped(code, shape, counted ? Weights{1, 1, 1} : judge.random_weights(), page, map, data);
-    if (beyond > 0 || SEGRUNOV_NUMBER(least.answer) == SEGRUNOV_SPENT) ++beyond;
+    const PageSearch least = judge.judge_mapped(code, shape, steps_of_1 ? Weights{1, 1, 1} : judge.random_weights(), page, map, data);
+    const bool spent = SEGRUNOV_NUMBER(least.answer) == SEGRUNOV_SPENT;
+    if (beyond > 0 || spent) ++beyond;
     page = least.page;
-    if (SEGRUNOV_NUMBER(least.answer) == SEGRUNOV_DONE) levels += SEGRUNOV_VALUE(least.answer);
-    if (counted && levels != sum_of_levels(page)) give_up("the raises counted are not those of the levels");
-    if (!counted && judge.chance(1, 4)) map = judge.more_marks(map, 1, 32);
+    raises += least.raises;
+    judge.hold_ledger(erased, raises, page);
+    if (steps_of_1 && !spent && SEGRUNOV_VALUE(least.answer) != least.raises) give_up("with steps of 1 the cost is not the raises");
+    if (!steps_of_1 && judge.chance(1, 4)) map = judge.more_marks(map, 1, 32);
   }
   judge.judge_mapped_kept(code, shape, page, map);
   judge.judge_mapped_erase(shape, page, map, 400);
-  judge.count_mapped_run(code, counted);
+  judge.count_mapped_run(code, steps_of_1);
 }
 
-void mapped_runs(Judge& judge, unsigned rounds) {
-  for (unsigned round = 0; round < rounds; ++round) {
+void mapped_runs(Judge& judge) {
+  for (unsigned round = judge.rounds(60, 4); round > 0; --round) {
     for (const bool small_changes : {false, true}) {
-      for (const bool counted : {false, true}) {
-        mapped_run(judge, kCodes[0], random_shape(judge, 16), small_changes, counted);
-        mapped_run(judge, kCodes[1], random_shape(judge, 2), small_changes, counted);
+      for (const bool steps_of_1 : {false, true}) {
+        mapped_run(judge, kCodes[0], random_shape(judge, 16), small_changes, steps_of_1);
+        mapped_run(judge, kCodes[1], random_shape(judge, 2), small_changes, steps_of_1);
       }
     }
     for (const Code& code : kCodes) late_mapped_write(judge, code, Shape{1, 64});
@@ -1851,8 +1961,8 @@ void mapped_runs(Judge& judge, unsigned rounds) {
   progress(judge, "runs with a map until spent");
 }
 
-void mapped_erases(Judge& judge, unsigned rounds) {
-  for (unsigned round = 0; round < rounds; ++round) {
+void mapped_erases(Judge& judge) {
+  for (unsigned round = judge.rounds(2000, 100); round > 0; --round) {
     const Shape shape = random_shape(judge, 128);
     const Bytes page = judge.random_page(shape);
     const Bytes map = judge.map_of_kind(random_kind(judge), shape);
@@ -1866,14 +1976,14 @@ void mapped_erases(Judge& judge, unsigned rounds) {
   progress(judge, "erases with a map");
 }
 
-void mapped_cases(Judge& judge, unsigned factor) {
-  mapped_small_pages(judge, 30 * factor);
-  mapped_shapes(judge, 300 * factor);
+void mapped_cases(Judge& judge) {
+  mapped_small_pages(judge);
+  mapped_shapes(judge);
   mapped_large_pages(judge);
-  mapped_runs(judge, 60 * factor);
-  refusals(judge, 10000 * factor, kMappedCalls);
-  pairs_of_grounds(judge, 40 * factor, kMappedCalls);
-  mapped_erases(judge, 2000 * factor);
+  mapped_runs(judge);
+  refusals(judge, 10000, kMappedCalls);
+  pairs_of_grounds(judge, kMappedCalls);
+  mapped_erases(judge);
 }
 
 // ---------------------------------------------------------------- the lists
@@ -1896,19 +2006,22 @@ void lists_of_shape(Judge& judge, const Code& code, Shape shape) {
       const auto start = static_cast<ListStart>(s);
       const auto datas = static_cast<ListDatas>(d);
       const Bytes map = judge.map_of_kind(judge.chance(1, 2) ? kFew : random_kind(judge), shape);
-      judge.judge_list(code, shape, some_weights(judge), list_page(judge, start, shape), nullptr, list_count(judge), datas);
-      judge.judge_list(code, shape, some_weights(judge), list_page(judge, start, shape), &map, list_count(judge), datas);
-      judge.count_list_start(start);
-      judge.count_list_start(start);
+      for (const Bytes* const given : {static_cast<const Bytes*>(nullptr), &map}) {
+        const Weights weights = some_weights(judge);
+        const Bytes page = list_page(judge, start, shape);
+        judge.judge_list(code, shape, weights, page, given, list_count(judge), datas);
+        judge.count_list_start(start);
+      }
     }
   }
 }
 
-void lists(Judge& judge, unsigned rounds) {
+void lists(Judge& judge) {
+  const unsigned rounds = judge.rounds(25, 5);
   for (unsigned round = 0; round < rounds; ++round) {
     for (unsigned i = 0; i < 4; ++i) lists_of_shape(judge, kCodes[0], random_shape(judge, 24));
     for (const Code& code : kCodes) lists_of_shape(judge, code, random_shape(judge, 3));
-    if (round % 10 == 9) lists_of_shape(judge, kCodes[1], round % 20 == 9 ? Shape{2, 3} : Shape{3, 2});
+    if (round % 10 == 4) lists_of_shape(judge, kCodes[1], round % 20 == 4 ? Shape{2, 3} : Shape{3, 2});
   }
   progress(judge, "lists");
 }
@@ -1916,23 +2029,25 @@ void lists(Judge& judge, unsigned rounds) {
 void list_beside_singles(Judge& judge, const Code& code, Shape shape) {
   const auto start = static_cast<ListStart>(judge.below(kListStarts));
   const Bytes map = judge.chance(1, 2) ? no_marks(shape) : judge.map_of_kind(kFew, shape);
-  judge.judge_list_beside_singles(code, shape, some_weights(judge), list_page(judge, start, shape), map, list_count(judge));
+  const Weights weights = some_weights(judge);
+  const Bytes page = list_page(judge, start, shape);
+  judge.judge_list_beside_singles(code, shape, weights, page, map, list_count(judge));
 }
 
-void lists_of_any_shape(Judge& judge, unsigned rounds) {
+void lists_of_any_shape(Judge& judge) {
   for (const Code& code : kCodes) {
-    for (const Shape shape : {Shape{64, 64}, Shape{64, 1}, Shape{1, 64}, Shape{63, 64}, Shape{64, 63}}) list_beside_singles(judge, code, shape);
-    for (unsigned round = 0; round < rounds; ++round) list_beside_singles(judge, code, any_shape(judge));
+    for (const Shape shape : kLargeShapes) list_beside_singles(judge, code, shape);
+    for (unsigned round = judge.rounds(50, 10); round > 0; --round) list_beside_singles(judge, code, any_shape(judge));
     judge.judge_dearest_list(code);
   }
   progress(judge, "lists of any shape");
 }
 
-void list_cases(Judge& judge, unsigned factor) {
-  lists(judge, 25 * factor);
-  lists_of_any_shape(judge, 50 * factor);
-  refusals(judge, 10000 * factor, kListCalls);
-  pairs_of_grounds(judge, 40 * factor, kListCalls);
+void list_cases(Judge& judge) {
+  lists(judge);
+  lists_of_any_shape(judge);
+  refusals(judge, 10000, kListCalls);
+  pairs_of_grounds(judge, kListCalls);
 }
 
 // ---------------------------------------------------------------- the first writes after an erase
@@ -1968,7 +2083,7 @@ std::uint64_t certain_shape(Judge& judge, const Code& code, Shape shape) {
   constexpr std::size_t kInTime = 600000;
   const std::size_t size = search_size(code, shape);
   std::vector<Weighing> weighings = certain_weighings(judge);
-  if (size > kSmall) weighings = {weighings[judge.below(weighings.size())]};
+  if (size > kSmall) weighings = {weighings[judge.place_below(weighings.size())]};
   std::uint64_t share = 0;
   for (const Weighing& weighing : weighings) {
     for (unsigned d = 0; d < kCertainDatas; ++d) {
@@ -1979,11 +2094,14 @@ std::uint64_t certain_shape(Judge& judge, const Code& code, Shape shape) {
   return share;
 }
 
-void certain_shapes(Judge& judge, const Code& code, unsigned rounds) {
+// The largest is always among them, since with the long code it has no search.
+void certain_shapes(Judge& judge, const Code& code) {
   std::uint64_t share = 0;
-  for (unsigned round = 0; round < rounds; ++round) {
+  unsigned number = 0;
+  for (unsigned round = judge.times(); round > 0; --round) {
     for (const std::uint32_t bytes : {1U, 2U, 3U, 5U, 8U, kMost}) {
       for (const std::uint32_t strips : {1U, 2U, 3U, 7U, kMost}) {
+        if (!judge.due(number++) && bytes * strips < kMost * kMost) continue;
         const std::uint64_t seen = certain_shape(judge, code, Shape{bytes, strips});
         if (bytes * strips > 1) share = std::max(share, seen);
       }
@@ -1998,14 +2116,14 @@ std::string listing(const Costs& costs) {
 }
 
 void certain_bytes(Judge& judge, const Code& code) {
-  std::printf("certain writes, L = S = 1, house weights, all datas: code %lu at most %s of %s\n",
+  std::printf("certain writes, L = S = 1, house weights, %s datas: code %lu at most %s of %s\n", judge.whole() ? "all" : "some",
               static_cast<unsigned long>(code.name), listing(judge.judge_certain_bytes(code)).c_str(),
               listing(certain_bounds(Shape{1, 1}, kHouse)).c_str());
 }
 
-void certain_cases(Judge& judge, unsigned factor) {
+void certain_cases(Judge& judge) {
   for (const Code& code : kCodes) certain_bytes(judge, code);
-  for (const Code& code : kCodes) certain_shapes(judge, code, factor);
+  for (const Code& code : kCodes) certain_shapes(judge, code);
   progress(judge, "certain writes");
 }
 
@@ -2035,6 +2153,7 @@ bool every_pair_met(const Counts& counts, Function function) {
 
 bool every_kind_met(const Counts& counts) {
   bool all = true;
+  for (unsigned b = 0; b < kBases; ++b) all = met("calls judged", kBasisName[b], counts.judged[b]) && all;
   for (unsigned f = 0; f < kFunctions; ++f) all = met("calls", kFunctionName[f], counts.calls[f]) && all;
   all = met_for_both_codes("writes done", counts.done) && all;
   all = met_for_both_codes("writes spent", counts.spent) && all;
@@ -2048,6 +2167,8 @@ bool every_kind_met(const Counts& counts) {
   all = met_for_both_codes("older pages", counts.older) && all;
   all = met_for_both_codes("older pages of several strips", counts.older_strips) && all;
   all = met_for_both_codes("older pages until spent", counts.older_runs) && all;
+  all = met_for_both_codes("runs until spent", counts.plain_runs) && all;
+  all = met_for_both_codes("runs of changing weights", counts.mixed_runs) && all;
   for (unsigned kind = 0; kind < kMapKinds; ++kind) all = met("maps of random pages, marked", kMapName[kind], counts.maps[kind]) && all;
   all = met_for_both_codes("mapped writes done", counts.mapped_done) && all;
   all = met_for_both_codes("mapped writes spent", counts.mapped_spent) && all;
@@ -2066,7 +2187,7 @@ bool every_kind_met(const Counts& counts) {
   all = met_for_both_codes("dearer by more marks", counts.dearer) && all;
   all = met_for_both_codes("spent by more marks", counts.spent_by_more) && all;
   all = met_for_both_codes("mapped runs until spent", counts.mapped_runs) && all;
-  all = met_for_both_codes("of these with raises counted", counts.ledgers) && all;
+  all = met_for_both_codes("of these with steps of 1", counts.runs_of_1) && all;
   all = met("erases that keep marked cells", "", counts.erases_that_keep) && all;
   for (unsigned start = 0; start < kListStarts; ++start) all = met("lists by their page", kStartName[start], counts.list_starts[start]) && all;
   all = met_for_both_codes("lists written through", counts.lists_through) && all;
@@ -2084,7 +2205,7 @@ bool every_kind_met(const Counts& counts) {
   all = met_for_both_codes("of any shape, stopped", counts.any_stopped) && all;
   all = met_for_both_codes("dearest lists", counts.dearest) && all;
   all = met_for_both_codes("three certain writes", counts.certain) && all;
-  all = met_for_both_codes("certain writes, all datas", counts.certain_bytes) && all;
+  all = met_for_both_codes("certain writes by bounds alone", counts.certain_bytes) && all;
   all = met("three certain, not searched", "code 7", counts.certain_wide) && all;
   for (unsigned f = kUnmapped; f < kFunctions; ++f) all = every_pair_met(counts, static_cast<Function>(f)) && all;
   for (unsigned f = 0; f < kFunctions; ++f) {
@@ -2096,27 +2217,35 @@ bool every_kind_met(const Counts& counts) {
   return met("refused on several grounds", "", counts.several_grounds) && all;
 }
 
-int compare(std::uint64_t seed, unsigned factor) {
-  std::printf("compare: seed %llu factor %u\n", static_cast<unsigned long long>(seed), factor);
+int compare(std::uint64_t seed, Factor factor) {
+  std::printf("compare: seed %llu factor %u/%u\n", static_cast<unsigned long long>(seed), factor.times, factor.part);
   check_known_cells();
   check_known_run();
   check_known_marks();
-  Judge judge(seed);
-  small_pages(judge, 40 * factor);
-  random_shapes(judge, 200 * factor);
-  large_pages(judge, 30 * factor);
-  runs(judge, 50 * factor);
-  refusals(judge, 20000 * factor, kPlainCalls);
-  erases(judge, 2000 * factor);
-  older_runs(judge, 5 * factor);
-  mapped_cases(judge, factor);
-  list_cases(judge, factor);
-  certain_cases(judge, factor);
+  Judge judge(seed, factor);
+  small_pages(judge);
+  random_shapes(judge);
+  large_pages(judge);
+  runs(judge);
+  refusals(judge, 20000, kPlainCalls);
+  erases(judge);
+  older_runs(judge);
+  mapped_cases(judge);
+  list_cases(judge);
+  certain_cases(judge);
   const bool complete = every_kind_met(judge.counts());
   if (!complete) give_up("a kind was never met");
   if (judge.calls() < 20000) give_up("fewer than 20000 calls");
-  std::printf("compare: %llu calls agree (seed %llu)\n", static_cast<unsigned long long>(judge.calls()), static_cast<unsigned long long>(seed));
+  const auto judged = [&](Basis basis) { return static_cast<unsigned long long>(judge.counts().judged[basis]); };
+  std::printf("compare: %llu calls agree: with the search %llu, with what the papers say outright %llu, with the library's other calls %llu (seed %llu)\n",
+              static_cast<unsigned long long>(judge.calls()), judged(kBySearch), judged(kByPapers), judged(kByOwn),
+              static_cast<unsigned long long>(seed));
   return 0;
+}
+
+[[noreturn]] void show_usage() {
+  std::fprintf(stderr, "usage: compare [SEED [FACTOR]], FACTOR n up to 10000 or 1/n up to 1/100\n");
+  std::exit(2);
 }
 
 // A whole number in decimal, at most the limit; anything else ends the program.
@@ -2124,21 +2253,21 @@ std::uint64_t number_from(const char* text, std::uint64_t limit) {
   std::uint64_t value = 0;
   const char* c = text;
   for (; *c >= '0' && *c <= '9' && value <= limit; ++c) value = 10 * value + static_cast<std::uint64_t>(*c - '0');
-  if (c == text || *c != '\0' || value > limit) {
-    std::fprintf(stderr, "usage: compare [SEED [FACTOR]]\n");
-    std::exit(2);
-  }
+  if (c == text || *c != '\0' || value > limit) show_usage();
   return value;
+}
+
+Factor factor_from(const char* text) {
+  const bool part = text[0] == '1' && text[1] == '/';
+  const auto n = static_cast<unsigned>(part ? number_from(text + 2, 100) : number_from(text, 10000));
+  if (n == 0) show_usage();
+  return part ? Factor{1, n} : Factor{n, 1};
 }
 
 }  // namespace
 
 int main(int argc, char** argv) {
+  if (argc > 3) show_usage();
   const std::uint64_t seed = argc > 1 ? number_from(argv[1], 1000000000000ULL) : 20240117;
-  const std::uint64_t factor = argc > 2 ? number_from(argv[2], 10000) : 1;
-  if (argc > 3 || factor == 0) {
-    std::fprintf(stderr, "usage: compare [SEED [FACTOR]]\n");
-    return 2;
-  }
-  return compare(seed, static_cast<unsigned>(factor));
+  return compare(seed, argc > 2 ? factor_from(argv[2]) : Factor{1, 1});
 }
