@@ -23,7 +23,6 @@
 
 #include <algorithm>
 #include <array>
-#include <bitset>
 #include <cstddef>
 #include <cstdint>
 #include <cstdio>
@@ -178,9 +177,11 @@ Bytes emptied_page(const Bytes& page, const Bytes& map) {
 // Whether every marked cell has the same three bits in both pages.
 bool marked_stay(const Bytes& page, const Bytes& after, const Bytes& map) { return emptied_page(page, map) == emptied_page(after, map); }
 
+constexpr std::array<unsigned, 16> kOnes = {0, 1, 1, 2, 1, 2, 2, 3, 1, 2, 2, 3, 2, 3, 3, 4};  // of half a byte
+
 std::uint64_t sum_of_levels(const Bytes& page) {
   std::uint64_t sum = 0;
-  for (const std::uint8_t byte : page) sum += std::bitset<8>(byte).count();
+  for (const std::uint8_t byte : page) sum += kOnes[byte / 16] + kOnes[byte % 16];
   return sum;
 }
 
@@ -371,10 +372,12 @@ class StripSearch {
       });
     }
     search(vertices);
-    for (std::size_t t = first; t < last; ++t) {
+    for_each_reached(first, [&](unsigned state) { ahead_[state] = distance_[number(first, state)]; });
+    // the walk begins in the strip's first piece, and finds its distances here
+    for (std::size_t t = first; first > 0 && t < last; ++t) {
       for_each_reached(t, [&](unsigned state) { chosen_[place(t, state)] = choice(t, state); });
     }
-    for_each_reached(first, [&](unsigned state) { ahead_[state] = distance_[number(first, state)]; });
+    measured_ = last;
     return first;
   }
 
@@ -400,13 +403,13 @@ class StripSearch {
   }
 
   // Equal levels lead to equal states, so the lowest levels that lose no cost at each stage are the lowest of the strip.
-  StripPath walk() const {
+  StripPath walk() {
     StripPath path;
     path.cost = ahead_[0];
     path.found = path.cost != kFar;
     unsigned state = 0;
     for (std::size_t t = 0; path.found && t < stages_; ++t) {
-      const unsigned chosen = chosen_[place(t, state)];
+      const unsigned chosen = t < measured_ ? choice(t, state) : chosen_[place(t, state)];
       path.levels.push_back(chosen / 4 % 4);
       path.levels.push_back(chosen % 4);
       path.tie = path.tie || chosen >= kTie;
@@ -422,7 +425,8 @@ class StripSearch {
   std::vector<Climb> climbs_;              // stage by stage, the lower levels first
   std::vector<std::size_t> first_climbs_;  // of each stage
   Bytes reached_;                          // by stage and state, 1 where it is reached
-  Bytes chosen_;                           // by stage and state
+  Bytes chosen_;                           // by stage and state, behind the first piece
+  std::size_t measured_ = 0;               // the stages of the piece measured last
   std::vector<Vertex> numbers_;            // of the states of a piece that are reached
   std::vector<std::uint32_t> ahead_;       // by state
   std::vector<std::pair<Vertex, Vertex>> edges_;
@@ -1414,7 +1418,7 @@ void check_known_cells() {
 void check_known_run() {
   Bytes page(6, 0);
   std::uint8_t byte = 0x80;
-  for (const std::uint64_t cost : {16, 16, 20, 20, 28, 28, 32}) {
+  for (const unsigned cost : {16U, 16U, 20U, 20U, 28U, 28U, 32U}) {
     const PageSearch least = search_page(kCodes[0], Shape{1, 1}, kHouse, page, Bytes(2, 0), Bytes{byte});
     if (least.answer != cost) give_up("the search itself is wrong: the known run of document 01");
     page = least.page;
@@ -1480,7 +1484,7 @@ void one_page(Judge& judge, const Code& code, Shape shape) {
 Shape random_shape(Judge& judge, std::uint32_t most_bytes) {
   const auto product = static_cast<std::uint32_t>(1 + judge.below(most_bytes));
   const auto bytes = static_cast<std::uint32_t>(1 + judge.below(std::min(product, kMost)));
-  return Shape{bytes, std::min(std::max(product / bytes, 1U), kMost)};
+  return Shape{bytes, std::min(std::max<std::uint32_t>(product / bytes, 1), kMost)};
 }
 
 void random_shapes(Judge& judge) {
@@ -1522,19 +1526,19 @@ void late_write(Judge& judge, const Code& code, Shape shape) {
 struct LargePage {
   std::size_t code;
   Shape shape;
-  std::uint64_t kind;
+  unsigned kind;
 };
 
 // The limits of L and S. With the long code the widest page has half its cells full, or the search would not end in time.
 std::vector<LargePage> every_large_page() {
   std::vector<LargePage> pages;
   for (const Shape shape : kLargeShapes) {
-    for (const std::uint64_t kind : {0, 1, 4, 5, 6}) pages.push_back(LargePage{0, shape, kind});
-    for (const std::uint64_t kind : {4, 5}) pages.push_back(LargePage{1, shape, kind});
+    for (const unsigned kind : {0U, 1U, 4U, 5U, 6U}) pages.push_back(LargePage{0, shape, kind});
+    for (const unsigned kind : {4U, 5U}) pages.push_back(LargePage{1, shape, kind});
   }
-  for (const std::uint64_t kind : {0, 1, 2, 6}) pages.push_back(LargePage{1, Shape{1, 64}, kind});
-  for (const std::uint64_t kind : {0, 1, 2, 6}) pages.push_back(LargePage{1, Shape{64, 1}, kind});
-  for (const std::uint64_t kind : {0, 1}) pages.push_back(LargePage{1, Shape{8, 8}, kind});
+  for (const unsigned kind : {0U, 1U, 2U, 6U}) pages.push_back(LargePage{1, Shape{1, 64}, kind});
+  for (const unsigned kind : {0U, 1U, 2U, 6U}) pages.push_back(LargePage{1, Shape{64, 1}, kind});
+  for (const unsigned kind : {0U, 1U}) pages.push_back(LargePage{1, Shape{8, 8}, kind});
   return pages;
 }
 
@@ -1553,8 +1557,10 @@ void large_pages(Judge& judge) {
   }
   for (unsigned round = judge.rounds(30, 4); round > 0; --round) {
     for (const Code& code : kCodes) late_write(judge, code, Shape{1, 64});
+  }
+  for (unsigned round = judge.rounds(30, 1); round > 0; --round) {
     one_page(judge, kCodes[0], any_shape(judge));
-    for (const std::uint64_t kind : {4, 5}) fitting_writes(judge, kCodes[1], any_shape(judge), kind);
+    for (const unsigned kind : {4U, 5U}) fitting_writes(judge, kCodes[1], any_shape(judge), kind);
   }
   progress(judge, "large pages");
 }
@@ -1894,9 +1900,12 @@ void mapped_shapes(Judge& judge) {
 // The limits of L and S. With the long code the search of a wide page ends in time only where most of its cells are marked or full.
 void mapped_large_pages(Judge& judge) {
   unsigned number = 0;
+  unsigned shapes = 0;
   for (const Shape shape : kLargeShapes) {
-    if (!judge.due(number++)) continue;
-    for (const MapKind kind : kAllMapKinds) mapped_page(judge, kCodes[0], shape, judge.strip_of_kind(6, page_length(shape)), kind);
+    for (const MapKind kind : kAllMapKinds) {
+      if (judge.due(number++)) mapped_page(judge, kCodes[0], shape, judge.strip_of_kind(6, page_length(shape)), kind);
+    }
+    if (!judge.due(shapes++)) continue;
     fitting_mapped_write(judge, kCodes[0], shape, judge.strip_of_kind(6, page_length(shape)), kFew);
     mapped_page(judge, kCodes[1], shape, judge.random_page(shape), kNearlyAll);
     fitting_mapped_write(judge, kCodes[1], shape, judge.strip_of_kind(6, page_length(shape)), kNearlyAll);
@@ -2099,8 +2108,8 @@ void certain_shapes(Judge& judge, const Code& code) {
   std::uint64_t share = 0;
   unsigned number = 0;
   for (unsigned round = judge.times(); round > 0; --round) {
-    for (const std::uint32_t bytes : {1U, 2U, 3U, 5U, 8U, kMost}) {
-      for (const std::uint32_t strips : {1U, 2U, 3U, 7U, kMost}) {
+    for (const std::uint32_t bytes : std::array<std::uint32_t, 6>{1, 2, 3, 5, 8, kMost}) {
+      for (const std::uint32_t strips : std::array<std::uint32_t, 5>{1, 2, 3, 7, kMost}) {
         if (!judge.due(number++) && bytes * strips < kMost * kMost) continue;
         const std::uint64_t seen = certain_shape(judge, code, Shape{bytes, strips});
         if (bytes * strips > 1) share = std::max(share, seen);
