@@ -265,30 +265,18 @@ struct StripPath {
   bool tie = false;  // another path costs as much
 };
 
-// The strip is searched in pieces, from its end on, each a graph of its own: the widest strip would need hundreds of megabytes at once.
+// The strip is searched in pieces, from its end on, each a graph of its own: the widest strip would need hundreds of megabytes at once. What a search
+// fills it leaves to the next one.
 class StripSearch {
  public:
-  StripSearch(const Trellis& trellis, const Weights& weights, const Levels& old, const Levels& highest, const Bytes& data)
-      : trellis_(trellis),
-        data_(data),
-        stages_(8 * data.size()),
-        piece_stages_(std::min(stages_, kPieceStates / trellis.states())),
-        reached_((stages_ + 1) * trellis.states(), 0),
-        chosen_(stages_ * trellis.states(), 0),
-        numbers_((piece_stages_ + 1) * trellis.states()),
-        ahead_(trellis.states(), 0) {
-    for (std::size_t t = 0; t < stages_; ++t) {
-      first_climbs_.push_back(climbs_.size());
-      for (unsigned x = old[2 * t]; x <= highest[2 * t]; ++x) {
-        for (unsigned y = old[2 * t + 1]; y <= highest[2 * t + 1]; ++y) {
-          climbs_.push_back(Climb{x, y, climb_cost(weights, old[2 * t], x) + climb_cost(weights, old[2 * t + 1], y)});
-        }
-      }
-    }
-    first_climbs_.push_back(climbs_.size());
-  }
-
-  StripPath least() {
+  StripPath least(const Trellis& trellis, const Weights& weights, const Levels& old, const Levels& highest, const Bytes& data) {
+    trellis_ = &trellis;
+    data_ = data;
+    stages_ = 8 * data.size();
+    piece_stages_ = std::min(stages_, kPieceStates / trellis_->states());
+    numbers_.resize((piece_stages_ + 1) * trellis_->states());
+    ahead_.assign(trellis_->states(), 0);
+    list_climbs(weights, old, highest);
     reach();
     for (std::size_t last = stages_; last > 0;) last = measure(last);
     return walk();
@@ -314,14 +302,14 @@ class StripSearch {
   static constexpr Vertex kPieceVertices = 10000;     // with so many it ends
   static constexpr unsigned kTie = 16;                // in a choice, beside 4 * x + y
 
-  std::size_t place(std::size_t t, unsigned state) const { return t * trellis_.states() + state; }
+  std::size_t place(std::size_t t, unsigned state) const { return t * trellis_->states() + state; }
   Vertex& number(std::size_t t, unsigned state) { return numbers_[place(t % (piece_stages_ + 1), state)]; }
 
   // Calls visit(climb, next state) for the edges that leave a state, the lower levels first.
   template <class Visit>
   void for_each_edge(std::size_t t, unsigned state, Visit visit) const {
     for (std::size_t i = first_climbs_[t]; i < first_climbs_[t + 1]; ++i) {
-      const Trellis::Step& step = trellis_.step(state, climbs_[i].x, climbs_[i].y);
+      const Trellis::Step& step = trellis_->step(state, climbs_[i].x, climbs_[i].y);
       if (step.data_bit == bit_at(data_, t)) visit(climbs_[i], step.next);
     }
   }
@@ -329,7 +317,7 @@ class StripSearch {
   template <class Visit>
   void for_each_reached(std::size_t t, Visit visit) const {
     const std::uint8_t* const begin = reached_.data() + place(t, 0);
-    const std::uint8_t* const end = begin + trellis_.states();
+    const std::uint8_t* const end = begin + trellis_->states();
     for (const std::uint8_t* at = begin; at != end; ++at) {
       const void* const found = std::memchr(at, 1, static_cast<std::size_t>(end - at));
       if (found == nullptr) return;
@@ -338,8 +326,23 @@ class StripSearch {
     }
   }
 
+  void list_climbs(const Weights& weights, const Levels& old, const Levels& highest) {
+    climbs_.clear();
+    first_climbs_.clear();
+    for (std::size_t t = 0; t < stages_; ++t) {
+      first_climbs_.push_back(climbs_.size());
+      for (unsigned x = old[2 * t]; x <= highest[2 * t]; ++x) {
+        for (unsigned y = old[2 * t + 1]; y <= highest[2 * t + 1]; ++y) {
+          climbs_.push_back(Climb{x, y, climb_cost(weights, old[2 * t], x) + climb_cost(weights, old[2 * t + 1], y)});
+        }
+      }
+    }
+    first_climbs_.push_back(climbs_.size());
+  }
+
   // From state 0 on, since before stage 0 every bit is 0: only the states that can be reached become vertices.
   void reach() {
+    reached_.assign((stages_ + 1) * trellis_->states(), 0);
     reached_[0] = 1;
     for (std::size_t t = 0; t < stages_; ++t) {
       for_each_reached(t, [&](unsigned state) {
@@ -374,6 +377,7 @@ class StripSearch {
     search(vertices);
     for_each_reached(first, [&](unsigned state) { ahead_[state] = distance_[number(first, state)]; });
     // the walk begins in the strip's first piece, and finds its distances here
+    if (first > 0) chosen_.resize(stages_ * trellis_->states());
     for (std::size_t t = first; first > 0 && t < last; ++t) {
       for_each_reached(t, [&](unsigned state) { chosen_[place(t, state)] = choice(t, state); });
     }
@@ -413,15 +417,15 @@ class StripSearch {
       path.levels.push_back(chosen / 4 % 4);
       path.levels.push_back(chosen % 4);
       path.tie = path.tie || chosen >= kTie;
-      state = trellis_.step(state, chosen / 4, chosen).next;
+      state = trellis_->step(state, chosen / 4, chosen).next;
     }
     return path;
   }
 
-  const Trellis& trellis_;
-  const Bytes& data_;
-  const std::size_t stages_;
-  const std::size_t piece_stages_;         // the most that a piece has
+  const Trellis* trellis_ = nullptr;
+  Bytes data_;
+  std::size_t stages_ = 0;
+  std::size_t piece_stages_ = 0;           // the most that a piece has
   std::vector<Climb> climbs_;              // stage by stage, the lower levels first
   std::vector<std::size_t> first_climbs_;  // of each stage
   Bytes reached_;                          // by stage and state, 1 where it is reached
@@ -459,6 +463,7 @@ struct PageSearch {
 
 PageSearch search_page(const Code& code, Shape shape, const Weights& weights, const Bytes& page, const Bytes& map, const Bytes& data) {
   static const std::array<Trellis, 2> trellises = {Trellis(kCodes[0]), Trellis(kCodes[1])};
+  static StripSearch search;
   const Trellis& trellis = trellises[code.name == kCodes[0].name ? 0 : 1];
   PageSearch result;
   result.page = page;
@@ -469,7 +474,7 @@ PageSearch search_page(const Code& code, Shape shape, const Weights& weights, co
     const Bytes strip_data = part(data, k, shape.bytes);
     const Levels old = levels_of(strip);
     const Levels highest = highest_levels(shape, map, k, old);
-    const StripPath path = StripSearch(trellis, weights, old, highest, strip_data).least();
+    const StripPath path = search.least(trellis, weights, old, highest, strip_data);
     if (!path.found) {
       PageSearch spent;
       spent.answer = answer_of(SEGRUNOV_SPENT, k);
@@ -1661,17 +1666,17 @@ std::int16_t bad_temperature(Judge& judge) {
   return values[judge.place_below(values.size())];
 }
 
-// The length that goes with L and S, also with bad ones as far as memory allows, so that often a single ground applies. The product wraps at 2^32, as
-// a careless one would.
+// The length that goes with L and S, also with bad ones as far as memory allows, so that often a single ground applies: 64 and 257 are still among
+// them. The product wraps at 2^32, as a careless one would.
 std::size_t length_for(std::uint32_t bytes, std::uint32_t strips, std::size_t factor) {
   const std::uint32_t product = bytes * strips;
-  return product <= 65536 ? factor * product : factor;
+  return product <= 257 * kMost ? factor * product : factor;
 }
 
-// The data of so many with that many bytes each, also with a bad count as far as memory allows.
+// The data of so many with that many bytes each, also with a bad count as far as memory allows: 65 and 66 of the largest.
 std::size_t list_length_for(std::uint32_t count, std::size_t data_bytes) {
   const std::uint64_t product = count * std::uint64_t{data_bytes};
-  return product <= 524288 ? static_cast<std::size_t>(product) : data_bytes;
+  return product <= 66 * kMost * kMost ? static_cast<std::size_t>(product) : data_bytes;
 }
 
 // A call with these items at fault: bit 0 the code, 1 L, 2 S, 3 the page, 4 the data or the temperature, 5 a weight, 6 the map, 7 the count. Half of
