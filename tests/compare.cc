@@ -9,11 +9,12 @@
 // no cost, the lowest levels first, is then the write that document 01 asks for, ties included. A list is judged as such writes, one after another.
 // The first three writes after an erase are also held to the bound that document 02 has for them.
 // Reads, erases, refusals and writes of what is held need no search: the papers say outright what they give. Pages too wide for the search are held
-// against the library's own single writes. The last line has the three numbers of calls. Of every write the levels are summed, too: document 01's ledger.
+// against the library's own single writes. The last line has how many calls each of the three judged. In every call the levels are summed: document
+// 01's ledger.
 //
-// At the first disagreement the whole case is printed and the exit status is 1. FACTOR is a number n, and multiplies the random cases; or 1/n, up to
-// 1/100, and takes about so much of them: of the rounds, of the bytes that a page is tried with, of the shapes that a loop goes through. Every kind of
-// case is still met. A seed and a factor make the same calls on every machine: no two draws stand in one expression, unless C++ orders them.
+// At the first disagreement the whole case is printed and the exit status is 1. FACTOR is n, and multiplies the random cases; or 1/n, up to 1/100, and
+// takes about so much of them: of the rounds, of the bytes that a page is tried with, of the shapes that a loop goes through. Every kind of case is
+// still met. Seed and factor make the same calls on every machine: no two draws stand in one expression, unless C++ orders them. The heap takes 9 MB.
 
 #include "segrunov.h"
 
@@ -303,14 +304,16 @@ class StripSearch {
   static constexpr unsigned kTie = 16;                // in a choice, beside 4 * x + y
 
   std::size_t place(std::size_t t, unsigned state) const { return t * trellis_->states() + state; }
-  Vertex& number(std::size_t t, unsigned state) { return numbers_[place(t % (piece_stages_ + 1), state)]; }
+  Vertex& number(std::size_t t, unsigned state) { return numbers_[place(piece_end_ - t, state)]; }
 
   // Calls visit(climb, next state) for the edges that leave a state, the lower levels first.
   template <class Visit>
   void for_each_edge(std::size_t t, unsigned state, Visit visit) const {
-    for (std::size_t i = first_climbs_[t]; i < first_climbs_[t + 1]; ++i) {
-      const Trellis::Step& step = trellis_->step(state, climbs_[i].x, climbs_[i].y);
-      if (step.data_bit == bit_at(data_, t)) visit(climbs_[i], step.next);
+    const unsigned wanted = bit_at(data_, t);
+    const Climb* const end = climbs_.data() + first_climbs_[t + 1];
+    for (const Climb* climb = climbs_.data() + first_climbs_[t]; climb != end; ++climb) {
+      const Trellis::Step& step = trellis_->step(state, climb->x, climb->y);
+      if (step.data_bit == wanted) visit(*climb, step.next);
     }
   }
 
@@ -345,8 +348,9 @@ class StripSearch {
     reached_.assign((stages_ + 1) * trellis_->states(), 0);
     reached_[0] = 1;
     for (std::size_t t = 0; t < stages_; ++t) {
-      for_each_reached(t, [&](unsigned state) {
-        for_each_edge(t, state, [&](const Climb&, unsigned next) { reached_[place(t + 1, next)] = 1; });
+      std::uint8_t* const following = reached_.data() + place(t + 1, 0);
+      for_each_reached(t, [=](unsigned state) {
+        for_each_edge(t, state, [=](const Climb&, unsigned next) { following[next] = 1; });
       });
     }
   }
@@ -359,6 +363,7 @@ class StripSearch {
 
   // Measures the piece that ends before stage `last`, where ahead_ has what each state costs from there on, and gives back its first stage.
   std::size_t measure(std::size_t last) {
+    piece_end_ = last;
     edges_.clear();
     weights_.clear();
     Vertex vertices = kEnd + 1;
@@ -381,7 +386,6 @@ class StripSearch {
     for (std::size_t t = first; first > 0 && t < last; ++t) {
       for_each_reached(t, [&](unsigned state) { chosen_[place(t, state)] = choice(t, state); });
     }
-    measured_ = last;
     return first;
   }
 
@@ -413,7 +417,7 @@ class StripSearch {
     path.found = path.cost != kFar;
     unsigned state = 0;
     for (std::size_t t = 0; path.found && t < stages_; ++t) {
-      const unsigned chosen = t < measured_ ? choice(t, state) : chosen_[place(t, state)];
+      const unsigned chosen = t < piece_end_ ? choice(t, state) : chosen_[place(t, state)];
       path.levels.push_back(chosen / 4 % 4);
       path.levels.push_back(chosen % 4);
       path.tie = path.tie || chosen >= kTie;
@@ -426,11 +430,11 @@ class StripSearch {
   Bytes data_;
   std::size_t stages_ = 0;
   std::size_t piece_stages_ = 0;           // the most that a piece has
+  std::size_t piece_end_ = 0;              // the stage behind the piece that was measured last
   std::vector<Climb> climbs_;              // stage by stage, the lower levels first
   std::vector<std::size_t> first_climbs_;  // of each stage
   Bytes reached_;                          // by stage and state, 1 where it is reached
   Bytes chosen_;                           // by stage and state, behind the first piece
-  std::size_t measured_ = 0;               // the stages of the piece measured last
   std::vector<Vertex> numbers_;            // of the states of a piece that are reached
   std::vector<std::uint32_t> ahead_;       // by state
   std::vector<std::pair<Vertex, Vertex>> edges_;
@@ -577,7 +581,8 @@ void print_outcome(const char* whose, const Outcome& outcome) {
 // A copy of some bytes between guard bytes. The front guard's length differs from buffer to buffer, so that every alignment is met.
 class Guarded {
  public:
-  Guarded(const Bytes& inner, std::uint64_t shift) : front_(kGuard + static_cast<std::size_t>(shift % 8)), length_(inner.size()), all_(front_ + length_ + kGuard) {
+  Guarded(const Bytes& inner, std::uint64_t shift)
+      : front_(kGuard + static_cast<std::size_t>(shift % 8)), length_(inner.size()), all_(front_ + length_ + kGuard) {
     for (std::size_t i = 0; i < all_.size(); ++i) all_[i] = pattern(i);
     std::copy(inner.begin(), inner.end(), all_.begin() + static_cast<std::ptrdiff_t>(front_));
   }
@@ -901,7 +906,8 @@ class Judge {
       const Outcome in_turn = {got.answer, raised_page(shape, erased, got.page), data};
       if (got.page != in_turn.page) disagree("bits of a page that only the library has written", call, in_turn, got);
       const Bytes raised = raised_page(shape, older, got.page);
-      judge(Call{write, code.name, shape.bytes, shape.strips, weighing.weights, older, data, 0}, Outcome{got.answer, raised, data, got.raises, kByOwn});
+      const Outcome alike = {got.answer, raised, data, got.raises, kByOwn};
+      judge(Call{write, code.name, shape.bytes, shape.strips, weighing.weights, older, data, 0}, alike);
       page = got.page;
       older = older_page(raised);
       answer = got.answer;
@@ -1136,7 +1142,8 @@ class Judge {
   }
 
   // The most that each of the three costs with the house's weights and one strip of one byte, over all datas: each from
-  // every page that the writes before can leave. They are millions, so that there is no search here either.
+  // every page that the writes before can leave. They are millions, so that there is no search here either. With a part
+  // of the cases the first two are all tried all the same: they make the pages of the third.
   Costs judge_certain_bytes(const Code& code) {
     const Shape shape = {1, 1};
     const Costs bounds = certain_bounds(shape, kHouse);
@@ -1153,7 +1160,11 @@ class Judge {
           if (k + 1 < kCertain) left.insert(got.page);
           ++counts_.certain_bytes[code_index(code)];
         };
-        for_each_byte(write_byte);
+        if (k + 1 == kCertain) {
+          for_each_byte(write_byte);
+        } else {
+          for (unsigned byte = 0; byte < 256; ++byte) write_byte(static_cast<std::uint8_t>(byte));
+        }
       }
       pages.swap(left);
     }
@@ -2219,7 +2230,7 @@ bool every_kind_met(const Counts& counts) {
   all = met_for_both_codes("of any shape, stopped", counts.any_stopped) && all;
   all = met_for_both_codes("dearest lists", counts.dearest) && all;
   all = met_for_both_codes("three certain writes", counts.certain) && all;
-  all = met_for_both_codes("certain writes by bounds alone", counts.certain_bytes) && all;
+  all = met_for_both_codes("certain writes, bounds alone", counts.certain_bytes) && all;
   all = met("three certain, not searched", "code 7", counts.certain_wide) && all;
   for (unsigned f = kUnmapped; f < kFunctions; ++f) all = every_pair_met(counts, static_cast<Function>(f)) && all;
   for (unsigned f = 0; f < kFunctions; ++f) {
@@ -2251,7 +2262,7 @@ int compare(std::uint64_t seed, Factor factor) {
   if (!complete) give_up("a kind was never met");
   if (judge.calls() < 20000) give_up("fewer than 20000 calls");
   const auto judged = [&](Basis basis) { return static_cast<unsigned long long>(judge.counts().judged[basis]); };
-  std::printf("compare: %llu calls agree: with the search %llu, with what the papers say outright %llu, with the library's other calls %llu (seed %llu)\n",
+  std::printf("compare: %llu calls agree: %llu with the search, %llu with what the papers say outright, %llu with other calls (seed %llu)\n",
               static_cast<unsigned long long>(judge.calls()), judged(kBySearch), judged(kByPapers), judged(kByOwn),
               static_cast<unsigned long long>(seed));
   return 0;
