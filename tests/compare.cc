@@ -383,7 +383,7 @@ class StripSearch {
     search(vertices);
     for_each_reached(first, [&](unsigned state) { ahead_[state] = distance_[number(first, state)]; });
     // the walk begins in the strip's first piece, and finds its distances here
-    if (first > 0) chosen_.resize(stages_ * trellis_->states());
+    if (first > 0 && chosen_.size() < place(stages_, 0)) chosen_ = Bytes(place(stages_, 0));
     for (std::size_t t = first; first > 0 && t < last; ++t) {
       for_each_reached(t, [&](unsigned state) { chosen_[place(t, state)] = choice(t, state); });
     }
