@@ -7,7 +7,7 @@
 # make clients TARGET=triple: runs the clients of the C interface on that processor, in qemu
 # make setup   the Debian packages that the tests need
 # make figures lines of code, definitions and proof by crate
-# make measure stack and time of each call of the C interface
+# make measure stack and time of each call of the C interface; TARGET=triple: on that processor, in qemu
 # make bench   the library's time beside other programs: docs/PERFORMANCE.md (ARCHIVE=file for another archive of the C interface)
 # make soak    the comparison ten times longer, with a new seed (or SEED=n, FACTOR=n or 1/n); TARGET=triple: on that processor in qemu, once
 
@@ -66,6 +66,7 @@ install: lib
 # The clients of the C interface on another processor, in qemu, with the packages that this needs.
 clients:
 	@$(HAVE_RT)
+	@[ -n "$(TARGET)" ] || { echo "make: clients wants TARGET=triple: see docs/PROCESSORS.md" >&2; exit 1; }
 	@bash tests/setup $(TARGET)
 	@bash tests/clients $(TARGET)
 
@@ -76,9 +77,13 @@ setup:
 figures:
 	@python3 tests/figures.py
 
+# What stands before the name of a program that tests/build made.
+THERE = $(if $(TARGET),tests/on $(TARGET) target/tests-$(TARGET),target/tests)
+
 measure: lib
-	@bash tests/setup
-	@tests/build measure && target/tests/measure
+	@bash tests/setup $(TARGET)
+	@tests/build measure $(TARGET)
+	@$(THERE)/measure
 
 # It has a set-up of its own: the tests need neither its packages nor its programs.
 bench:
@@ -89,7 +94,7 @@ FACTOR = $(if $(TARGET),1,10)
 soak: lib
 	@bash tests/setup $(if $(TARGET),cpp $(TARGET))
 	@tests/build compare $(TARGET)
-	@$(if $(TARGET),tests/on $(TARGET) target/tests-$(TARGET),target/tests)/compare $(SEED) $(FACTOR)
+	@$(THERE)/compare $(SEED) $(FACTOR)
 
 clean:
 	rm -rf target
