@@ -1,8 +1,8 @@
 /*
  * Measures each call: the most stack that it needs, over both codes and the ends of L and S, and its time on the largest page and on that of
  * examples/relay.c. A list has two datas.
- * Fails where a call is refused or needs more stack than SEGRUNOV_STACK says, and where a price needs more than PRICE_STACK, or not the same for L = 1
- * and L = 64: it keeps no array with a place for each stage or cell.
+ * Fails where a call is refused or needs more stack than SEGRUNOV_STACK says, and where a price needs more than PRICE_STACK, or not the
+ * same for L = 1 and L = 64: it keeps no array with a place for each stage or cell.
  */
 #define _POSIX_C_SOURCE 200809L
 #define _XOPEN_SOURCE 700
