@@ -1,7 +1,7 @@
 /*
  * How a relay keeps the thermal image of its feeder in a flash page: to be pasted into a firmware and fitted to its driver.
  *
- *   start    read the image that the page holds
+ *   start    read the image that the page holds, and look whether the RAM with a battery still holds what it was given
  *   store    price the new image, and write it where the page takes it; where the page is spent, keep the old image and ask for an erase
  *   erase    within the limits of the flash's certificate, 5.0 to 40.0 degrees Celsius
  *   enqueue  keep an image in RAM with a battery while the supply is too low to program the flash
@@ -58,6 +58,14 @@ static uint8_t *slot_of(uint32_t number)
     return slots + number % SLOTS * IMAGE_BYTES;
 }
 
+/* After a battery that was flat or exchanged the RAM holds anything, and nothing waits. The word tells: of its 2^32 values a ring has 16 * 17. */
+static void check_ring(void)
+{
+    if (oldest() >= SLOTS || waiting() > SLOTS) {
+        set_ring(0, 0);
+    }
+}
+
 /* The driver: the flash of this example is an array. In a real one every access is volatile. */
 static uint8_t flash[sizeof page];
 
@@ -94,6 +102,7 @@ enum store_result { STORED, ERASE_WANTED, FAULT };
 /* Reads the image; false where a constant of this file is wrong, since only then a read is refused. */
 static bool start(uint8_t *image)
 {
+    check_ring();
     flash_load();
     return SEGRUNOV_NUMBER(segrunov_read(SEGRUNOV_LONG, STRIP_BYTES, STRIPS, page, sizeof page, image, IMAGE_BYTES)) == SEGRUNOV_DONE;
 }
@@ -207,7 +216,12 @@ int main(void)
     uint8_t image[STRIP_BYTES * STRIPS];
     unsigned stored = 0, written;
     flash_erase(); /* as a new part comes */
-    if (!start(image)) {
+    ring = SLOTS + 1; /* as the RAM can be with a new battery: so many do not fit */
+    if (!start(image) || waiting() != 0) {
+        return 1;
+    }
+    ring = (uint32_t)SLOTS << 16 | 1u; /* or there is no such slot */
+    if (!start(image) || waiting() != 0) {
         return 1;
     }
     /* The image of a feeder that warms up: a count in the first bytes. */
