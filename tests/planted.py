@@ -441,6 +441,7 @@ FAULTS = {
         ("FAILED: these checks find planted faults", append("tests/planted.py", "raise SystemExit(1)\n")),
         ("FAILED: the clients on a PowerPC", append("tests/clients", '[ "$1" != powerpc-linux-gnu ] || exit 1\n')),
         ("FAILED: these clients find planted faults", append("tests/planted_on", "exit 1\n")),
+        ("FAILED: the run program against a model", append("tests/run.py", 'if __name__ == "__main__":\n    sys.exit(1)\n')),
         ("FAILED: comparison with Boost.Graph", append("tests/build", '[ "$1" != compare ] || exit 1\n')),
         ("FAILED: the count", change("tests/gate", r"^    passed=.*", "    :")),
     ],
