@@ -8,7 +8,7 @@
  * A step from level 0 to 1 costs 16, from 1 to 2 costs 20, from 2 to 3 costs 28: the house's weights. The calls that
  * end in _weighted, price and write with a map, and the two calls for a list of writes take three others, from the
  * flash part's data sheet: with them cheapest is meant in these. Whether a page is spent does not depend on them, and
- * calls with any weights may follow each other on one page.
+ * calls with any weights may follow each other on one page. segrunov_write_band stores a number that need not be exact.
  *
  * ARGUMENTS, the same in every call
  *   code      SEGRUNOV_SHORT (3) or SEGRUNOV_LONG (7)
@@ -20,6 +20,8 @@
  *   map       2*L*S bytes, map_len of them: a bit for each cell of the page, and a one marks the cell
  *   data      L*S bytes, data_len of them, strip 0 first; of a list count*L*S bytes, one data after another
  *   tenths    the temperature in tenths of a degree Celsius
+ *   value     the number of a write in a band
+ *   band      M, how far the number stored may be from it, 0 to 8
  * Every value of the types is allowed and answered; no call asks anything of a number. A length has 64 bits on every
  * processor, also where size_t has fewer. A pointer must lead to as many bytes as its length says; with length 0 it may
  * be NULL. Buffers of one call must not overlap, the map and the page neither, and nobody else may write to them during
@@ -29,7 +31,7 @@
  * SEGRUNOV_VALUE, its lower half, is the cost of a write or price that is done, the strip's number where the page is
  * spent, and 0 in every other case. The one exception is a list's answer: where the page is spent, its value is the
  * cost of what was written before, and the strip has a field of its own. The grounds that a call has are tested in the
- * order 1, 2, 3, 9, 10, 4, 11, 5, 7, 8, and the first that applies is the answer. With any refusal no byte is changed:
+ * order 1, 12, 2, 3, 9, 10, 4, 11, 5, 7, 8, and the first that applies is the answer. With any refusal no byte is changed:
  * not the page, not the data, not the buffer, also not the strips before a spent one. The one exception is a list with
  * a 7: the page keeps what was written before. No call changes a map, and none but a read changes data.
  *
@@ -48,6 +50,15 @@
  * fields. Before version 1.3.0 SEGRUNOV_NUMBER was the whole upper half. Whoever kept that macro must not use it on a
  * list's answer; on the answers of the calls that there were it gives what this one gives, and nothing changes for
  * their callers.
+ *
+ * A BAND. segrunov_write_band stores a number of 16 bits, as a winding's temperature, low byte first, on a page with
+ * L = 2 and S = 1: 12 bytes. It may store any number from 0 to 65,535 that is at most M away from the one given, and
+ * takes the cheapest of all pages that read as one of these with no cell lowered. Among equals the nearest number is
+ * stored, then the lower; then the tie goes as in every write. Nothing goes round: near 0 and 65,535 the band ends there.
+ * The page is spent, with strip 0, only where no number of the band can be stored. Its cost is what the write of the
+ * number stored costs; segrunov_read says which that is. With M = 0 it is segrunov_write with L = 2 and S = 1. A wider
+ * band never costs more, and is never spent where a narrower one is not; so the first three writes after an erase are
+ * certain here too.
  *
  * WHICH BITS. Bit k of a strip is bit k mod 8 of its byte k div 8, bit 0 being worth 1, and its cell c is the bits 3*c,
  * 3*c+1 and 3*c+2. A raise of the cell turns one zero into a one: it starts at bit c mod 3 of these three, c being the
@@ -97,7 +108,7 @@ extern "C" {
 
 /* The version: its first number changes where a caller has to change, its second where there is more to call, else its
  * third. */
-#define SEGRUNOV_VERSION "1.3.2"
+#define SEGRUNOV_VERSION "1.4.0"
 
 /* The two codes. */
 #define SEGRUNOV_SHORT UINT32_C(3)
@@ -115,7 +126,7 @@ extern "C" {
 #define SEGRUNOV_WRITTEN(answer) ((uint32_t)((answer) >> 40 & UINT64_C(0xff)))
 #define SEGRUNOV_SPENT_STRIP(answer) ((uint32_t)((answer) >> 48))
 
-/* The numbers of an answer: 1 to 5 and 9 to 11 from the input, tested in the order 1, 2, 3, 9, 10, 4, 11, 5; 7 and 8
+/* The numbers of an answer: 1 to 5 and 9 to 12 from the input, tested in the order 1, 12, 2, 3, 9, 10, 4, 11, 5; 7 and 8
  * from the state, after those. 6 belongs to the run program. */
 #define SEGRUNOV_DONE UINT32_C(0)
 #define SEGRUNOV_CODE UINT32_C(1)        /* the code is neither 3 nor 7 */
@@ -128,6 +139,7 @@ extern "C" {
 #define SEGRUNOV_WEIGHT UINT32_C(9)      /* a weight is 0 */
 #define SEGRUNOV_COUNT UINT32_C(10)      /* the count of a list is not from 1 to 64 */
 #define SEGRUNOV_MAP_LENGTH UINT32_C(11) /* the map is not 2*L*S bytes long */
+#define SEGRUNOV_BAND UINT32_C(12)       /* the band is above 8 */
 
 /* The house's weights, which the calls without weights go by. */
 #define SEGRUNOV_HOUSE_W1 UINT8_C(16)
@@ -137,10 +149,16 @@ extern "C" {
 /* The most datas of a list. */
 #define SEGRUNOV_MAX_LIST UINT32_C(64)
 
-/* What one write costs at most, with the house's weights and with any, what a list costs at most, and the stack that a
- * call needs at most, in bytes. */
+/* The page of a write in a band, and its widest band. */
+#define SEGRUNOV_BAND_BYTES UINT32_C(2)
+#define SEGRUNOV_BAND_STRIPS UINT32_C(1)
+#define SEGRUNOV_MAX_BAND UINT32_C(8)
+
+/* What one write costs at most, with the house's weights, with any and in a band, what a list costs at most, and the
+ * stack that a call needs at most, in bytes. */
 #define SEGRUNOV_MAX_COST UINT32_C(1835008)
 #define SEGRUNOV_MAX_WEIGHTED_COST UINT32_C(16711680)
+#define SEGRUNOV_MAX_BAND_COST UINT32_C(896)
 #define SEGRUNOV_MAX_LIST_COST UINT32_C(50135040)
 #define SEGRUNOV_STACK 12288
 
@@ -172,6 +190,10 @@ uint64_t segrunov_write_weighted(uint32_t code, uint32_t bytes, uint32_t strips,
 /* Writes the datas one after another, each as segrunov_write_weighted, and stops before the first for which the page is
  * spent. Refused by 1, 2, 3, 9, 10, 4, 5 and 7, tested in this order; a 7 leaves what was written before it. */
 uint64_t segrunov_write_list(uint32_t code, uint32_t bytes, uint32_t strips, uint8_t w1, uint8_t w2, uint8_t w3, uint32_t count, uint8_t *page, uint64_t page_len, const uint8_t *data, uint64_t data_len);
+
+/* Writes the cheapest number that is at most the band away from the value, the nearest of equals, then the lower, into a
+ * page of 12 bytes. Refused by 1, 12, 4 and 7, tested in this order; the value of a 7 is 0. */
+uint64_t segrunov_write_band(uint32_t code, uint8_t *page, uint64_t page_len, uint16_t value, uint32_t band);
 
 /* Makes every byte of the page 0. Refused by 2 to 4 and 8. */
 uint64_t segrunov_erase(uint32_t bytes, uint32_t strips, uint8_t *page, uint64_t page_len, int16_t tenths);

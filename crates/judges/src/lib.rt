@@ -4,6 +4,7 @@ use refusals::Completion;
 use refusals::Count;
 use refusals::Map;
 use refusals::earlier;
+use refusals::judge_band;
 use refusals::judge_count;
 use refusals::judge_data;
 use refusals::judge_limits;
@@ -16,7 +17,7 @@ ghost use mathlib.Core.Path.{_≡_};
 ghost use mathlib.Core.Option.{none};
 ghost use Rattle.codes.specs.Codes.{generatorsOf};
 ghost use Rattle.refusals.specs.Refusals.{countGiven, mapGiven, limitsGround, shapeGround, lengthsGround, ground, listGround};
-ghost use Rattle.refusals.specs.Refusals.{erasingGround, numbered, completionOf};
+ghost use Rattle.refusals.specs.Refusals.{valueGround, erasingGround, numbered, completionOf};
 
 // Judges L, S and the page's length, in this order.
 pub fn judge_shape(bytes: u32, strips: u32, page: usize) -> Completion
@@ -80,6 +81,16 @@ pub fn judge_write(
     let counted = judge_count(count);
     let lengths = judge_lengths(bytes, strips, count, page, map, data);
     earlier(steps, earlier(counted, lengths))
+}
+
+// Judges what a write in a band is given: the code, the band, then the page's length. L and S are 2 and 1, within their limits.
+pub fn judge_value(code: u32, band: u32, page: usize) -> Completion
+    ensures { λ r. ⌜ r ≡ completionOf (valueGround code band page) ⌝ }
+{
+    let of_code = judge_sizes(code, 2, 1);
+    let of_band = judge_band(band);
+    let of_page = judge_page(2, 1, page);
+    earlier(of_code, earlier(of_band, of_page))
 }
 
 // The code of a number that is 3 or 7.

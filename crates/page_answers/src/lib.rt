@@ -3,7 +3,7 @@ use refusals::Refusal;
 use refusals::refusal_number;
 use trellis::Outcome;
 ghost use mathlib.Core.Path.{_≡_};
-ghost use Rattle.page_answers.specs.Answers.{numberOf, valueOf, endNumber, endStrip};
+ghost use Rattle.page_answers.specs.Answers.{numberOf, valueOf, endNumber, endStrip, plainAnswer};
 ghost use Rattle.page_answers.specs.Totals.{noTotal, added, answerFor};
 
 // The answer of a write, and of a price: done with the cost, spent with the strip's number, or refused.
@@ -25,6 +25,13 @@ pub struct ListAnswer {
     pub written: u32,
     pub cost: u32,
     pub end: End,
+}
+
+// The answer of a write in a band: done with the cost and the value stored, spent, or refused.
+pub enum BandAnswer {
+    Done(u32, u16),
+    Spent,
+    Refused(Refusal),
 }
 
 // The running total of a page: the cost and the number of the strips so far, and whether one was spent.
@@ -123,5 +130,16 @@ pub fn end_strip(end: End) -> u32
         End::Done => 0,
         End::Spent(strip) => strip,
         End::Refused(_) => 0,
+    }
+}
+
+// What a write in a band answers, without the value stored: as a write does.
+pub fn plain(answer: BandAnswer) -> Answer
+    ensures { λ r. ⌜ r ≡ plainAnswer answer ⌝ }
+{
+    match answer {
+        BandAnswer::Done(cost, _) => Answer::Done(cost),
+        BandAnswer::Spent => Answer::Spent(0),
+        BandAnswer::Refused(refusal) => Answer::Refused(refusal),
     }
 }

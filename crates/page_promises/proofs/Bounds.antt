@@ -130,7 +130,7 @@ value-most map W K w p most code L S before content b {r} e = go r (sym e) (rw (
     go (A.Refused r) f q = omega arith
 
 -- THE HOUSE'S WEIGHTS: a step costs at most 28
-house-most : (l : ℕ) → weightOf house l ≤ 28
+pub house-most : (l : ℕ) → weightOf house l ≤ 28
 unfolding weightOf
 house-most zero = omega arith
 house-most (suc zero) = omega arith

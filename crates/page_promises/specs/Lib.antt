@@ -2,3 +2,5 @@
 pub mod Writes
 pub mod Promise
 pub mod Lists
+pub mod Families
+pub mod Band

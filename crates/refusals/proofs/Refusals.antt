@@ -8,6 +8,8 @@
 --   house-ground                                 with the house's weights it is refused as a read is
 --   weighted-in-order, map-in-order              a price or write without a ground, with a map or without
 --   count-in-order, single-ground                a list without a ground: its count, and each of its writes
+--   code-ground, value-ground                    a write in a permitted band is refused as the plain write of the same page is
+--   band-limit, band-permitted, value-band       a band without a ground is at most 8, and the other way round
 --   erasing-shape                                an erase without a ground: its shape
 --   same-ground, same-erasing                    a map that has no ground refuses nothing more
 --   sizes-number                                 the code, L and S are refused by 1 to 3
@@ -33,7 +35,8 @@ use Rattle.codes.proofs.Codes.{Coded, short-coded, long-coded}
 use Rattle.refusals.specs.Refusals.{oneTo64, isCode, freeStep, first-of, codeGround, bytesGround, stripsGround, weightsGround}
 use Rattle.refusals.specs.Refusals.{countGround, pageGround, mapGround, dataCount, datasGround, lengthsGround}
 use Rattle.refusals.specs.Refusals.{limitsGround, sizesGround, shapeGround, ground, listGround, callGround, writeGround}
-use Rattle.refusals.specs.Refusals.{erasingGround, completionOf, refusalNumber, numbered}
+use Rattle.refusals.specs.Refusals.{bandGround, bandBytes, bandStrips, valueGround, erasingGround, completionOf, refusalNumber}
+use Rattle.refusals.specs.Refusals.{numbered}
 use Rattle.refusals.specs.declared.Refusal.{Refusal}
 use Rattle.refusals.specs.declared.Refusal.the-variants.{CodeUnknown, BytesOutside, StripsOutside, WeightZero}
 use Rattle.refusals.specs.declared.Completion.{Completion}
@@ -263,6 +266,41 @@ permitted-ground W code L S page content e = rw e
 pub house-ground : (code L S page content : ℕ) → writeGround house code L S page content ≡ ground code L S page content
 unfolding weightsGround freeStep weightOf
 house-ground code L S page content = permitted-ground house code L S page content refl
+
+-- A WRITE IN A BAND. Of the code, L and S of its page only the code can be refused
+pub code-ground : (code : ℕ) → sizesGround code bandBytes bandStrips ≡ codeGround code
+unfolding sizesGround codeGround limitsGround bytesGround stripsGround oneTo64
+code-ground code = go (isCode code)
+  where
+    go : (b : Bool) → first-of (cond b none (some CodeUnknown)) none ≡ cond b none (some CodeUnknown)
+    go true = refl
+    go false = refl
+
+-- a band that has no ground is at most 8
+pub band-limit : (M : ℕ) → bandGround M ≡ none → M ≤ 8
+unfolding bandGround
+band-limit M e = leb-true M 8 (no-ground (leb M 8) _ e)
+
+-- and one of at most 8 has none
+pub band-permitted : (M : ℕ) → M ≤ 8 → bandGround M ≡ none
+unfolding bandGround
+band-permitted M h = rw (le-leb M 8 h)
+
+-- a write in a band without a ground is of such a band
+pub value-band : (code M page : ℕ) → valueGround code M page ≡ none → bandGround M ≡ none
+unfolding valueGround
+value-band code M page e = neither (bandGround M) _ (neither (codeGround code) _ e .1) .0
+
+-- in a permitted band it is refused as the plain write of the same page is, with two bytes of data
+pub value-ground : (code M page : ℕ) → bandGround M ≡ none
+    → valueGround code M page ≡ writeGround house code bandBytes bandStrips page 2
+unfolding valueGround ground lengthsGround datasGround
+value-ground code M page e = rw (house-ground code bandBytes bandStrips page 2, e, code-ground code) (go (codeGround code) (pageGround oneBit bandBytes bandStrips page))
+  where
+    go : (g h : Option Refusal) → first-of g h ≡ first-of g (first-of h none)
+    go (some r) h = refl
+    go none none = refl
+    go none (some r) = refl
 
 -- the code, L and S are refused by 1 to 3
 three-tests : (a b c : Bool) {r : Refusal}

@@ -3,6 +3,7 @@
 --   first-of                    of two grounds, the one that is tested first
 --   limitsGround, sizesGround   the grounds of L and S; of the code, L and S
 --   freeStep, weightsGround     whether a weight is 0, and the ground of that
+--   bandGround                  the ground of a band
 --   shapeGround, lengthsGround  the grounds of erase and census; of the lengths
 --   countGiven, mapGiven        the count and the length of the map that a call has, or none
 --   mapGround                   the ground of a map's length, where there is a map
@@ -11,6 +12,8 @@
 --   ground                      the grounds of read
 --   listGround                  the grounds of price and write, of one data or a list, with a map or without
 --   callGround, writeGround     those of one data; and without a map
+--   bandBytes, bandStrips       L and S of a page that holds a value in a band
+--   valueGround                 the grounds of a write in a band
 --   tooCold, tooWarm            an erase outside 50 to 400
 --   eraseGround                 from the state: such an erase
 --   erasingGround               the grounds of erase, with a map or without
@@ -29,8 +32,8 @@ use Rattle.cells.specs.Climbs.{weightOf}
 use Rattle.codes.specs.Generators.{Generators, short, long}
 use Rattle.codes.specs.Layouts.{Layout, oneBit, byteCount, mapCount}
 use Rattle.refusals.specs.declared.Refusal.{Refusal}
-use Rattle.refusals.specs.declared.Refusal.the-variants.{CodeUnknown, BytesOutside, StripsOutside, WeightZero, CountOutside}
-use Rattle.refusals.specs.declared.Refusal.the-variants.{PageLength, MapLength, DataLength, EraseTemperature}
+use Rattle.refusals.specs.declared.Refusal.the-variants.{CodeUnknown, BandOutside, BytesOutside, StripsOutside, WeightZero}
+use Rattle.refusals.specs.declared.Refusal.the-variants.{CountOutside, PageLength, MapLength, DataLength, EraseTemperature}
 use Rattle.refusals.specs.declared.Count.{Count}
 use Rattle.refusals.specs.declared.Count.the-variants as N
 use Rattle.refusals.specs.declared.Map.{Map}
@@ -104,6 +107,10 @@ freeStep W = eqb (weightOf W 0) 0 || eqb (weightOf W 1) 0 || eqb (weightOf W 2) 
 unfoldable pub weightsGround : List ℕ → Option Refusal
 weightsGround W = cond (freeStep W) (some WeightZero) none
 
+-- '12, M above 8'
+unfoldable pub bandGround : ℕ → Option Refusal
+bandGround M = cond (leb M 8) none (some BandOutside)
+
 -- 2 and 3: the limits of L and S
 unfoldable pub limitsGround : ℕ → ℕ → Option Refusal
 limitsGround L S = first-of (bytesGround L) (stripsGround S)
@@ -140,6 +147,17 @@ callGround map W code L S page content = listGround none map W code L S page con
 abbrev pub writeGround : List ℕ → ℕ → ℕ → ℕ → ℕ → ℕ → Option Refusal
 writeGround W code L S page content = callGround none W code L S page content
 
+-- a value in a band is stored 'on a page with L = 2 and S = 1 (12 bytes)'
+abbrev pub bandBytes : ℕ
+bandBytes = 2
+
+abbrev pub bandStrips : ℕ
+bandStrips = 1
+
+-- 1, 12 and 4, for a write in a band: 12 is 'tested after 1 and before 4'
+unfoldable pub valueGround : (code M page : ℕ) → Option Refusal
+valueGround code M page = first-of (codeGround code) (first-of (bandGround M) (pageGround oneBit bandBytes bandStrips page))
+
 -- 'From 50 to 400, both included', in tenths of a degree Celsius
 unfoldable pub tooCold : ℤ → Bool
 tooCold tenths = ltZ tenths (pos 50)
@@ -166,6 +184,7 @@ refusalNumber EraseTemperature = 8
 refusalNumber WeightZero = 9
 refusalNumber CountOutside = 10
 refusalNumber MapLength = 11
+refusalNumber BandOutside = 12
 
 -- '6: text of the program is not in its form': the run program's own, so no member of the enum, which a call could answer
 abbrev pub textNumber : ℕ

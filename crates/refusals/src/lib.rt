@@ -3,12 +3,13 @@ ghost use mathlib.Core.Path.{_≡_};
 ghost use mathlib.Core.Option.{Option, none};
 ghost use Rattle.codes.specs.Layouts.{oneBit};
 ghost use Rattle.refusals.specs.Refusals.{oneTo64, isCode, tooCold, tooWarm, freeStep, limitsGround, sizesGround, weightsGround};
-ghost use Rattle.refusals.specs.Refusals.{countGiven, mapGiven, countGround, pageGround, mapGround, datasGround, eraseGround};
-ghost use Rattle.refusals.specs.Refusals.{first-of, refusalNumber, completionOf, completionNumber};
+ghost use Rattle.refusals.specs.Refusals.{countGiven, mapGiven, bandGround, countGround, pageGround, mapGround, datasGround};
+ghost use Rattle.refusals.specs.Refusals.{eraseGround, first-of, refusalNumber, completionOf, completionNumber};
 
-// Why a call is refused, in the order of the tests; the paper's numbers are 1, 2, 3, 9, 10, 4, 11, 5 and 8.
+// Why a call is refused, in the order of the tests; the paper's numbers are 1, 12, 2, 3, 9, 10, 4, 11, 5 and 8.
 pub enum Refusal {
     CodeUnknown,
+    BandOutside,
     BytesOutside,
     StripsOutside,
     WeightZero,
@@ -78,6 +79,16 @@ pub fn judge_sizes(code: u32, bytes: u32, strips: u32) -> Completion
         return Completion::Refused(Refusal::CodeUnknown);
     }
     judge_limits(bytes, strips)
+}
+
+// Judges how far a value that is stored may be from the one given.
+pub fn judge_band(band: u32) -> Completion
+    ensures { λ r. ⌜ r ≡ completionOf (bandGround band) ⌝ }
+{
+    if band > 8 {
+        return Completion::Refused(Refusal::BandOutside);
+    }
+    Completion::Done
 }
 
 // Whether one of the weights is 0.
@@ -218,6 +229,7 @@ pub fn refusal_number(refusal: Refusal) -> u32
         Refusal::WeightZero => 9,
         Refusal::CountOutside => 10,
         Refusal::MapLength => 11,
+        Refusal::BandOutside => 12,
     }
 }
 
