@@ -34,28 +34,28 @@ ahead-self : (rank : ℕ → ℕ) (i : ℕ) → Ahead rank i i
 ahead-self rank i = record { ranked = omega arith; lower = λ e. omega arith }
 
 -- THE TEST. One that is better costs no more, and where it costs as much its rank is lower
-outdoes-true : (r c : ℕ) (o : Offer) → outdoes r c o ≡ true → (c ≤ o .cost) × (o .cost ≤ c → r < o .rank)
+outdoes-true : (r c s d : ℕ) → outdoes r c s d ≡ true → (c ≤ d) × (d ≤ c → r < s)
 unfolding outdoes
-outdoes-true r c o = go (ltb c (o .cost)) refl (eqb c (o .cost)) refl (ltb r (o .rank)) refl
+outdoes-true r c s d = go (ltb c d) refl (eqb c d) refl (ltb r s) refl
   where
-    go : (x : Bool) → ltb c (o .cost) ≡ x → (y : Bool) → eqb c (o .cost) ≡ y → (z : Bool) → ltb r (o .rank) ≡ z
-        → (x || y && z) ≡ true → (c ≤ o .cost) × (o .cost ≤ c → r < o .rank)
-    go true d y e z f t = let l = ltb-true c (o .cost) d in (omega arith, λ m. absurd (let w : ⊥ = omega arith in w))
-    go false d true e true f t = (omega (arith, eqb-true c (o .cost) e), λ m. ltb-true _ _ f)
-    go false d true e false f t = absurd (false≢true t)
-    go false d false e z f t = absurd (false≢true t)
+    go : (x : Bool) → ltb c d ≡ x → (y : Bool) → eqb c d ≡ y → (z : Bool) → ltb r s ≡ z → (x || y && z) ≡ true
+        → (c ≤ d) × (d ≤ c → r < s)
+    go true l y e z f t = let k = ltb-true c d l in (omega arith, λ m. absurd (let w : ⊥ = omega arith in w))
+    go false l true e true f t = (omega (arith, eqb-true c d e), λ m. ltb-true _ _ f)
+    go false l true e false f t = absurd (false≢true t)
+    go false l false e z f t = absurd (false≢true t)
 
 -- one that is not costs no less, and where it costs as much its rank is no lower
-outdoes-false : (r c : ℕ) (o : Offer) → outdoes r c o ≡ false → (o .cost ≤ c) × (c ≡ o .cost → o .rank ≤ r)
+outdoes-false : (r c s d : ℕ) → outdoes r c s d ≡ false → (d ≤ c) × (c ≡ d → s ≤ r)
 unfolding outdoes
-outdoes-false r c o = go (ltb c (o .cost)) refl (eqb c (o .cost)) refl (ltb r (o .rank)) refl
+outdoes-false r c s d = go (ltb c d) refl (eqb c d) refl (ltb r s) refl
   where
-    go : (x : Bool) → ltb c (o .cost) ≡ x → (y : Bool) → eqb c (o .cost) ≡ y → (z : Bool) → ltb r (o .rank) ≡ z
-        → (x || y && z) ≡ false → (o .cost ≤ c) × (c ≡ o .cost → o .rank ≤ r)
-    go true d y e z f t = absurd (true≢false t)
-    go false d true e true f t = absurd (true≢false t)
-    go false d true e false f t = (ltb-false c (o .cost) d, λ m. ltb-false _ _ f)
-    go false d false e z f t = (ltb-false c (o .cost) d, λ m. absurd (eqb-false c (o .cost) e m))
+    go : (x : Bool) → ltb c d ≡ x → (y : Bool) → eqb c d ≡ y → (z : Bool) → ltb r s ≡ z → (x || y && z) ≡ false
+        → (d ≤ c) × (c ≡ d → s ≤ r)
+    go true l y e z f t = absurd (true≢false t)
+    go false l true e true f t = absurd (true≢false t)
+    go false l true e false f t = (ltb-false c d l, λ m. ltb-false _ _ f)
+    go false l false e z f t = (ltb-false c d l, λ m. absurd (eqb-false c d e m))
 
 module _ (rank : ℕ → ℕ) (f : ℕ → Option ℕ) where
   -- what the choice says
@@ -78,7 +78,7 @@ module _ (rank : ℕ → ℕ) (f : ℕ → Option ℕ) where
   }
 
   -- one that is better
-  better-taken : (n c : ℕ) (o : Offer) → Chosen rank f n o → f n ≡ some c → outdoes (rank n) c o ≡ true
+  better-taken : (n c : ℕ) (o : Offer) → Chosen rank f n o → f n ≡ some c → outdoes (rank n) c (o .rank) (o .cost) ≡ true
       → Chosen rank f (suc n) (offerAt n c)
   better-taken n c o b e t = record {
     inside = omega arith;
@@ -90,7 +90,7 @@ module _ (rank : ℕ → ℕ) (f : ℕ → Option ℕ) where
   }
     where
       w : (c ≤ o .cost) × (o .cost ≤ c → rank n < o .rank)
-      w = outdoes-true (rank n) c o t
+      w = outdoes-true (rank n) c (o .rank) (o .cost) t
 
       before : (i : ℕ) → i < n → f i ≡ some c → Ahead rank n i
       before i l g =
@@ -101,7 +101,7 @@ module _ (rank : ℕ → ℕ) (f : ℕ → Option ℕ) where
           record { ranked = omega arith; lower = λ d. absurd (let y : ⊥ = omega arith in y) }
 
   -- one that is not
-  other-left : (n c : ℕ) (o : Offer) → Chosen rank f n o → f n ≡ some c → outdoes (rank n) c o ≡ false → Chosen rank f (suc n) o
+  other-left : (n c : ℕ) (o : Offer) → Chosen rank f n o → f n ≡ some c → outdoes (rank n) c (o .rank) (o .cost) ≡ false → Chosen rank f (suc n) o
   other-left n c o b e t = record {
     inside = omega (arith, b .inside);
     its-rank = b .its-rank;
@@ -114,7 +114,7 @@ module _ (rank : ℕ → ℕ) (f : ℕ → Option ℕ) where
   }
     where
       w : (o .cost ≤ c) × (c ≡ o .cost → o .rank ≤ rank n)
-      w = outdoes-false (rank n) c o t
+      w = outdoes-false (rank n) c (o .rank) (o .cost) t
 
   -- one more that is no offer
   no-offer : (n : ℕ) (r : Option Offer) → Result n r → f n ≡ none → Result (suc n) r
@@ -132,9 +132,9 @@ module _ (rank : ℕ → ℕ) (f : ℕ → Option ℕ) where
   one-more : (n : ℕ) (r : Option Offer) → Result n r → (c : Option ℕ) → f n ≡ c → Result (suc n) (withOffer r n (rank n) c)
   one-more n r b none e = no-offer n r b e
   one-more n none b (some c) e = first n c b e
-  one-more n (some o) b (some c) e = go (outdoes (rank n) c o) refl
+  one-more n (some o) b (some c) e = go (outdoes (rank n) c (o .rank) (o .cost)) refl
     where
-      go : (t : Bool) → outdoes (rank n) c o ≡ t → Result (suc n) (cond t (some (offerAt n c)) (some o))
+      go : (t : Bool) → outdoes (rank n) c (o .rank) (o .cost) ≡ t → Result (suc n) (cond t (some (offerAt n c)) (some o))
       go true t = better-taken n c o b e t
       go false t = other-left n c o b e t
 

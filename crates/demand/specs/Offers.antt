@@ -19,15 +19,15 @@ pub record Offer : Type 0 where
   pub rank : ℕ
   pub cost : ℕ
 
--- whether an offer of this rank and cost is better than one that is taken: it costs less, or as much and is lower in rank
-unfoldable pub outdoes : (rank cost : ℕ) → Offer → Bool
-outdoes rank cost o = ltb cost (o .cost) || eqb cost (o .cost) && ltb rank (o .rank)
+-- whether an offer of rank r at cost c is better than one of rank s at cost d: it costs less, or as much and is lower in rank
+unfoldable pub outdoes : (r c s d : ℕ) → Bool
+outdoes r c s d = ltb c d || eqb c d && ltb r s
 
 -- the better of what is taken so far and one more, whose number is higher
 abbrev pub withOffer : Option Offer → (number rank : ℕ) → Option ℕ → Option Offer
 withOffer o i r none = o
 withOffer none i r (some c) = some (record { number = i; rank = r; cost = c })
-withOffer (some o) i r (some c) = cond (outdoes r c o) (some (record { number = i; rank = r; cost = c })) (some o)
+withOffer (some o) i r (some c) = cond (outdoes r c (o .rank) (o .cost)) (some (record { number = i; rank = r; cost = c })) (some o)
 
 -- THE CHOICE: every offer is tried in turn
 unfoldable pub choose : (rank : ℕ → ℕ) (f : ℕ → Option ℕ) → ℕ → Option Offer

@@ -36,7 +36,7 @@ use Rattle.page_answers.specs.declared.Answer.{Answer}
 use Rattle.page_answers.specs.declared.Answer.the-variants as A
 use Rattle.page_answers.specs.declared.BandAnswer.{BandAnswer}
 use Rattle.page_answers.specs.declared.BandAnswer.the-variants as B
-use Rattle.page_promises.specs.Writes.{jobAnswer, jobPage, groundWith, answerWith, pageWith, answerOf, pageBy}
+use Rattle.page_promises.specs.Writes.{jobPage, answerOf, pageBy}
 use Rattle.page_promises.specs.Promise.{Promised, done, spent, refused}
 use Rattle.page_promises.specs.Families.{jobOffer, CheapestOf}
 use Rattle.page_promises.specs.Band.{valueBytes, valueJob, InBand, away, valueAt, valueCount, bandChoice, bandAnswerBy, chosenPage}
@@ -55,16 +55,16 @@ value-octets w h = record { below = go }
     go (suc zero) l = omega arith
     go (suc (suc q)) l = absurd (let z : ⊥ = omega arith in z)
 
--- a write in a band without a ground has none as the plain write of any value
-pub value-plain : (code M : ℕ) (before : List ℕ) → valueGround code M (length before) ≡ none → (w : ℕ)
-    → groundWith none house code bandBytes bandStrips before (valueBytes w) ≡ none
-value-plain code M before g w = sym (value-ground code M (length before) (value-band code M (length before) g)) ∙ g
+-- a write in a band without a ground has none as the plain write of a value, whichever it is
+pub value-plain : (code M : ℕ) (before : List ℕ) → valueGround code M (length before) ≡ none
+    → writeGround house code bandBytes bandStrips (length before) 2 ≡ none
+value-plain code M before g = sym (value-ground code M (length before) (value-band code M (length before) g)) ∙ g
 
 -- so that write is in order
 value-in-order : (code M : ℕ) (before : List ℕ) → valueGround code M (length before) ≡ none → (w : ℕ) → w ≤ 65535
     → InOrder (valueJob code before w)
 value-in-order code M before g w h =
-    job-in-order none house code bandBytes bandStrips before (valueBytes w) (value-octets w h) (value-plain code M before g w)
+    job-in-order none house code bandBytes bandStrips before (valueBytes w) (value-octets w h) (value-plain code M before g)
 
 module _ (start : ℕ → ℕ) (code : ℕ) (before : List ℕ) (v M : ℕ) (fits : v ≤ 65535) where
   -- THE VALUES TRIED are those of the band
@@ -234,7 +234,7 @@ module _ (start : ℕ → ℕ) (code : ℕ) (before : List ℕ) (v M : ℕ) wher
       go none q none e = refl
       go none q (some o) e =
           let w = valueAt v M (o .number) in
-          let z = in-order-job start none house code bandBytes bandStrips before (valueBytes w) (value-plain code M before q w) refl refl in
+          let z = in-order-job start none house code bandBytes bandStrips before (valueBytes w) (value-plain code M before q) refl refl in
           let c = chosen (λ i. away v (valueAt v M i)) (λ i. jobOffer (valueJob code before (valueAt v M i))) (valueCount v M) e .its-cost in
           (sym (z .0) ∙ offered-done _ c, z .1)
 

@@ -1,0 +1,2 @@
+-- What a pick stands for.
+pub mod Picks
