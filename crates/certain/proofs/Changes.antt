@@ -38,8 +38,8 @@ use Rattle.refusals.specs.Refusals.{numbered}
 use Rattle.page_promises.specs.Writes.{markedBy, pageWith, answerOf, pageOf}
 use Rattle.page_promises.specs.Promise.{WroteBy, done, spent, refused}
 use Rattle.page_promises.proofs.Promise.{numbered-both, wrote-by, one-ground}
-use Rattle.page_ledger.specs.Ledger.{cellsOn, Event, Fair, fair-raise, fair-erase, fair-look, pageAfter, Call, write, list, erase, look}
-use Rattle.page_ledger.specs.Ledger.{Marking, writes, lists, erases, looks, eventOf, played, tally}
+use Rattle.page_ledger.specs.Ledger.{cellsOn, Event, Fair, fair-raise, fair-erase, fair-look, pageAfter, Call, write, list, band, erase, look}
+use Rattle.page_ledger.specs.Ledger.{Marking, writes, lists, bands, erases, looks, eventOf, played, tally}
 use Rattle.page_known.specs.Known.{Says, erased, early, changingRun}
 use Rattle.page_ledger.proofs.Ledger.{call-fair, call-stays}
 use Rattle.page_ledger.proofs.Singles.{played-last}
@@ -69,6 +69,7 @@ first-data G K v =
 ownMarks : Call → ℕ → Bool
 ownMarks (write map W code L S content b) = markedBy map
 ownMarks (list map W code L S count content b) = markedBy map
+ownMarks (band code v M b) = markedBy none
 ownMarks (erase map L S tenths) = markedBy map
 ownMarks look = unmarked
 
@@ -76,6 +77,7 @@ own-marking : (n : ℕ) (c : Call) → Marking n (ownMarks c) c
 unfolding ownMarks
 own-marking n (write map W code L S content b) = writes (λ c h. refl)
 own-marking n (list map W code L S count content b) = lists (λ c h. refl)
+own-marking n (band code v M b) = bands (λ c h. refl)
 own-marking n (erase map L S tenths) = erases (λ c h. refl)
 own-marking n look = looks
 

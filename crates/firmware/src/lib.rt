@@ -13,9 +13,11 @@ ghost use Rattle.cells.specs.Raising.{startOf};
 ghost use Rattle.cells.specs.Climbs.{house};
 ghost use Rattle.demand.specs.Reading.{readPage};
 ghost use Rattle.refusals.specs.Refusals.{shapeGround, eraseGround, erasingGround, first-of, ground, numbered, completionOf, kept};
+ghost use Rattle.page_answers.specs.Answers.{plainAnswer};
 ghost use Rattle.page_promises.specs.Writes.{answerWith, pageWith, answerOf, pageOf, largestCost, largestWeightedCost};
 ghost use Rattle.page_promises.specs.Promise.{WroteWith, Wrote};
 ghost use Rattle.page_promises.specs.Lists.{listAnswer, listPage, WroteList};
+ghost use Rattle.page_promises.specs.Band.{bandAnswer, bandPage, WroteBand, largestBandCost};
 ghost use Rattle.words.specs.Words.{answerWord, completionWord, listWord, Fields};
 
 // Fills a buffer of L·S bytes with what the page reads as.
@@ -227,6 +229,19 @@ pub extern "C" fn segrunov_write_list_mapped(
         data,
     );
     list_word(answer)
+}
+
+// Writes the cheapest value that is at most the band away from the one given, of equals the nearest, then the lower.
+#[no_mangle]
+pub extern "C" fn segrunov_write_band(code: u32, page: &mut [u8], value: u16, band: u32) -> u64
+    ensures { λ r. ⌜ r ≡ answerWord (plainAnswer (bandAnswer code (now (page .entry)) value band)) ⌝ }
+    ensures { λ _. ⌜ now (page .exit) ≡ bandPage code (now (page .entry)) value band ⌝ }
+    ensures { λ _. ⌜ WroteBand code (now (page .entry)) value band (now (page .exit))
+        (bandAnswer code (now (page .entry)) value band) ⌝ }
+    ensures { λ r. ⌜ r % 4294967296 ≤ largestBandCost ⌝ }
+{
+    let answer = page::writing::write_band(code, page, value, band);
+    answer_word(page::answers::plain(answer))
 }
 
 // Makes every byte of the page 0 at a temperature from 50 to 400 tenths of a degree.

@@ -8,6 +8,7 @@ pub mod shape;
 pub mod writing;
 
 pub use page_answers::Answer;
+pub use page_answers::BandAnswer;
 pub use page_answers::End;
 pub use page_answers::ListAnswer;
 pub use page_answers::Total;

@@ -22,7 +22,6 @@ use Rattle.codes.specs.Layouts.{oneBit}
 use Rattle.search.specs.Strip.{Dear, stepsOf}
 use Rattle.search.specs.Layouts.{unmarked}
 use Rattle.demand.specs.Offers.{Offer, withOffer, choose}
-use Rattle.demand.proofs.Offers.{chosen}
 use Rattle.refusals.specs.Refusals.{bandBytes, bandStrips, numbered}
 use Rattle.refusals.proofs.Refusals.{weighted-in-order}
 use Rattle.page_parts.specs.Shape.{Sized}
@@ -33,6 +32,7 @@ use Rattle.page_answers.specs.declared.Answer.{Answer}
 use Rattle.page_promises.specs.Families.{jobOffer}
 use Rattle.page_promises.specs.Band.{valueBytes, valueJob, away, lowestValue, valueAt, valueCount, bandChoice}
 use Rattle.page_promises.proofs.Promise.{dear-by}
+use Rattle.page_promises.proofs.Band.{tried-fits, chosen-fits}
 
 module _ (code : ℕ) (page : List ℕ) (w : ℕ) {W content : List ℕ} (weights : W ≡ house) (bytes : content ≡ valueBytes w) where
   -- the page, the weights and the data that are lent are in order
@@ -58,7 +58,7 @@ tried code page v M n = choose (λ i. away v (valueAt v M i)) (λ i. jobOffer (v
 
 -- the value of a turn is at most 65,535
 pub turn-fits : (v M : ℕ) {low count k : ℕ} → v ≤ 65535 → low ≡ lowestValue v M → count ≡ valueCount v M → k < count → low + k ≤ 65535
-turn-fits v M f l n h = omega (arith, l, n, f)
+turn-fits v M {k = k} f l n h = rw l (tried-fits v M f k (rw n at h))
 
 -- one more value, by its distance and what it is priced at
 pub turn-tried : (code : ℕ) (page : List ℕ) (v M k : ℕ) {w distance : ℕ} {price : Answer} {so-far after : Option Offer} → w ≡ valueAt v M k
@@ -78,7 +78,4 @@ all-tried code page v M {count} {k} n a b = let z : k ≡ count = omega arith in
 -- the value chosen is at most 65,535 too
 pub place-fits : (code : ℕ) (page : List ℕ) (v M : ℕ) {low : ℕ} {o : Offer} → v ≤ 65535 → low ≡ lowestValue v M
     → bandChoice code page v M ≡ some o → low + o .number ≤ 65535
-unfolding bandChoice
-place-fits code page v M f l e =
-    let i = chosen (λ i. away v (valueAt v M i)) (λ i. jobOffer (valueJob code page (valueAt v M i))) (valueCount v M) e .inside in
-    turn-fits v M f l refl i
+place-fits code page v M f l e = rw l (chosen-fits code page v M f e)

@@ -7,6 +7,7 @@
 --   fair-onward, raises-onward    a raise and another are a raise, of as many steps as both
 --   write-fair                    a write lowers no cell, whatever its answer
 --   list-keeps                    what each single write of a list keeps it keeps
+--   band-fair, band-stays         and what the plain writes of its values keep a write in a band keeps
 --   call-fair, call-stays         every call under the marks is a fair event, after which the marked cells are at their level
 --   ledger-from                   any sequence of calls under the marks
 --   ledger-marked                 from a page whose unmarked cells are at level 0
@@ -22,6 +23,7 @@ use Rattle.cells.specs.Places.{sumOf, Each, and-each}
 use Rattle.cells.specs.Bytes.{Octets}
 use Rattle.cells.specs.Levels.{level, raisesOf}
 use Rattle.cells.specs.Marks.{emptied}
+use Rattle.cells.specs.Climbs.{house}
 use Rattle.cells.proofs.Places.{sumOf-same, sumOf-add, sumOf-zero}
 use Rattle.cells.proofs.Marks.{zeros-bit, emptied-length, emptied-kept, emptied-raises}
 use Rattle.search.specs.Layouts.{unmarked}
@@ -29,16 +31,18 @@ use Rattle.demand.specs.Jobs.{pageCells}
 use Rattle.demand.proofs.Jobs.{part-octets}
 use Rattle.demand.proofs.Demand.{page-cell}
 use Rattle.page_promises.specs.Writes.{markedBy, groundWith, jobWith, pageWith}
-use Rattle.refusals.specs.Refusals.{kept}
+use Rattle.refusals.specs.Refusals.{bandBytes, bandStrips, kept}
 use Rattle.page_promises.specs.Promise.{Promised, done, spent, refused}
 use Rattle.page_promises.specs.Lists.{dataOf, unlessRefused, groundOf, listCourse, listWith}
 use Rattle.page_ledger.specs.Ledger.{cellsOn, raisesMade, Event, raised, erased, looked, Fair, fair-raise, fair-erase, fair-look}
-use Rattle.page_ledger.specs.Ledger.{pageAfter, counted, Call, Marking, writes, lists, erases, looks, erasing, markedLevels}
-use Rattle.page_ledger.specs.Ledger.{eventOf, played, tally, tallied}
+use Rattle.page_ledger.specs.Ledger.{pageAfter, counted, Call, Marking, writes, lists, bands, erases, looks, erasing}
+use Rattle.page_ledger.specs.Ledger.{markedLevels, eventOf, played, tally, tallied}
 use Rattle.refusals.specs.declared.Refusal.{Refusal}
 use Rattle.page_answers.specs.declared.Answer.{Answer}
 use Rattle.page_promises.proofs.Promise.{job-in-order, wrote-by}
 use Rattle.page_promises.proofs.Lists.{course-keeps}
+use Rattle.page_promises.specs.Band.{valueBytes, bandPageBy}
+use Rattle.page_promises.proofs.Band.{value-octets, band-keeps}
 
 -- ERASED PAGES. Every level is 0
 pub erased-level : (n c : ℕ) → level (replicate n 0) c ≡ 0
@@ -163,6 +167,23 @@ module _ (start : ℕ → ℕ) (map : Option (List ℕ)) (W : List ℕ) (code L 
       (λ p one o s. stays-onward s (write-stays map W code L S p one o (wrote-by start map W code L S p one o)))
       (record { size = refl; same = λ c h m. refl })
 
+-- A WRITE IN A BAND lowers no cell and keeps the page's length
+module _ (start : ℕ → ℕ) (code : ℕ) (before : List ℕ) (v M : ℕ) (b : v ≤ 65535) where
+  band-fair : (base : ℕ) → Fair base before (raised (bandPageBy code before v M start))
+  band-fair base =
+      band-keeps start code before v M b (λ p. Fair base before (raised p))
+      (λ w h. write-fair none house code bandBytes bandStrips before (valueBytes w) (value-octets w h) base
+      (wrote-by start none house code bandBytes bandStrips before (valueBytes w) (value-octets w h)))
+      (fair-raise refl (λ c h. omega arith))
+
+  -- and leaves the cells at their level that are marked, which are none
+  band-stays : Stays (markedBy none) before (bandPageBy code before v M start)
+  band-stays =
+      band-keeps start code before v M b (Stays (markedBy none) before)
+      (λ w h. write-stays none house code bandBytes bandStrips before (valueBytes w) (value-octets w h)
+      (wrote-by start none house code bandBytes bandStrips before (valueBytes w) (value-octets w h)))
+      (record { size = refl; same = λ c h m. refl })
+
 -- so every call under the marks is a fair event
 pub call-fair : (start : ℕ → ℕ) (marks : ℕ → Bool) (page : List ℕ) {c : Call} → Marking (cellsOn page) marks c
     → Fair (markedLevels marks page) page (eventOf start c page)
@@ -171,6 +192,7 @@ call-fair start marks page (writes {map} {W} {code} {L} {S} {content} {b} m) =
     write-fair map W code L S page content b (markedLevels marks page) (wrote-by start map W code L S page content b)
 call-fair start marks page (lists {map} {W} {code} {L} {S} {count} {content} {b} m) =
     list-fair start map W code L S count page content b (markedLevels marks page)
+call-fair start marks page (bands {code} {v} {M} {b} m) = band-fair start code page v M b (markedLevels marks page)
 call-fair start marks page (erases {map} {L} {S} {tenths} m) = go (erasing map L S tenths page)
   where
     go : (g : Option Refusal) → Fair (markedLevels marks page) page (kept g (erased (emptied (markedBy map) page)) looked)
@@ -191,6 +213,7 @@ call-stays start marks page (writes {map} {W} {code} {L} {S} {content} {b} m) =
     stays-by m (write-stays map W code L S page content b (wrote-by start map W code L S page content b))
 call-stays start marks page (lists {map} {W} {code} {L} {S} {count} {content} {b} m) =
     stays-by m (list-stays start map W code L S count page content b)
+call-stays start marks page (bands {code} {v} {M} {b} m) = stays-by m (band-stays start code page v M b)
 call-stays start marks page (erases {map} {L} {S} {tenths} m) = go (erasing map L S tenths page)
   where
     go : (g : Option Refusal) → Stays marks page (pageAfter (kept g (erased (emptied (markedBy map) page)) looked) page)

@@ -3,6 +3,7 @@
 --   promised-alike        two calls that keep their promise, each in its own order, on pages with the same levels
 --   write-alike           two writes
 --   list-alike            two lists
+--   band-alike            two writes in a band
 --   older-write           a write of the releases before K7 and one of this release
 --   census-alike          the census
 --   releases-alike        any sequence of calls, by any releases
@@ -13,7 +14,7 @@ use mathlib.Core.Path.{_≡_, refl, sym, _∙_, ap, ap₂, fun-ext}
 use mathlib.Core.Bool.{cond}
 use mathlib.Core.List.{List, [], _∷_, _++_}
 use mathlib.Core.Option.{Option, none, some}
-use Prim.Native.Nat.{ℕ, suc, _+_, _*_}
+use Prim.Native.Nat.{ℕ, suc, _+_, _*_, _≤_}
 use native.Mathlib.Omega.{arith}
 use lib.Dec.{ltb}
 use lib.ListN.{length}
@@ -34,23 +35,30 @@ use Rattle.demand.specs.Jobs.{Job, width, InOrder}
 use Rattle.demand.specs.Reading.{stripLevels, readPage}
 use Rattle.demand.proofs.Jobs.{part-octets}
 use Rattle.demand.proofs.Weights.{spent-once}
+use Rattle.demand.specs.Offers.{Offer}
+use Rattle.demand.proofs.Offers.{same-choice}
 use Rattle.demand.proofs.Orders.{read-levels, onPage, could-levels, cheapest-levels, spent-levels}
-use Rattle.refusals.specs.Refusals.{shapeGround, completionOf, kept}
-use Rattle.page_promises.specs.Writes.{markedBy, groundWith, jobWith, answerWith, pageWith, answerOf, pageBy, pageOf}
+use Rattle.refusals.specs.Refusals.{bandBytes, bandStrips, valueGround, shapeGround, completionOf, kept}
+use Rattle.page_promises.specs.Writes.{jobPage, markedBy, groundWith, jobWith, answerWith, pageWith, answerOf, pageBy, pageOf}
 use Rattle.page_promises.specs.Promise.{Promised, done, spent, refused}
 use Rattle.page_counting.specs.Counting.{rowOf, zeroRow, rowAt, rowsOf, censusOf}
 use Rattle.page_promises.specs.Lists.{dataOf, Course, unlessRefused, groundOf, listWith, listCourse}
-use Rattle.page_ledger.specs.Ledger.{erased, looked, pageAfter, Call, write, list, erase, look, to-write, to-list, erasing}
-use Rattle.page_ledger.specs.Ledger.{eventOf, answerTo, played, answered}
+use Rattle.page_ledger.specs.Ledger.{erased, looked, pageAfter, Call, write, list, band, erase, look, to-write, to-list}
+use Rattle.page_ledger.specs.Ledger.{to-band, erasing, eventOf, answerTo, played, answered}
 use Rattle.refusals.specs.declared.Refusal.{Refusal}
 use Rattle.page_counting.specs.declared.Row.{Row}
 use Rattle.page_answers.specs.declared.Answer.{Answer}
 use Rattle.page_answers.specs.declared.Answer.the-variants as A
+use Rattle.page_answers.specs.Answers.{offered}
 use Rattle.page_answers.specs.declared.ListAnswer.{ListAnswer}
+use Rattle.page_answers.specs.declared.BandAnswer.{BandAnswer}
 use Rattle.page_known.specs.Known.{six}
 use Rattle.page_known.proofs.Known.{cases-hold}
-use Rattle.page_promises.proofs.Promise.{job-in-order, wrote-by, one-ground}
+use Rattle.page_promises.proofs.Promise.{job-in-order, in-order-job, wrote-by, one-ground}
 use Rattle.page_promises.proofs.Lists.{course-alike}
+use Rattle.page_promises.specs.Families.{jobOffer}
+use Rattle.page_promises.specs.Band.{valueBytes, valueJob, valueAt, valueCount, bandChoice, bandAnswerBy, chosenPage, bandAnswer, bandPageBy}
+use Rattle.page_promises.proofs.Band.{value-octets, value-plain, tried-fits, chosen-fits}
 
 -- ONE CALL. On pages with the same levels two calls that keep their promise, each in its own order, answer alike and leave the same levels
 module _ (g : Option Refusal) (J : Job) {p q : List ℕ} (s : SameLevels p q) (I : g ≡ none → InOrder (onPage p J)) where
@@ -96,6 +104,44 @@ list-alike start start′ map W code L S count {p} {q} content b s = rw (s .size
         s count (omega arith)
     go (some r) = (refl, s)
 
+-- TWO WRITES IN A BAND. The plain writes of a value, where these have no ground
+value-alike : (start start′ : ℕ → ℕ) (code M : ℕ) {p q : List ℕ} (w : ℕ) → w ≤ 65535 → SameLevels p q
+    → valueGround code M (length p) ≡ none
+    → (jobOffer (valueJob code p w) ≡ jobOffer (valueJob code q w))
+    × SameLevels (jobPage none (valueJob code p w) start) (jobPage none (valueJob code q w) start′)
+value-alike start start′ code M {p} {q} w h s g =
+    let z = write-alike start start′ none house code bandBytes bandStrips (valueBytes w) (value-octets w h) s in
+    let x = in-order-job start none house code bandBytes bandStrips p (valueBytes w) (value-plain code M p g) refl refl in
+    let y = in-order-job start′ none house code bandBytes bandStrips q (valueBytes w)
+    (value-plain code M q (rw (s .size) at g)) refl refl in
+    (ap offered (x .0 ∙ z .0 ∙ sym (y .0)), rw (x .1, y .1) (z .1))
+
+-- so the choice is the same
+choice-alike : (code v M : ℕ) {p q : List ℕ} → v ≤ 65535 → SameLevels p q → valueGround code M (length p) ≡ none
+    → bandChoice code q v M ≡ bandChoice code p v M
+unfolding bandChoice
+choice-alike code v M f s g =
+    same-choice _ _ _ (valueCount v M) (λ i h. sym (value-alike startOf startOf code M (valueAt v M i) (tried-fits v M f i h) s g .0))
+
+-- and so are the answers and the levels
+pub band-alike : (start start′ : ℕ → ℕ) (code v M : ℕ) {p q : List ℕ} → v ≤ 65535 → SameLevels p q
+    → (bandAnswer code p v M ≡ bandAnswer code q v M) × SameLevels (bandPageBy code p v M start) (bandPageBy code q v M start′)
+unfolding bandAnswer bandPageBy
+band-alike start start′ code v M {p} {q} f s =
+    rw (sym (s .size)) (go (valueGround code M (length p)) refl (bandChoice code p v M) refl)
+  where
+    same : valueGround code M (length p) ≡ none → bandChoice code q v M ≡ bandChoice code p v M
+    same = choice-alike code v M f s
+
+    go : (g : Option Refusal) → valueGround code M (length p) ≡ g → (o : Option Offer) → bandChoice code p v M ≡ o
+        → (bandAnswerBy code p v M g o ≡ bandAnswerBy code q v M g (bandChoice code q v M))
+        × SameLevels (chosenPage code p v M g o start) (chosenPage code q v M g (bandChoice code q v M) start′)
+    go (some r) e o c = (refl, s)
+    go none e none c = rw (same e ∙ c) (refl, s)
+    go none e (some o) c =
+        rw (same e ∙ c)
+        (refl, value-alike start start′ code M (valueAt v M (o .number)) (chosen-fits code p v M f c) s e .1)
+
 -- A WRITE OF THE RELEASES BEFORE K7, which raise from bit 0 on, and one of this release
 pub older-write : (W : List ℕ) (code L S : ℕ) {p q : List ℕ} (content : List ℕ) → Octets content → SameLevels p q
     → (answerOf W code L S p content ≡ answerOf W code L S q content)
@@ -127,6 +173,9 @@ call-alike start start′ (write map W code L S content b) s =
 call-alike start start′ (list map W code L S count content b) s =
     let z = list-alike start start′ map W code L S count content b s in
     (ap (λ (a : ListAnswer). to-list a ∷ []) (z .0), z .1)
+call-alike start start′ (band code v M b) s =
+    let z = band-alike start start′ code v M b s in
+    (ap (λ (a : BandAnswer). to-band a ∷ []) (z .0), z .1)
 call-alike start start′ (erase map L S tenths) {p} {q} s = (refl, rw (s .size) (go (erasing map L S tenths q)))
   where
     go : (g : Option Refusal) → SameLevels (pageAfter (kept g (erased (emptied (markedBy map) p)) looked) p)

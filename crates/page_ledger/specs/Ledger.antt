@@ -6,7 +6,7 @@
 --   Call, eventOf        a call on the page, and what it does
 --   Marking              a call under these marks
 --   markedLevels         the sum of the levels of the marked cells
---   Reply, answerTo      what a write answers, or a list
+--   Reply, answerTo      what a write answers, in a band or not, or a list
 --   played               the page after a sequence of calls
 --   tally, tallied       a count after it, and that of the raises
 --   answered             what its writes and lists answer
@@ -14,7 +14,7 @@
 use mathlib.Core.Path.{_≡_}
 use mathlib.Core.Bool.{Bool, cond}
 use mathlib.Core.List.{List, [], _∷_, _++_}
-use mathlib.Core.Option.{Option}
+use mathlib.Core.Option.{Option, none}
 use Prim.Native.Nat.{ℕ, suc, _+_, _*_, _-_, _/_, _<_, _≤_}
 use lib.IntN.{ℤ}
 use lib.ListN.{length}
@@ -25,9 +25,11 @@ use Rattle.cells.specs.Marks.{emptied}
 use Rattle.refusals.specs.Refusals.{erasingGround, kept}
 use Rattle.page_promises.specs.Writes.{markedBy, mapSize, answerWith, pageWith}
 use Rattle.page_promises.specs.Lists.{dataOf, listWith}
+use Rattle.page_promises.specs.Band.{bandAnswer, bandPageBy}
 use Rattle.refusals.specs.declared.Refusal.{Refusal}
 use Rattle.page_answers.specs.declared.Answer.{Answer}
 use Rattle.page_answers.specs.declared.ListAnswer.{ListAnswer}
+use Rattle.page_answers.specs.declared.BandAnswer.{BandAnswer}
 
 -- every cell of a page of so many bytes
 unfoldable pub cellsOn : List ℕ → ℕ
@@ -64,19 +66,22 @@ counted (erased after) page n = 0
 counted looked page n = n
 
 -- 'any sequence of calls on that page alone', with any weights, each with a map or without one: the data of a write is bytes, and so are
--- the datas of a list; read, price and census change nothing
+-- the datas of a list; the value of a write in a band has 16 bits; read, price and census change nothing
 pub data Call : Type 0 where
   write : (map : Option (List ℕ)) (W : List ℕ) (code L S : ℕ) (content : List ℕ) → Octets content → Call
   list : (map : Option (List ℕ)) (W : List ℕ) (code L S count : ℕ) (content : List ℕ) → Octets content → Call
+  band : (code v M : ℕ) → v ≤ 65535 → Call
   erase : (map : Option (List ℕ)) (L S : ℕ) (tenths : ℤ) → Call
   look : Call
 
--- the cells of a page of n of them that a call's map marks are these; 'read and census' take no map
+-- the cells of a page of n of them that a call's map marks are these; a write in a band has 'no marked cells'; 'read and census' take no
+-- map
 pub data Marking (n : ℕ) (marks : ℕ → Bool) : Call → Type 0 where
   writes : {map : Option (List ℕ)} {W : List ℕ} {code L S : ℕ} {content : List ℕ} {b : Octets content}
       → ((c : ℕ) → c < n → markedBy map c ≡ marks c) → Marking n marks (write map W code L S content b)
   lists : {map : Option (List ℕ)} {W : List ℕ} {code L S count : ℕ} {content : List ℕ} {b : Octets content}
       → ((c : ℕ) → c < n → markedBy map c ≡ marks c) → Marking n marks (list map W code L S count content b)
+  bands : {code v M : ℕ} {b : v ≤ 65535} → ((c : ℕ) → c < n → markedBy none c ≡ marks c) → Marking n marks (band code v M b)
   erases : {map : Option (List ℕ)} {L S : ℕ} {tenths : ℤ} → ((c : ℕ) → c < n → markedBy map c ≡ marks c)
       → Marking n marks (erase map L S tenths)
   looks : Marking n marks look
@@ -89,23 +94,26 @@ erasing map L S tenths page = erasingGround (mapSize map) L S (length page) tent
 unfoldable pub markedLevels : (ℕ → Bool) → List ℕ → ℕ
 markedLevels marks page = sumOf (cellsOn page) (λ c. cond (marks c) (level page c) 0)
 
--- what a call does to the page: a refused write leaves it, and so makes no raise; nor does a refused list. Its raises start where the
--- release that makes it says
+-- what a call does to the page: a refused write leaves it, and so makes no raise, in a band or not; nor does a refused list. Its raises
+-- start where the release that makes it says
 unfoldable pub eventOf : (start : ℕ → ℕ) → Call → List ℕ → Event
 eventOf start (write map W code L S content b) page = raised (pageWith map W code L S page content start)
 eventOf start (list map W code L S count content b) page = raised (listWith map W code L S count page content start .page)
+eventOf start (band code v M b) page = raised (bandPageBy code page v M start)
 eventOf start (erase map L S tenths) page = kept (erasing map L S tenths page) (erased (emptied (markedBy map) page)) looked
 eventOf start look page = looked
 
--- the answer of a write, or of a list
+-- the answer of a write, of a list, or of a write in a band
 pub data Reply : Type 0 where
   to-write : Answer → Reply
   to-list : ListAnswer → Reply
+  to-band : BandAnswer → Reply
 
--- what a call answers, if it is a write or a list
+-- what a call answers, if it is one of these
 abbrev pub answerTo : (start : ℕ → ℕ) → Call → List ℕ → List Reply
 answerTo start (write map W code L S content b) page = to-write (answerWith map W code L S page content) ∷ []
 answerTo start (list map W code L S count content b) page = to-list (listWith map W code L S count page content start .answer) ∷ []
+answerTo start (band code v M b) page = to-band (bandAnswer code page v M) ∷ []
 answerTo start (erase map L S tenths) page = []
 answerTo start look page = []
 

@@ -1,9 +1,10 @@
 -- THE LAWS OF A WRITE IN A BAND.
 --   value-octets, value-plain   the data of a value is bytes; without a ground its plain write has none
+--   tried-fits, chosen-fits     the values tried, and the one chosen, have 16 bits
 --   band-kept, band-wrote       the computed answer and page keep the promise, on every input; those of this release
 --   band-spent                  spent exactly when no page could be for any value of the band
 --   band-read                   the value read back is the one stored, and within M of the one given
---   band-as-write               what is stored is stored as by its plain write, answer and page
+--   band-as-write, band-keeps   what is stored is stored as by its plain write, answer and page; so what these keep it keeps
 --   band-zero                   with M = 0 it is the plain write of the value given
 --   wider                       a wider band never costs more, and is never spent where a narrower one is not
 --   band-largest                it costs at most 896
@@ -60,6 +61,18 @@ pub value-plain : (code M : ℕ) (before : List ℕ) → valueGround code M (len
     → writeGround house code bandBytes bandStrips (length before) 2 ≡ none
 value-plain code M before g = sym (value-ground code M (length before) (value-band code M (length before) g)) ∙ g
 
+-- THE VALUES TRIED are at most 65,535
+pub tried-fits : (v M : ℕ) → v ≤ 65535 → (i : ℕ) → i < valueCount v M → valueAt v M i ≤ 65535
+tried-fits v M f i h = omega arith
+
+-- and so is the one chosen
+pub chosen-fits : (code : ℕ) (before : List ℕ) (v M : ℕ) → v ≤ 65535 → {o : Offer} → bandChoice code before v M ≡ some o
+    → valueAt v M (o .number) ≤ 65535
+unfolding bandChoice
+chosen-fits code before v M f e =
+    tried-fits v M f _
+    (chosen (λ i. away v (valueAt v M i)) (λ i. jobOffer (valueJob code before (valueAt v M i))) (valueCount v M) e .inside)
+
 -- so that write is in order
 value-in-order : (code M : ℕ) (before : List ℕ) → valueGround code M (length before) ≡ none → (w : ℕ) → w ≤ 65535
     → InOrder (valueJob code before w)
@@ -67,9 +80,9 @@ value-in-order code M before g w h =
     job-in-order none house code bandBytes bandStrips before (valueBytes w) (value-octets w h) (value-plain code M before g)
 
 module _ (start : ℕ → ℕ) (code : ℕ) (before : List ℕ) (v M : ℕ) (fits : v ≤ 65535) where
-  -- THE VALUES TRIED are those of the band
+  -- they are those of the band
   tried-in : (i : ℕ) → i < valueCount v M → InBand v M (valueAt v M i)
-  tried-in i h = record { low = omega arith; high = omega arith; fits = omega arith }
+  tried-in i h = record { low = omega arith; high = omega arith; fits = tried-fits v M fits i h }
 
   in-tried : (w : ℕ) → InBand v M w → (w - (v - M) < valueCount v M) × (valueAt v M (w - (v - M)) ≡ w)
   in-tried w b = (omega (arith, b .low, b .high, b .fits), omega (arith, b .low, b .high, b .fits))
@@ -237,6 +250,20 @@ module _ (start : ℕ → ℕ) (code : ℕ) (before : List ℕ) (v M : ℕ) wher
           let z = in-order-job start none house code bandBytes bandStrips before (valueBytes w) (value-plain code M before q) refl refl in
           let c = chosen (λ i. away v (valueAt v M i)) (λ i. jobOffer (valueJob code before (valueAt v M i))) (valueCount v M) e .its-cost in
           (sym (z .0) ∙ offered-done _ c, z .1)
+
+-- so what every plain write of a value keeps it keeps, whatever its answer
+pub band-keeps : (start : ℕ → ℕ) (code : ℕ) (before : List ℕ) (v M : ℕ) → v ≤ 65535 → (P : List ℕ → Type 0)
+    → ((w : ℕ) → w ≤ 65535 → P (pageBy house code bandBytes bandStrips before (valueBytes w) start)) → P before
+    → P (bandPageBy code before v M start)
+band-keeps start code before v M fits P each stays =
+    go (bandAnswer code before v M) (band-kept start code before v M fits) (band-as-write start code before v M)
+  where
+    go : (r : BandAnswer)
+        → BandPromised start (valueGround code M (length before)) code before v M (bandPageBy code before v M start) r
+        → AsWrite start code before v M r (bandPageBy code before v M start) → P (bandPageBy code before v M start)
+    go r (stored {w = w} g p) a = subst P (sym (a .1)) (each w (p .near .fits))
+    go r (all-spent g n k) a = subst P (sym k) stays
+    go r (not-begun g k) a = subst P (sym k) stays
 
 -- WITH M = 0 IT IS THE PLAIN WRITE of the value given: answer and page. The one value of the band is the one given
 only-value : {v w : ℕ} → InBand v 0 w → w ≡ v

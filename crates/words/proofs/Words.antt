@@ -1,6 +1,6 @@
 -- The one number that an answer is to C.
 --   lower-half    its lower half is the answer's value, so a bound of the one is a bound of the other
---   number-most   no answer of a list has a number above 11
+--   number-most   the number of an answer fits in its field of 8 bits
 --   list-fields   no field of a list's number runs into the next one
 use mathlib.Core.Path.{_≡_}
 use Prim.Native.Nat.{ℕ, _%_, _≤_}
@@ -21,9 +21,10 @@ pub lower-half : (a : Answer) {r most : ℕ} → valueOf a ≤ most → r ≡ an
 unfolding answerWord
 lower-half a h e = omega arith
 
--- no refusal has a number above 11
-refusal-most : (r : Refusal) → refusalNumber r ≤ 11
+-- the number of a refusal fits in a field of 8 bits
+refusal-most : (r : Refusal) → refusalNumber r ≤ 255
 refusal-most R.CodeUnknown = omega arith
+refusal-most R.BandOutside = omega arith
 refusal-most R.BytesOutside = omega arith
 refusal-most R.StripsOutside = omega arith
 refusal-most R.WeightZero = omega arith
@@ -33,8 +34,8 @@ refusal-most R.MapLength = omega arith
 refusal-most R.DataLength = omega arith
 refusal-most R.EraseTemperature = omega arith
 
--- nor has the end of a list
-pub number-most : (end : End) → endNumber end ≤ 11
+-- and so does that of a list's end
+pub number-most : (end : End) → endNumber end ≤ 255
 number-most E.Done = omega arith
 number-most (E.Spent strip) = omega arith
 number-most (E.Refused r) = refusal-most r

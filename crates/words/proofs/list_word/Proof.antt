@@ -9,7 +9,7 @@ use Rattle.words.proofs.list_word.Statement.{statement}
 use Rattle.words.proofs.list_word.Tie as tie
 
 -- the word so far, below the strip's field
-low : (c : tie.After-packed) → c .packed .result ≤ 12 * 4294967296
+low : (c : tie.After-packed) → c .packed .result ≤ 256 * 4294967296
 low c =
     let s = c .before .before .before in
     omega (arith, c .packed .ensures, c .before .end-number .ensures, number-most (s .args .answer .end), s .pre .cost-most)
