@@ -3,7 +3,8 @@
 them, where the bytes that a page or its map has for each byte of data are others than in the code, where what a certain
 write costs at most is another product, where the fields of an answer are not those of the definitions, where a call is
 declared otherwise than crates/firmware exports it, where the header or README.md has the grounds of a call, or the order
-in which they are tested, otherwise than the definitions, and where tests/measure.c lacks a call that the header declares.
+in which they are tested, otherwise than the definitions, where the enum of the refusals has another order, and where
+tests/measure.c lacks a call that the header declares.
 
 The stack is no number of the definitions: tests/measure.c holds it against the calls.
 """
@@ -17,8 +18,10 @@ REFUSALS = "crates/refusals/specs/Refusals.antt"
 ANSWERS = "crates/page_answers/specs/Answers.antt"
 WRITES = "crates/page_promises/specs/Writes.antt"
 LISTS = "crates/page_promises/specs/Lists.antt"
+BAND = "crates/page_promises/specs/Band.antt"
 WORDS = "crates/words/specs/Words.antt"
 CODES = "crates/codes/src/lib.rt"
+ENUM = "crates/refusals/src/lib.rt"
 CERTAIN = "crates/certain/specs/Certain.antt"
 CHANGES = "crates/certain/specs/Changes.antt"
 
@@ -37,6 +40,7 @@ DEFINED = {
     "WEIGHT": (REFUSALS, "refusalNumber WeightZero = {}"),
     "COUNT": (REFUSALS, "refusalNumber CountOutside = {}"),
     "MAP_LENGTH": (REFUSALS, "refusalNumber MapLength = {}"),
+    "BAND": (REFUSALS, "refusalNumber BandOutside = {}"),
     "HOUSE_W1": (CLIMBS, "house = {} ∷ 20 ∷ 28 ∷ []"),
     "HOUSE_W2": (CLIMBS, "house = 16 ∷ {} ∷ 28 ∷ []"),
     "HOUSE_W3": (CLIMBS, "house = 16 ∷ 20 ∷ {} ∷ []"),
@@ -44,6 +48,10 @@ DEFINED = {
     "MAX_WEIGHTED_COST": (WRITES, "largestWeightedCost = {}"),
     "MAX_LIST": (REFUSALS, "oneTo64 n = leb 1 n && leb n {}"),
     "MAX_LIST_COST": (LISTS, "largestListCost = {}"),
+    "BAND_BYTES": (REFUSALS, "bandBytes = {}"),
+    "BAND_STRIPS": (REFUSALS, "bandStrips = {}"),
+    "MAX_BAND": (REFUSALS, "bandGround M = cond (leb M {}) none (some BandOutside)"),
+    "MAX_BAND_COST": (BAND, "largestBandCost = {}"),
     "PAGE_BYTES": (CODES, "pub const STRIP_BYTES: usize = {};"),
     "MAP_BYTES": (CODES, "pub const MAP_BYTES: usize = {};"),
     "CERTAIN_WRITES": (CERTAIN, "certainWrites = {}"),
@@ -64,19 +72,20 @@ PLACES = [
 ]
 
 # What the types of the calls are to C. A slice is a pointer and a length.
-TYPES = {"u8": "uint8_t", "u32": "uint32_t", "u64": "uint64_t", "i16": "int16_t"}
+TYPES = {"u8": "uint8_t", "u16": "uint16_t", "u32": "uint32_t", "u64": "uint64_t", "i16": "int16_t"}
 SLICES = {"&[u8]": "const uint8_t *", "&mut [u8]": "uint8_t *"}
 
-# The definition that has the grounds of a call, by the verb of its name, and the parameter that each ground is about: 'as far as a call has the
-# item'.
-GROUNDS = {"read": "ground", "price": "listGround", "write": "listGround", "erase": "erasingGround"}
-ITEMS = {1: "code", 2: "bytes", 3: "strips", 9: "w1", 10: "count", 4: "page", 11: "map", 5: "data", 8: "tenths"}
+# The definition that has the grounds of a call, by its name or else by the verb of it, and the parameter that each ground is about: 'as far as a
+# call has the item'.
+GROUNDS = {"read": "ground", "price": "listGround", "write": "listGround", "write_band": "valueGround", "erase": "erasingGround"}
+ITEMS = {1: "code", 12: "band", 2: "bytes", 3: "strips", 9: "w1", 10: "count", 4: "page", 11: "map", 5: "data", 8: "tenths"}
 
 # That of two grounds the one that stands first is tested first, and spent after all from the input.
 IN_TURN = [
     (REFUSALS, "first-of (some r) later = some r"),
     (WRITES, "callAnswer (some r) w k = A.Refused r"),
     (LISTS, "unlessRefused (some r) c before = record { page = before; answer = refusedList r }"),
+    (BAND, "  bandAnswerBy (some r) o = B.Refused r"),
 ]
 
 # Numbers in a sentence.
@@ -85,7 +94,7 @@ NUMBERS = r"(\d+(?: to \d+)?(?:(?:, | and )\d+(?: to \d+)?)*)"
 # The sentences about the order of the tests: of all grounds, and of those from the input.
 ORDERS = [
     ("include/segrunov.h", "The grounds that a call has are tested in the order {all}, and the first that applies is the answer."),
-    ("include/segrunov.h", "1 to 5 and 9 to 11 from the input, tested in the order {input}; 7 and 8 from the state, after those."),
+    ("include/segrunov.h", "1 to 5 and 9 to 12 from the input, tested in the order {input}; 7 and 8 from the state, after those."),
     ("README.md", "the order of the tests ({all})"),
 ]
 
@@ -175,15 +184,28 @@ def tested(definition):
 
 def grounds(function):
     """The numbers of a call's refusals in the order in which they are tested."""
-    verb, items = named(function).split("_")[1], [name for name, _ in function.parameters]
-    return [number for number in tested(GROUNDS[verb]) if ITEMS[number] in items] + ([7] if verb in ("price", "write") else [])
+    name, items = named(function).removeprefix("segrunov_"), [name for name, _ in function.parameters]
+    verb = name.split("_")[0]
+    return [number for number in tested(GROUNDS.get(name, GROUNDS[verb])) if ITEMS[number] in items] + ([7] if verb in ("price", "write") else [])
+
+
+def in_enum():
+    """The numbers of all grounds in the order of the enum, which is said to be that of the tests."""
+    numbers = dict(re.findall(r"^refusalNumber (\w+) = (\d+)$", read(REFUSALS), re.M))
+    members = re.search(r"^pub enum Refusal \{\n(.*?)^\}", read(ENUM), re.M | re.S)[1]
+    return [int(numbers[name]) for name in re.findall(r"\w+", members)]
 
 
 def misordered(exported):
     """What is wrong with the sentences about the order of the tests, and with what each call is said to be refused by, in that order."""
     bad = [f"{path} has no line '{line}'" for path, line in IN_TURN if line not in read(path).splitlines()]
-    given, header = tested("listGround"), prose("include/segrunov.h")
-    orders = {"input": listed(given), "all": listed([*given, 7, *tested("eraseGround")])}
+    whole, state, header = in_enum(), tested("eraseGround"), prose("include/segrunov.h")
+    for definition in GROUNDS.values():
+        order = tested(definition)
+        if [number for number in whole if number in order] != order:
+            bad.append(f"{ENUM}: the order of the enum is not that of {definition}, {listed(order)}")
+    given = [number for number in whole if number not in state]
+    orders = {"input": listed(given), "all": listed([*given, 7, *state])}
     for path, sentence in ORDERS:
         wanted = sentence.format(**orders)
         bad += [] if wanted in prose(path) else [f"{path} does not say '{wanted}'"]

@@ -120,6 +120,27 @@ def show_calls_on(name, code, length, strips, page, data, weights=HOUSE, marks=N
     return page
 
 
+def band_ground(code, page, band):
+    """'12, M above 8, tested after 1 and before 4', of a page with L = 2 and S = 1."""
+    tests = (1, code not in CODES), (12, band > 8), (4, len(page) != 12)
+    return next((number for number, applies in tests if applies), 0)
+
+
+def show_band(name, code, page, given, band):
+    """'It takes the cheapest page over all of these. Between values at the same cost it takes the nearest, then the lower.'"""
+    number, value, stored = band_ground(code, page, band), 0, ""
+    if not number:
+        values = range(max(0, given - band), min(65535, given + band) + 1)
+        writes = [(*write_page(code, 2, 1, page, v.to_bytes(2, "little")), v) for v in values]
+        offers = [(cost, abs(v - given), v, after) for after, spent, cost, v in writes if not spent]
+        if offers:
+            value, _, v, page = min(offers)
+            stored = f" stored {v}"
+        else:
+            number = 7
+    rows.append(f"{name}: answer {number} {value}{stored} page {page.hex()}")
+
+
 def show_list(name, code, length, strips, weights, count, page, data, marks=None):
     number, written, strip, cost = ground(length, strips, page, code, weights, count, marks, data), 0, 0, 0
     if not number:
@@ -260,10 +281,29 @@ def show_mapped_lists():
     show_list("every cell marked", 3, 1, 1, HOUSE, 3, EMPTY, bytes.fromhex("000080"), b"\xff\xff")
 
 
+def show_bands():
+    show_band("a band of 0, code 3", 3, bytes(12), 256, 0)
+    show_band("a band of 8, code 7", 7, bytes(12), 300, 8)
+    show_band("near 0, code 3", 3, bytes(12), 3, 8)
+    show_band("near 65535, code 7", 7, bytes(12), 65533, 8)
+    show_band("the lower of two, code 3", 3, bytes.fromhex("886809110008092280631481"), 1781, 8)
+    show_band("the lower of two, code 7", 7, bytes.fromhex("161041100410871240802800"), 8450, 8)
+    show_band("spent for the exact value, code 3", 3, bytes.fromhex("7f8f07880030000000000000"), 483, 3)
+    show_band("spent for all, code 3", 3, bytes.fromhex("ffffffff1b74000000000000"), 474, 3)
+
+
+def show_refused_bands():
+    show_band("a band of 9", 3, OLD * 2, 300, 9)
+    show_band("a band of 9, a page of 11 bytes", 3, (OLD * 2)[:11], 300, 9)
+    show_band("code 4, a band of 9", 4, OLD * 2, 300, 9)
+    show_band("a page of 11 bytes", 3, (OLD * 2)[:11], 300, 8)
+
+
 def main():
     for show in (
         *(show_readings, show_states, show_raises, show_calls, show_erases, show_counts, show_shapes, show_strips, show_one_strip, show_weights),
-        *(show_zero_weights, show_maps, show_marked, show_lists, show_refused_lists, show_mapped_lists),
+        *(show_zero_weights, show_maps, show_marked, show_lists, show_refused_lists, show_mapped_lists, show_bands),
+        show_refused_bands,
     ):
         show()
     there, bad = read("crates/known/stdout").splitlines(), []

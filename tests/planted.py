@@ -26,6 +26,8 @@ OLD = re.search(r"^old: (.*)$", read(EDIT), re.M)[1]
 FIRMWARE = "crates/firmware/src/lib.rt"
 HEADER = "include/segrunov.h"
 REFUSALS = "crates/refusals/specs/Refusals.antt"
+ENUM = "crates/refusals/src/lib.rt"
+BAND = "crates/page_promises/specs/Band.antt"
 STDOUT = "crates/known/stdout"
 WRITING = "crates/page/src/writing.rt"
 REWRITING = "crates/page_rewriting/src/lib.rt"
@@ -219,6 +221,9 @@ FAULTS = {
         ("SEGRUNOV_MAX_LIST is 63,", change("include/segrunov.h", r"UINT32_C\(64\)", "UINT32_C(63)")),
         ("SEGRUNOV_MAX_LIST_COST is 50135039,", change("include/segrunov.h", "50135040", "50135039")),
         ("SEGRUNOV_MAX_LIST_COST is 50135040,", change("crates/page_promises/specs/Lists.antt", r"^largestListCost = .*", "largestListCost = 1")),
+        ("SEGRUNOV_MAX_BAND is 7,", change("include/segrunov.h", r"(?<=MAX_BAND UINT32_C\()8", "7")),
+        ("SEGRUNOV_MAX_BAND_COST is 896,", change(BAND, r"^largestBandCost = .*", "largestBandCost = 1792")),
+        ("SEGRUNOV_BAND_BYTES is 2,", change(REFUSALS, r"^bandBytes = .*", "bandBytes = 1")),
         ("has no line 'answerWord a = numberOf a * 2 ^ 31 +", change("include/segrunov.h", r">> 32(?= & UINT64_C\(0xff\))", ">> 31")),
         ("has no line 'listWord a = ", change("crates/words/specs/Words.antt", r"(?<=a \.written \* 2 \^ )40", "41")),
         ("has no line 'listWord a = ", change("crates/words/specs/Words.antt", r"(?<=listStrip a \* 2 \^ )48", "47")),
@@ -239,6 +244,7 @@ FAULTS = {
         ("does not declare 'uint64_t segrunov_price(", declared("price", "uint32_t bytes, uint32_t strips", "uint32_t strips, uint32_t bytes")),
         ("does not declare 'uint64_t segrunov_write_list(", declared("write_list", "w1, uint8_t w2, uint8_t w3", "w3, uint8_t w2, uint8_t w1")),
         ("does not declare 'uint64_t segrunov_write_mapped(", declared("write_mapped", "uint64_t map_len", "size_t map_len")),
+        ("does not declare 'uint64_t segrunov_write_band(", declared("write_band", "uint16_t value, uint32_t band", "uint32_t band, uint16_t value")),
         ("does not declare 'uint64_t segrunov_erase(", declared("erase", "int16_t tenths", "uint16_t tenths")),
         ("does not declare 'uint64_t segrunov_read(", declared("read", "const uint8_t *page", "uint8_t *page")),
         ("declares 'uint64_t segrunov_write(", declared("write", "uint8_t *page", "const uint8_t *page")),
@@ -247,7 +253,7 @@ FAULTS = {
         ("does not declare 'uint64_t segrunov_read_planted(", append(FIRMWARE, '\npub extern "C" fn segrunov_read_planted() -> u64 {\n    0\n}\n')),
         ("declares 'extern int segrunov_planted', and no", append(HEADER, "extern int segrunov_planted;\n")),
         ("does not say 'The grounds that a call has are tested in", instead(HEADER, "9, 10, 4, 11, 5, 7, 8", "9, 10, 4, 11, 5, 8, 7")),
-        ("does not say '1 to 5 and 9 to 11 from the input", instead(HEADER, "9, 10, 4, 11, 5; 7", "10, 9, 4, 11, 5; 7")),
+        ("does not say '1 to 5 and 9 to 12 from the input", instead(HEADER, "9, 10, 4, 11, 5; 7", "10, 9, 4, 11, 5; 7")),
         ("has the order 2, 1, which is none", append(HEADER, "/* tested in the order 2, 1 */\n")),
         ("README.md does not say 'the order of the tests", instead("README.md", "9, 10, 4, 11, 5, 7, 8", "9, 10, 11, 4, 5, 7, 8")),
         *(
@@ -264,20 +270,24 @@ FAULTS = {
                 ("write_mapped", "1, 2, 3,\n * 9, 4, 11, 5 and 7", "1, 2, 3, 9, 4, 5, 11 and 7"),
                 ("write_list_mapped", "1, 2, 3, 9, 10, 4, 11, 5 and 7", "2, 1, 3, 9, 10, 4, 11, 5 and 7"),
                 ("erase_mapped", "2, 3, 4, 11\n * and 8", "2, 3, 4, 8 and 11"),
+                ("write_band", "1, 12, 4 and 7", "1, 4, 12 and 7"),
             )
         ),
         *(
             (words, instead(REFUSALS, f"first-of {one} {other}", f"first-of {other} {one}"))
             for words, one, other in (
-                ("does not say 'The grounds", "(bytesGround L)", "(stripsGround S)"),
-                ("does not say '1 to 5", "(weightsGround W)", "(first-of (countGround count) (lengthsGround count map L S page content))"),
-                ("README.md does not say", "(pageGround oneBit L S page)", "(first-of (mapGround oneBit L S map) (datasGround count L S content))"),
+                ("the enum is not that of ground,", "(bytesGround L)", "(stripsGround S)"),
+                ("is not that of listGround,", "(weightsGround W)", "(first-of (countGround count) (lengthsGround count map L S page content))"),
+                ("is not that of listGround,", "(pageGround oneBit L S page)", "(first-of (mapGround oneBit L S map) (datasGround count L S content))"),
                 ("segrunov_read is refused by 4, 5, 1,", "(sizesGround code L S)", "(lengthsGround none none L S page content)"),
                 ("segrunov_erase_mapped is refused by 2, 3, 4, 8, 11,", "(mapGround oneBit L S map)", "(eraseGround tenths)"),
+                ("is not that of valueGround,", "(bandGround M)", "(pageGround oneBit bandBytes bandStrips page)"),
             )
         ),
+        ("the order of the enum is not that of valueGround,", instead(ENUM, "    CodeUnknown,\n    BandOutside,", "    BandOutside,\n    CodeUnknown,")),
         ("has no line 'first-of (some r) later", instead(REFUSALS, "first-of (some r) later = some r", "first-of (some r) later = later")),
         ("has no line 'callAnswer (some r) w k", instead("crates/page_promises/specs/Writes.antt", "(some r) w k", "(some r) none k")),
+        ("has no line '  bandAnswerBy (some r) o", instead(BAND, "bandAnswerBy (some r) o = B.Refused r", "bandAnswerBy (some r) o = B.Spent")),
         ("has no line 'unlessRefused (some r) c", instead("crates/page_promises/specs/Lists.antt", "answer = refusedList r", "answer = c .answer")),
     ],
     "changes.py": [

@@ -25,6 +25,7 @@ PLACES = {
     "a word": 4,  # the code bits of a stage
     "a word of a row": 4 * 64,  # by the kind of the first cell, the level of the second and a label
     "a state": 64,
+    "a byte of a value": 2,  # in a band
 }
 
 # The numbers of an answer, the largest that a price has: a cost, a strip, a refusal, and which of the three it is.
@@ -38,6 +39,7 @@ KEPT = {
     ("cells::weight", "[u8; 3]"): (1, "a step"),
     ("codes::Code::generators", "[codes::CodeRow; 2]"): (2, "a code"),  # the table stands in each arm
     ("page::writing::price", "[u8; 3]"): (1, "a step"),
+    ("page_band::price_value", "[u8; 2]"): (1, "a byte of a value"),
     ("page_rewriting::price_strips", "[u32; 256]"): (1, "a word of a row"),
     ("prices::row_prices", "[u32; 8]"): (1, "a kind of cell"),
     ("prices::rows_of", "[u32; 256]"): (1, "a word of a row"),

@@ -29,22 +29,22 @@ value-data : (w : ℕ) → w ≤ 65535 → DataFor bandBytes bandStrips (valueBy
 value-data w h = record { size = refl; octets = value-octets w h }
 
 module _ (code : ℕ) (known : codeGround code ≡ none) {k : ℕ} {page : List ℕ} (low : Low bandBytes bandStrips k page) (v M : ℕ) (fits : v ≤ 65535)
-    where
-  permitted : Permitted house code bandBytes bandStrips
-  permitted = house-permitted code bandBytes bandStrips (code-ground code ∙ known)
+  where
+    permitted : Permitted house code bandBytes bandStrips
+    permitted = house-permitted code bandBytes bandStrips (code-ground code ∙ known)
 
-  -- IT IS DONE, within the k-th bound
-  pub band-certain : k ≤ certainWrites → M ≤ 8
-      → Sure (certainMost bandBytes bandStrips k house) (plainAnswer (bandAnswer code page v M))
-  band-certain h m =
-      let s = turn-certain permitted (no-marks bandBytes bandStrips) (value-data v fits) low h in
-      let e = plain-done (bandAnswer code page v 0) (band-zero (λ n. 0) code page v fits .0 ∙ s .done) in
-      let r = wider code page v 0 M fits (omega arith) m (s .cost) (e .0) (e .1) in
-      record { cost = r .0; done = ap plainAnswer (r .2); bound = omega (arith, r .3, s .bound) }
+    -- IT IS DONE, within the k-th bound
+    pub band-certain : k ≤ certainWrites → M ≤ 8
+        → Sure (certainMost bandBytes bandStrips k house) (plainAnswer (bandAnswer code page v M))
+    band-certain h m =
+        let s = turn-certain permitted (no-marks bandBytes bandStrips) (value-data v fits) low h in
+        let e = plain-done (bandAnswer code page v 0) (band-zero (λ n. 0) code page v fits .0 ∙ s .done) in
+        let r = wider code page v 0 M fits (omega arith) m (s .cost) (e .0) (e .1) in
+        record { cost = r .0; done = ap plainAnswer (r .2); bound = omega (arith, r .3, s .bound) }
 
-  -- and leaves every cell below level k + 1
-  pub band-low : (start : ℕ → ℕ) → Low bandBytes bandStrips (suc k) (bandPageBy code page v M start)
-  band-low start =
-      band-keeps start code page v M fits (Low bandBytes bandStrips (suc k))
-      (λ w h. turn-low permitted (no-marks bandBytes bandStrips) (value-data w h) low start)
-      (record { size = low .size; below = λ c h. omega (arith, low .below c h) })
+    -- and leaves every cell below level k + 1
+    pub band-low : (start : ℕ → ℕ) → Low bandBytes bandStrips (suc k) (bandPageBy code page v M start)
+    band-low start =
+        band-keeps start code page v M fits (Low bandBytes bandStrips (suc k))
+        (λ w h. turn-low permitted (no-marks bandBytes bandStrips) (value-data w h) low start)
+        (record { size = low .size; below = λ c h. omega (arith, low .below c h) })

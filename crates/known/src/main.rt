@@ -2,6 +2,7 @@
 // by the papers. The proofs speak of the source; this runs what the compiler made of it.
 use codes::Code;
 use libc::STDOUT_FILENO;
+use page::BandAnswer;
 use page::Row;
 
 // The bytes in hexadecimal, in a row.
@@ -599,6 +600,127 @@ fn show_mapped_lists() {
     );
 }
 
+// A write in a band: its answer, the value stored, and what the page is then.
+fn show_band(name: &[u8], code: u32, page: &mut [u8], value: u16, band: u32) {
+    let answer = page::writing::write_band(code, page, value, band);
+    let plain = page::answers::plain(answer);
+    io::write_all(STDOUT_FILENO, name);
+    io::write_all(STDOUT_FILENO, b": answer ");
+    io::print_decimal(STDOUT_FILENO, page::answers::number(plain) as u64);
+    io::write_all(STDOUT_FILENO, b" ");
+    io::print_decimal(STDOUT_FILENO, page::answers::value(plain) as u64);
+    if let BandAnswer::Done(_, stored) = answer {
+        io::write_all(STDOUT_FILENO, b" stored ");
+        io::print_decimal(STDOUT_FILENO, stored as u64);
+    }
+    io::write_all(STDOUT_FILENO, b" page ");
+    print_bytes(page);
+    io::write_all(STDOUT_FILENO, b"\n");
+}
+
+// Writes in a band: the exact value, a cheaper one, the ends of the values, the lower of two at the same cost and distance while a farther
+// one costs as much, a value beside one for which the page is spent, and a page that is spent for all.
+fn show_bands() {
+    show_band(b"a band of 0, code 3", 3, &mut [0u8; 12], 256, 0);
+    show_band(b"a band of 8, code 7", 7, &mut [0u8; 12], 300, 8);
+    show_band(b"near 0, code 3", 3, &mut [0u8; 12], 3, 8);
+    show_band(b"near 65535, code 7", 7, &mut [0u8; 12], 65533, 8);
+    show_band(
+        b"the lower of two, code 3",
+        3,
+        &mut [
+            0x88,
+            0x68,
+            0x09,
+            0x11,
+            0x00,
+            0x08,
+            0x09,
+            0x22,
+            0x80,
+            0x63,
+            0x14,
+            0x81,
+        ],
+        1781,
+        8,
+    );
+    show_band(
+        b"the lower of two, code 7",
+        7,
+        &mut [
+            0x16,
+            0x10,
+            0x41,
+            0x10,
+            0x04,
+            0x10,
+            0x87,
+            0x12,
+            0x40,
+            0x80,
+            0x28,
+            0x00,
+        ],
+        8450,
+        8,
+    );
+    show_band(
+        b"spent for the exact value, code 3",
+        3,
+        &mut [
+            0x7f,
+            0x8f,
+            0x07,
+            0x88,
+            0x00,
+            0x30,
+            0x00,
+            0x00,
+            0x00,
+            0x00,
+            0x00,
+            0x00,
+        ],
+        483,
+        3,
+    );
+    show_band(
+        b"spent for all, code 3",
+        3,
+        &mut [
+            0xff,
+            0xff,
+            0xff,
+            0xff,
+            0x1b,
+            0x74,
+            0x00,
+            0x00,
+            0x00,
+            0x00,
+            0x00,
+            0x00,
+        ],
+        474,
+        3,
+    );
+}
+
+// Those that are refused.
+fn show_refused_bands() {
+    show_band(b"a band of 9", 3, &mut [0x5au8; 12], 300, 9);
+    show_band(
+        b"a band of 9, a page of 11 bytes",
+        3,
+        &mut [0x5au8; 11],
+        300,
+        9,
+    );
+    show_band(b"code 4, a band of 9", 4, &mut [0x5au8; 12], 300, 9);
+    show_band(b"a page of 11 bytes", 3, &mut [0x5au8; 11], 300, 8);
+}
+
 // The calls that the paper says are refused, and those beside them that are done.
 fn show_calls() {
     show_call(b"code 3", 3, 1, 1, &mut [0u8; 6]);
@@ -714,4 +836,6 @@ fn main() {
     show_lists();
     show_refused_lists();
     show_mapped_lists();
+    show_bands();
+    show_refused_bands();
 }

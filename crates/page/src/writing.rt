@@ -1,11 +1,10 @@
 // Pricing and writing a page, one data or a list of them: a call is judged, and what is in order goes to the loops over strips and datas.
 // The write in a band stands in a room of its own, and is handed on here.
-pub use page_band::write_band;
-
 use judges::code_of;
 use judges::judge_write;
 use page_answers::Answer;
 use page_answers::ListAnswer;
+pub use page_band::write_band;
 use page_lists::refused_list;
 use page_lists::write_datas;
 use page_rewriting::price_strips;

@@ -34,7 +34,7 @@ fn price_value(code: u32, page: &[u8], value: u16) -> Answer
     ensures { λ r. ⌜ r ≡ jobAnswer none (valueJob code (now (page .entry)) value) ⌝ }
 {
     let weights = cells::house_weights();
-    let map = [0u8; 4];
+    let map = [0u8; 0];
     let data = value_bytes(value);
     price_strips(code_of(code), weights, 2, 1, page, &map, &data)
 }
@@ -46,7 +46,7 @@ fn write_value(code: u32, page: &mut [u8], value: u16) -> Answer
     ensures { λ _. ⌜ now (page .exit) ≡ jobPage none (valueJob code (now (page .entry)) value) startOf ⌝ }
 {
     let weights = cells::house_weights();
-    let map = [0u8; 4];
+    let map = [0u8; 0];
     let data = value_bytes(value);
     write_strips(code_of(code), weights, 2, 1, page, &map, &data)
 }

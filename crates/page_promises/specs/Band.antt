@@ -112,12 +112,12 @@ pub record BandCheapest (start : ℕ → ℕ) (code : ℕ) (before : List ℕ) (
 -- WHAT IT PROMISES. Done: that page. Spent: 'exactly if the page is spent for every value in the band', so that no page could be, and
 -- nothing is changed. Refused: by the first ground of the list, and nothing is changed
 pub data BandPromised (start : ℕ → ℕ) (g : Option Refusal) (code : ℕ) (before : List ℕ) (v M : ℕ) (after : List ℕ) : BandAnswer → Type 0
-    where
-  stored : {cost w : ℕ} → g ≡ none → BandCheapest start code before v M after cost w
-      → BandPromised start g code before v M after (B.Done cost w)
-  all-spent : g ≡ none → ((u : ℕ) → InBand v M u → (other : List ℕ) → Could (valueJob code before u) other → ⊥) → after ≡ before
-      → BandPromised start g code before v M after B.Spent
-  not-begun : {r : Refusal} → g ≡ some r → after ≡ before → BandPromised start g code before v M after (B.Refused r)
+  where
+    stored : {cost w : ℕ} → g ≡ none → BandCheapest start code before v M after cost w
+        → BandPromised start g code before v M after (B.Done cost w)
+    all-spent : g ≡ none → ((u : ℕ) → InBand v M u → (other : List ℕ) → Could (valueJob code before u) other → ⊥) → after ≡ before
+        → BandPromised start g code before v M after B.Spent
+    not-begun : {r : Refusal} → g ≡ some r → after ≡ before → BandPromised start g code before v M after (B.Refused r)
 
 -- of a call of this release
 abbrev pub WroteBand : (code : ℕ) (before : List ℕ) (v M : ℕ) (after : List ℕ) → BandAnswer → Type 0

@@ -2,7 +2,7 @@
 use mathlib.Core.Path.{_∙_, ap}
 use mathlib.Core.Option.{none}
 use borrow.Author.Needs.{needs}
-use Rattle.cells.proofs.Marks.{zero-map}
+use Rattle.cells.proofs.Marks.{no-map}
 use Rattle.page_promises.specs.Writes.{jobAnswer}
 use Rattle.page_band.proofs.Values.{lent-in-order, lent-job}
 use Rattle.page_band.proofs.price_value.Statement.{statement}
@@ -36,7 +36,7 @@ returns c =
     let a = v .before .before .before .args in
     c .price-strips .ensures
     ∙ ap (jobAnswer none) (lent-job (a .code) (a .page .now) (a .value) (v .before .house-weights .ensures) (v .value-bytes .ensures)
-    (c .before .before .before .code-of .ensures) (zero-map 4))
+    (c .before .before .before .code-of .ensures) no-map)
 
 pub price-value-spec : {M : Type 1} → statement M
 price-value-spec =

@@ -3,7 +3,7 @@ use mathlib.Core.Path.{_∙_, ap}
 use mathlib.Core.Option.{none}
 use borrow.Author.Needs.{needs}
 use Rattle.cells.specs.Raising.{startOf}
-use Rattle.cells.proofs.Marks.{zero-map}
+use Rattle.cells.proofs.Marks.{no-map}
 use Rattle.demand.specs.Jobs.{Job}
 use Rattle.page_promises.specs.Writes.{jobAnswer, jobPage}
 use Rattle.page_band.proofs.Values.{lent-in-order, lent-job}
@@ -41,7 +41,7 @@ returns c =
     let v = w .before .before .before .before .before in
     let a = v .before .before .before .args in
     let j = lent-job (a .code) (a .page .now) (a .value) (v .before .house-weights .ensures) (v .value-bytes .ensures)
-    (w .before .before .before .before .code-of .ensures) (zero-map 4) in
+    (w .before .before .before .before .code-of .ensures) no-map in
     (w .write-strips .ensures .0 ∙ ap (jobAnswer none) j, w .write-strips .ensures .1 ∙ ap (λ (J : Job). jobPage none J startOf) j)
 
 pub write-value-spec : {M : Type 1} → statement M
