@@ -31,9 +31,9 @@
  * SEGRUNOV_VALUE, its lower half, is the cost of a write or price that is done, the strip's number where the page is
  * spent, and 0 in every other case. The one exception is a list's answer: where the page is spent, its value is the
  * cost of what was written before, and the strip has a field of its own. The grounds that a call has are tested in the
- * order 1, 12, 2, 3, 9, 10, 4, 11, 5, 7, 8, and the first that applies is the answer. With any refusal no byte is changed:
- * not the page, not the data, not the buffer, also not the strips before a spent one. The one exception is a list with
- * a 7: the page keeps what was written before. No call changes a map, and none but a read changes data.
+ * order 1, 12, 2, 3, 9, 10, 4, 11, 5, 7, 8, and the first that applies is the answer. With any refusal no byte is
+ * changed: not the page, not the data, not the buffer, also not the strips before a spent one. The one exception is a
+ * list with a 7: the page keeps what was written before. No call changes a map, and none but a read changes data.
  *
  * LISTS. segrunov_write_list and segrunov_write_list_mapped write from 1 to 64 datas into one page, one after another.
  * The page afterwards, the number written and the summed cost are those of single writes in that order, by
@@ -51,14 +51,14 @@
  * list's answer; on the answers of the calls that there were it gives what this one gives, and nothing changes for
  * their callers.
  *
- * A BAND. segrunov_write_band stores a number of 16 bits, as a winding's temperature, low byte first, on a page with
- * L = 2 and S = 1: 12 bytes. It may store any number from 0 to 65,535 that is at most M away from the one given, and
+ * A BAND. segrunov_write_band stores a number of 16 bits, as a winding's temperature, low byte first, on a page with L
+ * = 2 and S = 1: 12 bytes. It may store any number from 0 to 65,535 that is at most M away from the one given, and
  * takes the cheapest of all pages that read as one of these with no cell lowered. Among equals the nearest number is
- * stored, then the lower; then the tie goes as in every write. Nothing goes round: near 0 and 65,535 the band ends there.
- * The page is spent, with strip 0, only where no number of the band can be stored. Its cost is what the write of the
- * number stored costs; segrunov_read says which that is. With M = 0 it is segrunov_write with L = 2 and S = 1. A wider
- * band never costs more, and is never spent where a narrower one is not; so the first three writes after an erase are
- * certain here too.
+ * stored, then the lower; then the tie goes as in every write. Nothing goes round: near 0 and 65,535 the band ends
+ * there. The page is spent, with strip 0, only where no number of the band can be stored. Its cost is what the write of
+ * the number stored costs; segrunov_read says which that is. With M = 0 it is segrunov_write with L = 2 and S = 1. A
+ * wider band never costs more, and is never spent where a narrower one is not; so the first three writes after an erase
+ * are certain here too.
  *
  * WHICH BITS. Bit k of a strip is bit k mod 8 of its byte k div 8, bit 0 being worth 1, and its cell c is the bits 3*c,
  * 3*c+1 and 3*c+2. A raise of the cell turns one zero into a one: it starts at bit c mod 3 of these three, c being the
@@ -126,8 +126,8 @@ extern "C" {
 #define SEGRUNOV_WRITTEN(answer) ((uint32_t)((answer) >> 40 & UINT64_C(0xff)))
 #define SEGRUNOV_SPENT_STRIP(answer) ((uint32_t)((answer) >> 48))
 
-/* The numbers of an answer: 1 to 5 and 9 to 12 from the input, tested in the order 1, 12, 2, 3, 9, 10, 4, 11, 5; 7 and 8
- * from the state, after those. 6 belongs to the run program. */
+/* The numbers of an answer: 1 to 5 and 9 to 12 from the input, tested in the order 1, 12, 2, 3, 9, 10, 4, 11, 5; 7 and
+ * 8 from the state, after those. 6 belongs to the run program. */
 #define SEGRUNOV_DONE UINT32_C(0)
 #define SEGRUNOV_CODE UINT32_C(1)        /* the code is neither 3 nor 7 */
 #define SEGRUNOV_BYTES UINT32_C(2)       /* L is not from 1 to 64 */
@@ -191,8 +191,8 @@ uint64_t segrunov_write_weighted(uint32_t code, uint32_t bytes, uint32_t strips,
  * spent. Refused by 1, 2, 3, 9, 10, 4, 5 and 7, tested in this order; a 7 leaves what was written before it. */
 uint64_t segrunov_write_list(uint32_t code, uint32_t bytes, uint32_t strips, uint8_t w1, uint8_t w2, uint8_t w3, uint32_t count, uint8_t *page, uint64_t page_len, const uint8_t *data, uint64_t data_len);
 
-/* Writes the cheapest number that is at most the band away from the value, the nearest of equals, then the lower, into a
- * page of 12 bytes. Refused by 1, 12, 4 and 7, tested in this order; the value of a 7 is 0. */
+/* Writes the cheapest number that is at most the band away from the value, the nearest of equals, then the lower, into
+ * a page of 12 bytes. Refused by 1, 12, 4 and 7, tested in this order; the value of a 7 is 0. */
 uint64_t segrunov_write_band(uint32_t code, uint8_t *page, uint64_t page_len, uint16_t value, uint32_t band);
 
 /* Makes every byte of the page 0. Refused by 2 to 4 and 8. */
