@@ -1,15 +1,18 @@
 /*
- * How a relay keeps the thermal image of its feeder in a flash page: to be pasted into a firmware and fitted to its driver.
+ * How a relay keeps the thermal image of its feeder, and the temperature of a winding, each in a flash page of its own: to be pasted into a firmware
+ * and fitted to its driver.
  *
  *   start    read the image that the page holds, and look whether the RAM with a battery still holds what it was given
  *   store    price the new image, and write it where the page takes it; where the page is spent, keep the old image and ask for an erase
  *   erase    within the limits of the flash's certificate, 5.0 to 40.0 degrees Celsius
  *   enqueue  keep an image in RAM with a battery while the supply is too low to program the flash
  *   catch_up at the next start: write the images that queued up as lists, and program the page once for each; where it is spent, erase it and go on
+ *   start_temperature, store_temperature
+ *            the temperature may be stored a few units off: of these values the cheapest, so that an erase is wanted less often
  *
- * The page is worked on in RAM. The three functions of the driver below stand for the real ones of a NOR flash: an erase makes its bits ones, and
+ * A page is worked on in RAM. The three functions of the driver below stand for the real ones of a NOR flash: an erase makes its bits ones, and
  * programming turns ones into zeros. The library's erased page is zeros, and a write turns zeros into ones: so the driver complements every byte, on
- * load and on program. A write lowers no cell, so that programming needs no erase.
+ * load and on program. A write lowers no cell, so that programming needs no erase. Each page has a sector of its own, since a sector is erased whole.
  *
  * Neither erasing nor programming is done at once. A relay that can lose its supply meanwhile keeps the image in a second page until the first holds
  * it, and a checksum in the image, by which the start knows an unfinished page.
@@ -26,6 +29,11 @@ enum { STRIP_BYTES = 8, STRIPS = 4 };
 #define PAGE_BYTES SEGRUNOV_PAGE_BYTES(STRIP_BYTES, STRIPS)
 
 static uint8_t page[STRIP_BYTES * STRIPS * 6];
+
+/* The page of the winding's temperature, in tenths of a degree. Three of them more or less do the trip program no harm. */
+enum { BAND = 3 };
+
+static uint8_t winding[SEGRUNOV_PAGE_BYTES(SEGRUNOV_BAND_BYTES, SEGRUNOV_BAND_STRIPS)];
 
 /*
  * The images that wait, in RAM with a battery, in a section that the start-up code leaves alone: a ring of slots, and one word that says which slot
@@ -66,34 +74,51 @@ static void check_ring(void)
     }
 }
 
-/* The driver: the flash of this example is an array. In a real one every access is volatile. */
-static uint8_t flash[sizeof page];
+/* The driver: the sectors of this example's flash are arrays. In a real one every access is volatile. */
+static uint8_t image_flash[sizeof page];
+static uint8_t winding_flash[sizeof winding];
 
-static void flash_load(void)
+/* A page in RAM, its L and S, and the sector that keeps it. */
+struct sector {
+    uint32_t bytes;
+    uint32_t strips;
+    uint8_t *page;
+    uint8_t *flash;
+};
+
+static const struct sector IMAGE = {STRIP_BYTES, STRIPS, page, image_flash};
+static const struct sector WINDING = {SEGRUNOV_BAND_BYTES, SEGRUNOV_BAND_STRIPS, winding, winding_flash};
+
+static size_t length(const struct sector *s)
+{
+    return SEGRUNOV_PAGE_BYTES(s->bytes, s->strips);
+}
+
+static void flash_load(const struct sector *s)
 {
     size_t i;
-    for (i = 0; i < sizeof page; i++) {
-        page[i] = (uint8_t)~flash[i];
+    for (i = 0; i < length(s); i++) {
+        s->page[i] = (uint8_t)~s->flash[i];
     }
 }
 
 /* False where the flash does not hold the page afterwards: it failed, or a bit had to go from 0 to 1, which no write asks for. */
-static bool flash_program(void)
+static bool flash_program(const struct sector *s)
 {
     size_t i;
-    for (i = 0; i < sizeof page; i++) {
-        const uint8_t wanted = (uint8_t)~page[i];
-        flash[i] &= wanted; /* all that programming can do */
-        if (flash[i] != wanted) {
+    for (i = 0; i < length(s); i++) {
+        const uint8_t wanted = (uint8_t)~s->page[i];
+        s->flash[i] &= wanted; /* all that programming can do */
+        if (s->flash[i] != wanted) {
             return false;
         }
     }
     return true;
 }
 
-static void flash_erase(void)
+static void flash_erase(const struct sector *s)
 {
-    memset(flash, 0xff, sizeof flash);
+    memset(s->flash, 0xff, length(s));
 }
 
 /* FAULT: the flash failed, or a constant of this file is wrong. */
@@ -103,7 +128,7 @@ enum store_result { STORED, ERASE_WANTED, FAULT };
 static bool start(uint8_t *image)
 {
     check_ring();
-    flash_load();
+    flash_load(&IMAGE);
     return SEGRUNOV_NUMBER(segrunov_read(SEGRUNOV_LONG, STRIP_BYTES, STRIPS, page, sizeof page, image, IMAGE_BYTES)) == SEGRUNOV_DONE;
 }
 
@@ -115,7 +140,7 @@ static enum store_result store(const uint8_t *image)
     case SEGRUNOV_DONE:
         if (SEGRUNOV_VALUE(price) != 0) {
             (void)segrunov_write(SEGRUNOV_LONG, STRIP_BYTES, STRIPS, page, sizeof page, image, IMAGE_BYTES);
-            return flash_program() ? STORED : FAULT;
+            return flash_program(&IMAGE) ? STORED : FAULT;
         }
         return STORED;
     case SEGRUNOV_SPENT:
@@ -125,20 +150,46 @@ static enum store_result store(const uint8_t *image)
     }
 }
 
-/* Erases the page; false where it is too cold or too warm, and the page stays as it is. */
-static bool erase_page(int16_t tenths)
+/* Erases a page; false where it is too cold or too warm, and the page stays as it is. */
+static bool erase_page(const struct sector *s, int16_t tenths)
 {
-    if (SEGRUNOV_NUMBER(segrunov_erase(STRIP_BYTES, STRIPS, page, sizeof page, tenths)) != SEGRUNOV_DONE) {
+    if (SEGRUNOV_NUMBER(segrunov_erase(s->bytes, s->strips, s->page, length(s), tenths)) != SEGRUNOV_DONE) {
         return false;
     }
-    flash_erase();
+    flash_erase(s);
     return true;
 }
 
 /* Erases the page, and stores the image anew; false where it is too cold or too warm, and the old image stays, or where the flash failed. */
 static bool erase(const uint8_t *image, int16_t tenths)
 {
-    return erase_page(tenths) && store(image) == STORED;
+    return erase_page(&IMAGE, tenths) && store(image) == STORED;
+}
+
+/* Reads the temperature, which lies there low byte first; false where a constant of this file is wrong. */
+static bool start_temperature(uint16_t *value)
+{
+    uint8_t data[SEGRUNOV_BAND_BYTES];
+    flash_load(&WINDING);
+    if (SEGRUNOV_NUMBER(segrunov_read(SEGRUNOV_LONG, WINDING.bytes, WINDING.strips, winding, sizeof winding, data, sizeof data)) != SEGRUNOV_DONE) {
+        return false;
+    }
+    *value = (uint16_t)(data[0] | data[1] << 8);
+    return true;
+}
+
+/* Stores a value that is at most the band away. A page that is spent keeps what it holds until it is erased, under the same certificate. */
+static enum store_result store_temperature(uint16_t value, uint32_t band)
+{
+    const uint64_t answer = segrunov_write_band(SEGRUNOV_LONG, winding, sizeof winding, value, band);
+    switch (SEGRUNOV_NUMBER(answer)) {
+    case SEGRUNOV_DONE:
+        return SEGRUNOV_VALUE(answer) == 0 || flash_program(&WINDING) ? STORED : FAULT;
+    case SEGRUNOV_SPENT:
+        return ERASE_WANTED;
+    default:
+        return FAULT;
+    }
 }
 
 /* Keeps an image until the flash can be programmed again. While some wait, newer ones are put behind them. False where the ring is full. */
@@ -171,12 +222,12 @@ static enum store_result catch_up(int16_t tenths)
         const uint64_t answer = segrunov_write_list(SEGRUNOV_LONG, STRIP_BYTES, STRIPS, SEGRUNOV_HOUSE_W1, SEGRUNOV_HOUSE_W2, SEGRUNOV_HOUSE_W3,
                                                     count, page, sizeof page, slot_of(first), count * IMAGE_BYTES);
         const uint32_t written = SEGRUNOV_WRITTEN(answer);
-        if (SEGRUNOV_VALUE(answer) != 0 && !flash_program()) {
+        if (SEGRUNOV_VALUE(answer) != 0 && !flash_program(&IMAGE)) {
             return FAULT;
         }
         set_ring(first + written, waiting() - written);
         if (SEGRUNOV_NUMBER(answer) == SEGRUNOV_SPENT) {
-            if (!erase_page(tenths)) {
+            if (!erase_page(&IMAGE, tenths)) {
                 return ERASE_WANTED;
             }
         } else if (SEGRUNOV_NUMBER(answer) != SEGRUNOV_DONE) {
@@ -211,11 +262,39 @@ static unsigned queue_up(uint8_t *image)
     }
 }
 
+/* A winding that warms up from 60.0 to 64.0 degrees and cools down, again and again. */
+static uint16_t temperature(unsigned number)
+{
+    const unsigned phase = number % 40;
+    return (uint16_t)(600 + 2 * (phase < 20 ? phase : 40 - phase));
+}
+
+/* How many of its temperatures are stored between erases; 0 where one that is read back is farther away than the band, or something else is wrong. */
+static unsigned temperatures_stored(uint32_t band)
+{
+    unsigned stored;
+    if (!erase_page(&WINDING, 250)) {
+        return 0;
+    }
+    for (stored = 0; stored < 1000; stored++) {
+        const uint16_t value = temperature(stored);
+        const enum store_result result = store_temperature(value, band);
+        uint16_t again = 0;
+        if (result == ERASE_WANTED) {
+            return stored;
+        }
+        if (result == FAULT || !start_temperature(&again) || again > value + band || value > again + band) {
+            return 0;
+        }
+    }
+    return 0;
+}
+
 int main(void)
 {
     uint8_t image[STRIP_BYTES * STRIPS];
-    unsigned stored = 0, written;
-    flash_erase(); /* as a new part comes */
+    unsigned stored = 0, written, in_band, exactly;
+    flash_erase(&IMAGE); /* as a new part comes */
     ring = SLOTS + 1; /* as the RAM can be with a new battery: so many do not fit */
     if (!start(image) || waiting() != 0) {
         return 1;
@@ -269,5 +348,12 @@ int main(void)
         return 1;
     }
     printf("at 25.0 degrees the page is erased and all of them are written\n");
+    exactly = temperatures_stored(0);
+    in_band = temperatures_stored(BAND);
+    printf("temperatures of the winding stored between erases, exactly: %u\n", exactly);
+    printf("the same temperatures, each at most 0.%d degrees off: %u\n", BAND, in_band);
+    if (exactly == 0 || in_band < exactly) {
+        return 1;
+    }
     return PAGE_BYTES == sizeof page ? 0 : 1;
 }

@@ -1,8 +1,8 @@
 /*
  * The known cells of document 01, writes with other weights, writes on pages of an older release, writes and erases
- * with marked cells, lists of writes, and the writes that are certain after an erase, through include/segrunov.h, as a
- * firmware would call it: refusals in their order, nothing changed by them, guard bytes around every buffer. The exit
- * status is 0 where every check holds.
+ * with marked cells, lists of writes, the writes that are certain after an erase, and writes in a band, through
+ * include/segrunov.h, as a firmware would call it: refusals in their order, nothing changed by them, guard bytes around
+ * every buffer. The exit status is 0 where every check holds.
  *
  * With FREESTANDING it is built with no C library: it brings what the archive needs of one, and ends by the system's exit, on a bare board by
  * semihosting's. Where the processor does not divide 64 bits, the compiler's own library does it (libgcc).
@@ -1027,6 +1027,299 @@ static void certain(void)
     }
 }
 
+/* ---- writes in a band */
+
+/* The bytes of the page, and its L and S. */
+enum { BAND_PAGE = 12, BAND_DATA = 2, BAND_STRIP = 1 };
+
+/* A write in a band: what is given, the page before, the answer, the value stored, and the page after. */
+struct known_band {
+    const char *what;
+    uint32_t code;
+    uint16_t value;
+    uint32_t band;
+    uint8_t before[BAND_PAGE];
+    uint32_t number;
+    uint32_t cost;
+    uint16_t stored; /* where it is done */
+    uint8_t after[BAND_PAGE];
+};
+
+/*
+ * The worn page is what the writes 0123, 4567, 89ab, ba98, 7654, 3210, 0f1e and 2d3c leave with code 7, and the nearly
+ * spent one what 4b5a, 8796 and 0f1e leave after these. In the last one a cell of each stage is full and the other at
+ * level 2.
+ */
+#define WORN_PAGE {0xf3, 0xef, 0xc6, 0x04, 0, 0x31, 0x7a, 0x84, 0x88, 0x51, 0x01, 0xc6}
+#define NEARLY_SPENT {0xff, 0xff, 0xe7, 0x9d, 0, 0x35, 0xfe, 0xcc, 0x88, 0x73, 0x23, 0xc6}
+#define FULL_PAGE {0xff, 0xff, 0xff, 0xff, 0xff, 0xff, 0xff, 0xff, 0xff, 0xff, 0xff, 0xff}
+#define STEEP {0xdf, 0xf7, 0x7d, 0xdf, 0xf7, 0x7d, 0xdf, 0xf7, 0x7d, 0xdf, 0xf7, 0x7d}
+
+/* By write_page, the model in tests/run.py, of every value of the band: the least by the cost, then by the distance, then by the value. */
+static const struct known_band KNOWN_BANDS[] = {
+    /* On an erased page; its zeros are held, and cost nothing. */
+    {"erased, 0 in a band of 0", 3, 0, 0, {0}, 0, 0, 0, {0}},
+    {"erased, 8 in a band of 8", 7, 8, 8, {0}, 0, 0, 0, {0}},
+    {"erased, 8 in a band of 7", 3, 8, 7, {0}, 0, 16, 7, {0x10}},
+    /* In a band of 0 a value is a plain write: of the tie of the last two cells the second wins. The low byte goes first. */
+    {"erased, 8000 in a band of 0", 3, 0x8000, 0, {0}, 0, 16, 32768, {0, 0, 0, 0, 0, 0, 0, 0, 0, 0, 0, 0x40}},
+    {"erased, 8000 in a band of 0 with code 7", 7, 0x8000, 0, {0}, 0, 16, 32768, {0, 0, 0, 0, 0, 0, 0, 0, 0, 0, 0, 0x40}},
+    {"erased, 0001 in a band of 0", 3, 0x0001, 0, {0}, 0, 48, 1, {0x01, 0x03}},
+    {"erased, 0100 in a band of 0", 3, 0x0100, 0, {0}, 0, 32, 256, {0, 0, 0, 0, 0, 0x30}},
+    {"erased, 0001 in a band of 0 with code 7", 7, 0x0001, 0, {0}, 0, 96, 1, {0x10, 0x02, 0, 0x04, 0, 0, 0, 0x04, 0x80, 0, 0x02}},
+    {"erased, 0100 in a band of 0 with code 7", 7, 0x0100, 0, {0}, 0, 48, 256, {0, 0, 0, 0, 0, 0, 0x20, 0x04, 0, 0x01}},
+    /* 5 and 7 cost the same, and 6 costs more: the lower of the two. */
+    {"erased, 6 in a band of 1", 3, 6, 1, {0}, 0, 16, 5, {0x01}},
+    {"erased, 6 in a band of 1 with code 7", 7, 6, 1, {0}, 0, 80, 5, {0x01, 0, 0x04, 0, 0, 0, 0x02, 0x04, 0, 0x10}},
+    /* The band ends at 65,535: 0 would cost nothing. */
+    {"erased, 65535 in a band of 8", 3, 65535, 8, {0}, 0, 80, 65534, {0, 0x02, 0, 0x08, 0, 0x20, 0, 0x80, 0, 0, 0x02}},
+    {"erased, 65535 in a band of 8 with code 7", 7, 65535, 8, {0}, 0, 48, 65528, {0, 0, 0x40, 0, 0, 0x20, 0x40}},
+    /* A cheaper value, across the border of the two bytes, downwards and upwards. */
+    {"worn, 256 in a band of 0", 3, 256, 0, WORN_PAGE, 0, 104, 256, {0xf3, 0xff, 0xce, 0x04, 0, 0x71, 0x7a, 0x84, 0x98, 0x51, 0x21, 0xc6}},
+    {"worn, 256 in a band of 4", 3, 256, 4, WORN_PAGE, 0, 76, 252, {0xf3, 0xef, 0xc6, 0x04, 0, 0x73, 0x7a, 0x84, 0x98, 0x51, 0x21, 0xc6}},
+    {"worn, 256 in a band of 4 with code 7", 7, 256, 4, WORN_PAGE, 0, 36, 252,
+     {0xf3, 0xef, 0xc6, 0x04, 0x10, 0x35, 0x7a, 0x84, 0x88, 0x51, 0x01, 0xc6}},
+    {"worn, 255 in a band of 1", 3, 255, 1, WORN_PAGE, 0, 104, 256, {0xf3, 0xff, 0xce, 0x04, 0, 0x71, 0x7a, 0x84, 0x98, 0x51, 0x21, 0xc6}},
+    {"worn, 255 in a band of 1 with code 7", 7, 255, 1, WORN_PAGE, 0, 64, 256, {0xf3, 0xef, 0xc7, 0x04, 0, 0x31, 0x7e, 0x84, 0x88, 0x51, 0x21, 0xc6}},
+    /* The nearest of those that cost the same. The farther one is the lower, then the higher; then the value itself costs as much. */
+    {"worn, 57093 in a band of 5: 57088 costs the same as 57096", 3, 57093, 5, WORN_PAGE, 0, 100, 57096,
+     {0xf3, 0xff, 0xc6, 0x84, 0, 0x31, 0x7e, 0x84, 0x88, 0x53, 0x03, 0xc6}},
+    {"worn, 3 in a band of 3 with code 7: 0 costs the same as 4", 7, 3, 3, WORN_PAGE, 0, 80, 4,
+     {0xf3, 0xef, 0xe6, 0x04, 0x10, 0x31, 0x7a, 0xc4, 0x88, 0x51, 0x01, 0xce}},
+    {"worn, 65527 in a band of 4: 65531 costs the same as 65529", 3, 65527, 4, WORN_PAGE, 0, 80, 65529,
+     {0xf7, 0xef, 0xc6, 0x04, 0x10, 0x31, 0x7a, 0xc4, 0x88, 0x51, 0x01, 0xce}},
+    {"worn, 1 in a band of 3 with code 7: 4 costs the same as 0", 7, 1, 3, WORN_PAGE, 0, 80, 0,
+     {0xf3, 0xef, 0xc7, 0x04, 0, 0x31, 0x7a, 0xc4, 0xa8, 0x51, 0x03, 0xc6}},
+    {"worn, 254 in a band of 1: 253 and 255 cost the same", 3, 254, 1, WORN_PAGE, 0, 132, 254,
+     {0xff, 0xef, 0xc6, 0x04, 0, 0x73, 0x7a, 0x84, 0x98, 0x51, 0x21, 0xc6}},
+    {"worn, 4 in a band of 4 with code 7: 0 costs the same", 7, 4, 4, WORN_PAGE, 0, 80, 4,
+     {0xf3, 0xef, 0xe6, 0x04, 0x10, 0x31, 0x7a, 0xc4, 0x88, 0x51, 0x01, 0xce}},
+    /* The lower of those that are as near. */
+    {"worn, 2 in a band of 1: 1 and 3 cost the same", 3, 2, 1, WORN_PAGE, 0, 112, 1,
+     {0xf7, 0xef, 0xe6, 0x04, 0, 0x35, 0x7a, 0x84, 0x98, 0x51, 0x21, 0xc6}},
+    {"worn, 2 in a band of 2 with code 7: 0 and 4 cost the same", 7, 2, 2, WORN_PAGE, 0, 80, 0,
+     {0xf3, 0xef, 0xc7, 0x04, 0, 0x31, 0x7a, 0xc4, 0xa8, 0x51, 0x03, 0xc6}},
+    /* The cheapest is as far away as the widest band allows, on either side; a narrower band does not have it. */
+    {"worn, 10788 in a band of 8", 3, 10788, 8, WORN_PAGE, 0, 32, 10780, {0xf3, 0xef, 0xc6, 0x84, 0, 0x31, 0x7a, 0x84, 0x88, 0x51, 0x21, 0xc6}},
+    {"worn, 10788 in a band of 7", 3, 10788, 7, WORN_PAGE, 0, 60, 10788, {0xf3, 0xef, 0xe6, 0x84, 0, 0x31, 0x7a, 0x84, 0x88, 0x51, 0x21, 0xc6}},
+    {"worn, 10388 in a band of 8", 3, 10388, 8, WORN_PAGE, 0, 52, 10396, {0xf3, 0xef, 0xc6, 0x84, 0, 0x35, 0x7a, 0x84, 0x88, 0x51, 0x21, 0xc6}},
+    {"worn, 29028 in a band of 8 with code 7", 7, 29028, 8, WORN_PAGE, 0, 72, 29020,
+     {0xf3, 0xef, 0xc6, 0x84, 0x10, 0x71, 0x7e, 0x84, 0x88, 0x51, 0x01, 0xc6}},
+    {"worn, 29028 in a band of 7 with code 7", 7, 29028, 7, WORN_PAGE, 0, 76, 29032,
+     {0xf3, 0xff, 0xc6, 0x04, 0x08, 0x31, 0x7a, 0xc4, 0x88, 0x51, 0x03, 0xc6}},
+    {"worn, 4 in a band of 8 with code 7", 7, 4, 8, WORN_PAGE, 0, 72, 12, {0xf3, 0xef, 0xc6, 0x0c, 0, 0x33, 0xfa, 0x84, 0x88, 0x51, 0x03, 0xc6}},
+    /* Beyond 0 and beyond 65,535 there would be cheaper ones. */
+    {"worn, 0 in a band of 8", 3, 0, 8, WORN_PAGE, 0, 84, 4, {0xf3, 0xef, 0xe6, 0x04, 0, 0x35, 0x7a, 0x84, 0x98, 0x51, 0x21, 0xc6}},
+    {"worn, 0 in a band of 8 with code 7", 7, 0, 8, WORN_PAGE, 0, 80, 0, {0xf3, 0xef, 0xc7, 0x04, 0, 0x31, 0x7a, 0xc4, 0xa8, 0x51, 0x03, 0xc6}},
+    {"worn, 65535 in a band of 2", 3, 65535, 2, WORN_PAGE, 0, 108, 65534, {0xff, 0xef, 0xc6, 0x04, 0x10, 0x31, 0x7a, 0xc4, 0x88, 0x51, 0x01, 0xce}},
+    {"worn, 65535 in a band of 2 with code 7", 7, 65535, 2, WORN_PAGE, 0, 124, 65535,
+     {0xfb, 0xef, 0xc7, 0x0c, 0x10, 0x31, 0x7a, 0xc4, 0xa8, 0x51, 0x01, 0xc6}},
+    /* Spent for the value itself: first for its neighbours too, then another is stored, then a cheaper one that is farther away. */
+    {"nearly spent, 63900 in a band of 1", 3, 63900, 1, NEARLY_SPENT, 7, 0, 0, NEARLY_SPENT},
+    {"nearly spent, 63900 in a band of 2", 3, 63900, 2, NEARLY_SPENT, 0, 68, 63902,
+     {0xff, 0xff, 0xe7, 0x9d, 0x01, 0x37, 0xff, 0xcc, 0x88, 0x73, 0x23, 0xc6}},
+    {"nearly spent, 63900 in a band of 6", 3, 63900, 6, NEARLY_SPENT, 0, 64, 63894,
+     {0xff, 0xff, 0xef, 0x9d, 0x10, 0x35, 0xff, 0xcc, 0x88, 0x73, 0x23, 0xc6}},
+    {"nearly spent, 42260 in a band of 1 with code 7", 7, 42260, 1, NEARLY_SPENT, 7, 0, 0, NEARLY_SPENT},
+    {"nearly spent, 42260 in a band of 2 with code 7", 7, 42260, 2, NEARLY_SPENT, 0, 112, 42262,
+     {0xff, 0xff, 0xef, 0x9d, 0x18, 0x37, 0xfe, 0xcc, 0x98, 0x73, 0xa3, 0xc6}},
+    {"nearly spent, 42260 in a band of 6 with code 7", 7, 42260, 6, NEARLY_SPENT, 0, 104, 42254,
+     {0xff, 0xff, 0xe7, 0xbd, 0x11, 0x35, 0xfe, 0xcc, 0xa8, 0x73, 0xa3, 0xc6}},
+    /* Few values are left, and the two at the ends of the band cost the same. */
+    {"nearly spent, 58118 in a band of 7", 3, 58118, 7, NEARLY_SPENT, 0, 96, 58118,
+     {0xff, 0xff, 0xef, 0x9f, 0, 0x3d, 0xfe, 0xcc, 0x89, 0x73, 0x23, 0xc6}},
+    {"nearly spent, 58118 in a band of 8", 3, 58118, 8, NEARLY_SPENT, 0, 76, 58110,
+     {0xff, 0xff, 0xe7, 0x9d, 0, 0x35, 0xff, 0xde, 0x88, 0x73, 0x23, 0xc6}},
+    {"nearly spent, 63030 in a band of 7 with code 7", 7, 63030, 7, NEARLY_SPENT, 0, 112, 63030,
+     {0xff, 0xff, 0xef, 0x9d, 0x10, 0x7d, 0xfe, 0xcc, 0x88, 0x7b, 0x23, 0xc6}},
+    {"nearly spent, 63030 in a band of 8 with code 7", 7, 63030, 8, NEARLY_SPENT, 0, 92, 63022,
+     {0xff, 0xff, 0xe7, 0x9f, 0x08, 0x35, 0xfe, 0xce, 0x98, 0x73, 0x23, 0xc6}},
+    /* A full page takes what it holds, 65,534 with code 3 and 30 with code 7, and nothing else: 0 is not two away from 65,534. */
+    {"full, 65526 in a band of 8", 3, 65526, 8, FULL_PAGE, 0, 0, 65534, FULL_PAGE},
+    {"full, 65525 in a band of 8", 3, 65525, 8, FULL_PAGE, 7, 0, 0, FULL_PAGE},
+    {"full, 65535 in a band of 1", 3, 65535, 1, FULL_PAGE, 0, 0, 65534, FULL_PAGE},
+    {"full, 65535 in a band of 0", 3, 65535, 0, FULL_PAGE, 7, 0, 0, FULL_PAGE},
+    {"full, 0 in a band of 8", 3, 0, 8, FULL_PAGE, 7, 0, 0, FULL_PAGE},
+    {"full, 22 in a band of 8 with code 7", 7, 22, 8, FULL_PAGE, 0, 0, 30, FULL_PAGE},
+    {"full, 21 in a band of 8 with code 7", 7, 21, 8, FULL_PAGE, 7, 0, 0, FULL_PAGE},
+    {"full, 38 in a band of 8 with code 7", 7, 38, 8, FULL_PAGE, 0, 0, 30, FULL_PAGE},
+    {"full, 39 in a band of 8 with code 7", 7, 39, 8, FULL_PAGE, 7, 0, 0, FULL_PAGE},
+    /* Sixteen cells rise from level 2, one in each stage. */
+    {"every second cell from level 2", 3, 65534, 0, STEEP, 0, 448, 65534, FULL_PAGE},
+    {"every second cell from level 2 with code 7", 7, 30, 0, STEEP, 0, 448, 30, FULL_PAGE},
+};
+
+static void low_byte_first(uint16_t value, uint8_t *data)
+{
+    data[0] = (uint8_t)(value & 0xffu);
+    data[1] = (uint8_t)(value >> 8);
+}
+
+/* A write in a band on this page: the answer, and the page after it. */
+static void band_gives(const char *what, uint32_t code, const uint8_t *before, uint16_t value, uint32_t band, uint64_t expected, const uint8_t *after)
+{
+    struct guarded page;
+    fill(&page, before, BAND_PAGE);
+    check(what, segrunov_write_band(code, inside(&page), BAND_PAGE, value, band) == expected);
+    check(what, holds(&page, after, BAND_PAGE));
+    check(what, SEGRUNOV_VALUE(expected) <= SEGRUNOV_MAX_BAND_COST);
+}
+
+/* What a plain write of a value leaves of this page. */
+static uint64_t plain(uint32_t code, const uint8_t *before, uint16_t value, struct guarded *page)
+{
+    uint8_t data[BAND_DATA];
+    fill(page, before, BAND_PAGE);
+    low_byte_first(value, data);
+    return segrunov_write(code, BAND_DATA, BAND_STRIP, inside(page), BAND_PAGE, data, BAND_DATA);
+}
+
+/* Where it is done, the page reads as the value stored, the low byte first, and a plain write of this one is the same. */
+static void known_bands(void)
+{
+    size_t i;
+    for (i = 0; i < sizeof KNOWN_BANDS / sizeof *KNOWN_BANDS; i++) {
+        const struct known_band *k = &KNOWN_BANDS[i];
+        band_gives(k->what, k->code, k->before, k->value, k->band, answer(k->number, k->cost), k->after);
+        if (k->number == SEGRUNOV_DONE) {
+            const uint32_t away = k->value < k->stored ? (uint32_t)k->stored - k->value : (uint32_t)k->value - k->stored;
+            uint8_t data[BAND_DATA];
+            struct guarded page, back;
+            low_byte_first(k->stored, data);
+            fill(&back, data, 0);
+            check(k->what, segrunov_read(k->code, BAND_DATA, BAND_STRIP, k->after, BAND_PAGE, inside(&back), BAND_DATA) == 0);
+            check(k->what, holds(&back, data, BAND_DATA));
+            check(k->what, away <= k->band);
+            check(k->what, plain(k->code, k->before, k->stored, &page) == k->cost);
+            check(k->what, holds(&page, k->after, BAND_PAGE));
+        }
+    }
+}
+
+/* The value for the one found so far, where its price is less. */
+static void cheaper(uint32_t code, const uint8_t *page, uint16_t value, uint64_t *least, uint16_t *stored)
+{
+    uint8_t data[BAND_DATA];
+    uint64_t price;
+    low_byte_first(value, data);
+    price = segrunov_price(code, BAND_DATA, BAND_STRIP, page, BAND_PAGE, data, BAND_DATA);
+    if (price < *least) {
+        *least = price;
+        *stored = value;
+    }
+}
+
+/*
+ * Each band from 0 to the widest on this page, beside single prices. A wider one has two values more at most, and takes them only where they are
+ * cheaper, the lower before the higher: so it never costs more. A 7 is above every cost, and is the least only where all of them are spent. The band
+ * 0 is the plain write. Gives the page that the asked one of the bands leaves, and its answer.
+ */
+static uint64_t bands_by_prices(const char *what, uint32_t code, const uint8_t *before, uint16_t value, uint32_t asked, uint8_t *after)
+{
+    uint64_t least = UINT64_MAX, given = 0;
+    uint16_t stored = value;
+    uint32_t band;
+    size_t i;
+    for (band = 0; band <= SEGRUNOV_MAX_BAND; band++) {
+        struct guarded page;
+        if (band <= value) {
+            cheaper(code, before, (uint16_t)(value - band), &least, &stored);
+        }
+        if (value + band <= UINT16_MAX) {
+            cheaper(code, before, (uint16_t)(value + band), &least, &stored);
+        }
+        check(what, plain(code, before, stored, &page) == least);
+        band_gives(what, code, before, value, band, least, inside(&page));
+        if (band == asked) {
+            given = least;
+            for (i = 0; i < BAND_PAGE; i++) {
+                after[i] = inside(&page)[i];
+            }
+        }
+    }
+    return given;
+}
+
+/* Bytes and values from the same numbers on every machine. */
+static uint32_t drawn(uint32_t *seed)
+{
+    *seed = *seed * 1664525u + 1013904223u;
+    return *seed >> 16;
+}
+
+/* Pages with few ones, with half of them and with most of them, and with each a value near 0, one near 65,535 and any one. */
+static void bands_on_many_pages(void)
+{
+    static const uint32_t codes[2] = {SEGRUNOV_SHORT, SEGRUNOV_LONG};
+    const char *const what = "bands by single prices";
+    uint32_t seed = 20261118;
+    unsigned round;
+    size_t c, i;
+    for (c = 0; c < 2; c++) {
+        for (round = 0; round < 9; round++) {
+            uint8_t before[BAND_PAGE], after[BAND_PAGE];
+            for (i = 0; i < BAND_PAGE; i++) {
+                const uint32_t bits = drawn(&seed), more = drawn(&seed);
+                before[i] = (uint8_t)(round % 3 == 0 ? bits & more : round % 3 == 1 ? bits : bits | more);
+            }
+            (void)bands_by_prices(what, codes[c], before, (uint16_t)(drawn(&seed) % 9), 0, after);
+            (void)bands_by_prices(what, codes[c], before, (uint16_t)(UINT16_MAX - drawn(&seed) % 9), 0, after);
+            (void)bands_by_prices(what, codes[c], before, (uint16_t)drawn(&seed), 0, after);
+        }
+    }
+}
+
+/* More temperatures than any page below takes. */
+enum { TEMPERATURES = 40 };
+
+/*
+ * A winding that warms and cools, from an erased page until it is spent in this band; each page on the way is tried with every band. The first three
+ * writes are certain, as those of the values stored are. Gives how many are done.
+ */
+static unsigned winding(uint32_t code, uint32_t band)
+{
+    static const uint8_t weights[SEGRUNOV_CERTAIN_WRITES] = {SEGRUNOV_HOUSE_W1, SEGRUNOV_HOUSE_W2, SEGRUNOV_HOUSE_W3};
+    const char *const what = "a winding's temperature";
+    uint8_t page[BAND_PAGE] = {0};
+    uint32_t seed = 20261119;
+    uint16_t value = 900;
+    unsigned done;
+    for (done = 0; done < TEMPERATURES; done++) {
+        uint8_t after[BAND_PAGE];
+        uint64_t given;
+        size_t i;
+        value = (uint16_t)(value + drawn(&seed) % 25 - 12);
+        given = bands_by_prices(what, code, page, value, band, after);
+        if (done < SEGRUNOV_CERTAIN_WRITES) {
+            check(what, SEGRUNOV_NUMBER(given) == SEGRUNOV_DONE);
+            check(what, SEGRUNOV_VALUE(given) <= SEGRUNOV_CERTAIN_COST(weights[done], SEGRUNOV_BAND_BYTES, SEGRUNOV_BAND_STRIPS));
+        }
+        if (SEGRUNOV_NUMBER(given) != SEGRUNOV_DONE) {
+            break;
+        }
+        for (i = 0; i < BAND_PAGE; i++) {
+            page[i] = after[i];
+        }
+    }
+    return done;
+}
+
+/* How many of the same temperatures a page takes in a band, by the model in tests/run.py. */
+struct known_winding {
+    uint32_t code;
+    uint32_t band;
+    unsigned done;
+};
+
+static void windings(void)
+{
+    static const struct known_winding KNOWN[] = {{3, 0, 9}, {3, 3, 27}, {7, 0, 10}, {7, 3, 26}};
+    size_t i;
+    for (i = 0; i < sizeof KNOWN / sizeof *KNOWN; i++) {
+        check("temperatures that a page takes", winding(KNOWN[i].code, KNOWN[i].band) == KNOWN[i].done);
+    }
+}
+
 /* A word, and the fields that the header's macros give of it. */
 struct known_word {
     const char *what;
@@ -1051,6 +1344,8 @@ static const struct known_word KNOWN_WORDS[] = {
     {"a list that is refused", UINT64_C(0x0000000a00000000), 0, SEGRUNOV_COUNT, 0, 0},
     {"a write at the bound of its cost", UINT64_C(0x0000000000ff0000), SEGRUNOV_MAX_WEIGHTED_COST, SEGRUNOV_DONE, 0, 0},
     {"a write spent in strip 63", UINT64_C(0x000000070000003f), 63, SEGRUNOV_SPENT, 0, 0},
+    {"a write in a band at the bound of its cost", UINT64_C(0x0000000000000380), SEGRUNOV_MAX_BAND_COST, SEGRUNOV_DONE, 0, 0},
+    {"a band that is refused", UINT64_C(0x0000000c00000000), 0, SEGRUNOV_BAND, 0, 0},
 };
 
 static void known_words(void)
@@ -1064,6 +1359,9 @@ static void known_words(void)
     check("the bytes of a list", SEGRUNOV_LIST_BYTES(64, 64, 64) == 262144 && SEGRUNOV_LIST_BYTES(2, 3, 5) == 30);
     check("the bytes of a list, of sums", SEGRUNOV_LIST_BYTES(1 + 1, 1 + 2, 2 + 3) == 30);
     check("the bound of a list", 255u * 3u * LARGE_CELLS == SEGRUNOV_MAX_LIST_COST);
+    check("the bound of a write in a band", 16u * BAND_DATA * BAND_STRIP * SEGRUNOV_HOUSE_W3 == SEGRUNOV_MAX_BAND_COST);
+    check("the page of a band", SEGRUNOV_PAGE_BYTES(SEGRUNOV_BAND_BYTES, SEGRUNOV_BAND_STRIPS) == BAND_PAGE);
+    check("the shape of a band", SEGRUNOV_BAND_BYTES == BAND_DATA && SEGRUNOV_BAND_STRIPS == BAND_STRIP && SEGRUNOV_MAX_BAND == 8);
     check("the bound of the first write", SEGRUNOV_CERTAIN_COST(SEGRUNOV_HOUSE_W1, 1, 1) == 128);
     check("the bound of the second write", SEGRUNOV_CERTAIN_COST(SEGRUNOV_HOUSE_W2, 1, 1) == 160);
     check("the bound of the third write", SEGRUNOV_CERTAIN_COST(SEGRUNOV_HOUSE_W3, 1, 1) == 224);
@@ -1281,7 +1579,7 @@ static void known_mapped_erases(void)
     }
 }
 
-/* What the calls with a map and the lists are made with. A length of 0 goes with NULL. */
+/* What the calls with a map, the lists and the band are made with. A length of 0 goes with NULL. */
 struct arguments {
     uint32_t code;
     uint32_t bytes;
@@ -1293,6 +1591,7 @@ struct arguments {
     size_t data_len;
     uint8_t filled; /* every byte of the page */
     int16_t tenths;
+    uint32_t band;
 };
 
 static uint8_t *at(struct guarded *g, size_t length)
@@ -1300,8 +1599,8 @@ static uint8_t *at(struct guarded *g, size_t length)
     return length == 0 ? NULL : inside(g);
 }
 
-/* The calls that are refused alike: price and write with a map, the erase with a map, the list, and the list with a map. */
-enum refused_calls { MAPPED, MAPPED_ERASE, LIST, MAPPED_LIST };
+/* The calls that are refused alike: price and write with a map, the erase with a map, the list, the list with a map, and the write in a band. */
+enum refused_calls { MAPPED, MAPPED_ERASE, LIST, MAPPED_LIST, BAND };
 
 /* These calls are refused so, and nothing is changed by them. */
 static void refused(const char *what, const struct arguments *a, enum refused_calls calls, uint32_t number)
@@ -1340,13 +1639,16 @@ static void refused(const char *what, const struct arguments *a, enum refused_ca
         check(what, expected == segrunov_write_list_mapped(a->code, a->bytes, a->strips, 1, a->w2, 3, a->count, at(&page, a->page_len), a->page_len,
                                                            at(&map, a->map_len), a->map_len, at(&data, a->data_len), a->data_len));
         break;
+    case BAND:
+        check(what, expected == segrunov_write_band(a->code, at(&page, a->page_len), a->page_len, 0x8080, a->band));
+        break;
     }
     check(what, holds(&page, before, a->page_len));
     check(what, holds(&map, marks, a->map_len));
     check(what, holds(&data, bytes, a->data_len));
 }
 
-/* Gives a call this ground. A full page does not take the data 80. */
+/* Gives a call this ground. A full page does not take the data 80, nor a value near 8080. */
 static void spoil(struct arguments *a, uint32_t number)
 {
     switch (number) {
@@ -1364,6 +1666,9 @@ static void spoil(struct arguments *a, uint32_t number)
         break;
     case SEGRUNOV_COUNT:
         a->count = 65;
+        break;
+    case SEGRUNOV_BAND:
+        a->band = 9;
         break;
     case SEGRUNOV_PAGE_LENGTH:
         a->page_len = 7;
@@ -1386,9 +1691,10 @@ static void spoil(struct arguments *a, uint32_t number)
 /* A list of three datas where the calls are lists. */
 static struct arguments in_order(enum refused_calls calls)
 {
-    const struct arguments single = {7, 1, 1, 2, 1, 6, 2, 1, 0x11, 250};
-    const struct arguments list = {7, 1, 1, 2, 3, 6, 2, 3, 0x11, 250};
-    return calls == LIST || calls == MAPPED_LIST ? list : single;
+    const struct arguments single = {7, 1, 1, 2, 1, 6, 2, 1, 0x11, 250, 0};
+    const struct arguments list = {7, 1, 1, 2, 3, 6, 2, 3, 0x11, 250, 0};
+    const struct arguments band = {7, BAND_DATA, BAND_STRIP, 2, 1, BAND_PAGE, 4, BAND_DATA, 0x11, 250, 3};
+    return calls == BAND ? band : calls == LIST || calls == MAPPED_LIST ? list : single;
 }
 
 /* Each ground by itself, and every two of them: the answer is the one that is tested first. */
@@ -1514,6 +1820,62 @@ static void known_list_refusals(void)
     }
 }
 
+/* A write in a band that is refused. */
+struct known_band_refusal {
+    const char *what;
+    uint32_t code;
+    uint32_t band;
+    size_t page_len;
+    uint8_t filled;
+    uint32_t number;
+};
+
+/* Bands whose lower byte or half is one that is allowed are refused as well; so is the widest that there is, which has what a full page holds. */
+static const struct known_band_refusal KNOWN_BAND_REFUSALS[] = {
+    {"code 0 of a band", 0, 0, 12, 0, 1},
+    {"code 5 of a band", 5, 8, 12, 0, 1},
+    {"the largest code of a band", UINT32_MAX, 3, 12, 0, 1},
+    {"a band of 9", 3, 9, 12, 0, 12},
+    {"a band of 9 with code 7", 7, 9, 12, 0, 12},
+    {"a band of 10", 3, 10, 12, 0x5a, 12},
+    {"a band of 255", 3, 255, 12, 0, 12},
+    {"a band of 256", 7, 256, 12, 0, 12},
+    {"a band of 264", 3, 264, 12, 0, 12},
+    {"a band of 2^16", 7, 65536, 12, 0, 12},
+    {"a band of 2^16 + 3", 3, 65539, 12, 0, 12},
+    {"a band of 2^31 + 1", 3, UINT32_C(0x80000001), 12, 0, 12},
+    {"the widest band that there is", 3, UINT32_MAX, 12, 0, 12},
+    {"the widest band that there is, on a full page", 7, UINT32_MAX, 12, 0xff, 12},
+    {"a band of 9 and no page", 3, 9, 0, 0, 12},
+    {"no page for a band", 3, 3, 0, 0, 4},
+    {"a page of 1 byte for a band", 7, 3, 1, 0, 4},
+    {"a page of L = 1 for a band", 3, 0, 6, 0, 4},
+    {"a page of 11 bytes for a band", 3, 3, 11, 0, 4},
+    {"a page of 11 full bytes for a band", 7, 8, 11, 0xff, 4},
+    {"a page of 13 bytes for a band", 7, 3, 13, 0, 4},
+    {"a page of two strips for a band", 3, 8, 24, 0, 4},
+    {"a page of three strips for a band", 7, 3, 36, 0xff, 4},
+    {"a full page for a band of 0", 3, 0, 12, 0xff, 7},
+    {"a full page for the widest band", 3, 8, 12, 0xff, 7},
+    {"a full page for the widest band with code 7", 7, 8, 12, 0xff, 7},
+};
+
+static void known_band_refusals(void)
+{
+    static const uint32_t of_bands[] = {1, 12, 4, 7};
+    size_t i;
+    grounds_in_order(of_bands, sizeof of_bands / sizeof *of_bands, BAND);
+    for (i = 0; i < sizeof KNOWN_BAND_REFUSALS / sizeof *KNOWN_BAND_REFUSALS; i++) {
+        const struct known_band_refusal *k = &KNOWN_BAND_REFUSALS[i];
+        struct arguments a = in_order(BAND);
+        a.code = k->code;
+        a.band = k->band;
+        a.page_len = k->page_len;
+        a.filled = k->filled;
+        refused(k->what, &a, BAND, k->number);
+    }
+}
+
 static void all(void)
 {
     known_writes();
@@ -1533,8 +1895,12 @@ static void all(void)
     dearest_writes();
     catching_up();
     certain();
+    known_bands();
+    bands_on_many_pages();
+    windings();
     known_words();
     known_list_refusals();
+    known_band_refusals();
 }
 
 #ifdef FREESTANDING

@@ -3,10 +3,11 @@
 //   compare [SEED [FACTOR]]
 //
 // The graph and the reading are made from document 01 alone, and from what document 02 says of the weights, of the bit that a raise sets, of marked
-// cells and of lists. A vertex is a stage of a strip with the bits of the cells of the last m stages, all that the sum for a data bit needs of the
-// past. An edge is a choice of levels for the two cells of a stage: neither below its old level, a marked one not above it, the data bit right. Its
-// weight is the cost of the two climbs. Boost gives the distance of every vertex to the end of the strip; a walk from the start along edges that lose
-// no cost, the lowest levels first, is then the write that document 01 asks for, ties included. A list is judged as such writes, one after another.
+// cells, of lists and of bands. A vertex is a stage of a strip with the bits of the cells of the last m stages, all that the sum for a data bit needs
+// of the past. An edge is a choice of levels for the two cells of a stage: neither below its old level, a marked one not above it, the data bit as it
+// is wanted. Its weight is the cost of the two climbs. Boost gives the distance of every vertex to the end of the strip; a walk from the start along
+// edges that lose no cost, the lowest levels first, is then the write that document 01 asks for, ties included. A list is judged as such writes, one
+// after another; a write in a band as such a write of each of its values, of which one is taken: the cheapest, then the nearest, then the lower.
 // The first three writes after an erase are also held to the bound that document 02 has for them.
 // Reads, erases, refusals and writes of what is held need no search: the papers say outright what they give. Pages too wide for the search are held
 // against the library's own single writes. The last line has how many calls each of the three judged. In every call the levels are summed: document
@@ -34,6 +35,7 @@
 #include <random>
 #include <set>
 #include <string>
+#include <tuple>
 #include <utility>
 #include <vector>
 
@@ -189,6 +191,18 @@ std::uint64_t sum_of_levels(const Bytes& page) {
 
 // The ledger of documents 01 and 02: the sum of a page's levels is that of the page from which raises are counted, and the raises since.
 bool ledger_holds(const Bytes& from, std::uint64_t raises, const Bytes& page) { return sum_of_levels(page) == sum_of_levels(from) + raises; }
+
+// ---------------------------------------------------------------- document 02, K6: a value that need not be exact
+
+constexpr Shape kBandShape = {2, 1};         // of its page
+constexpr std::uint32_t kWidest = 8;         // the widest band
+constexpr std::uint32_t kLastValue = 65535;  // nothing goes round there, nor at 0
+
+// 'Low byte first.'
+Bytes bytes_of_value(std::uint32_t value) { return Bytes{static_cast<std::uint8_t>(value % 256), static_cast<std::uint8_t>(value / 256)}; }
+std::uint32_t value_of_bytes(const Bytes& data) { return data[0] + 256U * data[1]; }
+
+std::uint32_t away(std::uint32_t value, std::uint32_t other) { return value < other ? other - value : value - other; }
 
 // ---------------------------------------------------------------- document 02, K7: pages of an older release
 
@@ -506,22 +520,50 @@ PageSearch search_page(const Code& code, Shape shape, const Weights& weights, co
   return result;
 }
 
+// A value that a band may store, and what a plain write of it gives.
+struct Offer {
+  std::uint32_t value;
+  PageSearch write;
+};
+
+// One for each value of the widest band, in ascending order.
+std::vector<Offer> search_band(const Code& code, const Bytes& page, std::uint32_t value) {
+  std::vector<Offer> offers;
+  for (std::uint32_t other = value - std::min(value, kWidest); other <= std::min(value + kWidest, kLastValue); ++other) {
+    offers.push_back(Offer{other, search_page(code, kBandShape, kHouse, page, no_marks(kBandShape), bytes_of_value(other))});
+  }
+  return offers;
+}
+
+// 'It takes the cheapest page over all of these. Between values at the same cost it takes the nearest, then the lower.' A 7 is above every cost, so
+// that the one taken is spent only where all of them are.
+const Offer& taken(const std::vector<Offer>& offers, std::uint32_t value, std::uint32_t band) {
+  const auto rank = [=](const Offer& offer) {
+    const std::uint32_t distance = away(offer.value, value);
+    return std::make_tuple(distance > band, offer.write.answer, distance, offer.value);
+  };
+  return *std::min_element(offers.begin(), offers.end(), [=](const Offer& a, const Offer& b) { return rank(a) < rank(b); });
+}
+
 // ---------------------------------------------------------------- calls of the library
 
-// The single calls without a map, those with one, and the lists.
+// The single calls without a map, those with one, the lists, and the write in a band.
 enum Function : unsigned {
-  kRead, kPrice, kWrite, kPriceWeighted, kWriteWeighted, kErase, kPriceMapped, kWriteMapped, kEraseMapped, kList, kListMapped, kFunctions
+  kRead, kPrice, kWrite, kPriceWeighted, kWriteWeighted, kErase, kPriceMapped, kWriteMapped, kEraseMapped, kList, kListMapped, kWriteBand, kFunctions
 };
 constexpr unsigned kUnmapped = kPriceMapped;  // so many are before the first with a map
 constexpr unsigned kSingle = kList;           // so many are before the lists
+constexpr unsigned kExact = kWriteBand;       // so many are before the band
 constexpr std::array<const char*, kFunctions> kFunctionName = {
-    "read",         "price",        "write",      "price_weighted",   "write_weighted", "erase", "price_mapped",
-    "write_mapped", "erase_mapped", "write_list", "write_list_mapped"};
+    "read",         "price",        "write",      "price_weighted",    "write_weighted", "erase", "price_mapped",
+    "write_mapped", "erase_mapped", "write_list", "write_list_mapped", "write_band"};
 
-bool is_list(Function function) { return function >= kSingle; }
-bool takes_map(Function function) { return function >= kUnmapped && function != kList; }
+bool is_band(Function function) { return function >= kExact; }
+bool is_list(Function function) { return function >= kSingle && !is_band(function); }
+bool takes_map(Function function) { return function >= kUnmapped && function != kList && !is_band(function); }
 bool is_erase(Function function) { return function == kErase || function == kEraseMapped; }
-bool takes_weights(Function function) { return function >= kPriceWeighted && !is_erase(function); }
+bool takes_weights(Function function) { return function >= kPriceWeighted && !is_erase(function) && !is_band(function); }
+bool takes_data(Function function) { return !is_erase(function) && !is_band(function); }
 
 struct Call {
   Function function;
@@ -534,6 +576,8 @@ struct Call {
   std::int16_t tenths;
   Bytes map = {};           // of a call that takes one
   std::uint32_t count = 1;  // of a list
+  std::uint32_t value = 0;  // of a write in a band, and how far from it the one stored may be
+  std::uint32_t band = 0;
 };
 
 struct Outcome {
@@ -567,7 +611,8 @@ void print_outcome(const char* whose, const Outcome& outcome) {
               kFunctionName[call.function], static_cast<unsigned long>(call.code), static_cast<unsigned long>(call.bytes),
               static_cast<unsigned long>(call.strips), call.weights[0], call.weights[1], call.weights[2], call.tenths, call.page.size(),
               call.map.size(), call.data.size());
-  std::printf("count %lu map %s\n", static_cast<unsigned long>(call.count), hex(call.map).c_str());
+  std::printf("count %lu value %lu band %lu map %s\n", static_cast<unsigned long>(call.count), static_cast<unsigned long>(call.value),
+              static_cast<unsigned long>(call.band), hex(call.map).c_str());
   print_outcome("before", Outcome{0, call.page, call.data});
   print_outcome("expected", expected);
   print_outcome("got", got);
@@ -629,12 +674,17 @@ enum ListDatas : unsigned { kAnyDatas, kNearDatas, kFittingDatas, kListDatas };
 // The datas of the first writes after an erase: any, the complement of what the page reads as, or dear for each strip.
 enum CertainDatas : unsigned { kSomeDatas, kComplements, kDearDatas, kCertainDatas };
 
+// The values that a page is tried with in a band: any, or near what it holds, what it takes, an end, a multiple of 256.
+enum ValueKind : unsigned { kAnyValue, kNearHeld, kNearFitting, kNearFirst, kNearLast, kNearByte, kValueKinds };
+
+constexpr std::size_t kNumbers = 13;  // of refusals, from 0 to 12
+
 // What was met, so that a run that judged nothing of a kind cannot pass.
 struct Counts {
   std::array<std::uint64_t, kFunctions> calls{};
   std::array<std::uint64_t, kBases> judged{};  // calls by what they are judged by
-  std::array<std::array<std::uint64_t, 12>, kFunctions> refused{};  // by function and number
-  std::array<std::uint64_t, 2> done{};                              // writes by code, and so on
+  std::array<std::array<std::uint64_t, kNumbers>, kFunctions> refused{};  // by function and number
+  std::array<std::uint64_t, 2> done{};                                    // writes by code, and so on
   std::array<std::uint64_t, 2> spent{};
   std::array<std::uint64_t, 2> ties{};
   std::array<std::uint64_t, 2> out_of_order{};
@@ -671,7 +721,7 @@ struct Counts {
   std::array<std::uint64_t, 2> mapped_runs{};       // runs until spent under a map
   std::array<std::uint64_t, 2> runs_of_1{};         // of these, with steps of 1
   std::uint64_t erases_that_keep = 0;               // erases that empty some cells and leave bits of others
-  std::array<std::array<std::array<std::uint64_t, 12>, 12>, kFunctions> pairs{};  // refused with two grounds: by function, first and second
+  std::array<std::array<std::array<std::uint64_t, kNumbers>, kNumbers>, kFunctions> pairs{};  // refused with two grounds: function, first and second
 
   // Of the lists that the search judged.
   std::array<std::uint64_t, kListStarts> list_starts{};   // by the page that they start from
@@ -696,6 +746,28 @@ struct Counts {
   std::array<std::uint64_t, 2> certain{};        // by code: the three and a list of them, judged by the search
   std::array<std::uint64_t, 2> certain_bytes{};  // writes of one byte, all datas in turn, held to the bounds alone
   std::uint64_t certain_wide = 0;                // the three and a list of them, held to the bounds alone
+
+  // Of the writes in a band that the search judged.
+  std::array<std::uint64_t, kWidest + 1> bands{};      // by the band
+  std::array<std::uint64_t, 2> bands_done{};           // by code, and so on
+  std::array<std::uint64_t, 2> bands_spent{};          // for every value
+  std::array<std::uint64_t, 2> bands_plain{};          // of 0, and beside it the plain write
+  std::array<std::uint64_t, 2> bands_instead{};        // done, and the plain write is spent
+  std::array<std::uint64_t, 2> bands_cheaper{};        // cheaper than the plain write
+  std::array<std::uint64_t, 2> bands_nearest{};        // another value farther away costs as much
+  std::array<std::uint64_t, 2> bands_lower{};          // another value as far away costs as much
+  std::array<std::uint64_t, 2> bands_by_path{};        // another page that reads as the value stored costs as much
+  std::array<std::uint64_t, 2> bands_at_end{};         // the value stored is as far away as the widest band allows
+  std::array<std::uint64_t, 2> bands_cut_at_first{};   // a value beyond 0 would be cheaper, were there one
+  std::array<std::uint64_t, 2> bands_cut_at_last{};    // beyond 65,535
+  std::array<std::uint64_t, 2> bands_over_byte{};      // the value stored has another high byte than the one given
+  std::array<std::uint64_t, 2> bands_wider_cheaper{};  // cheaper than in the next narrower band
+  std::array<std::uint64_t, 2> bands_wider_done{};     // done, and spent in the next narrower band
+  std::array<std::uint64_t, 2> bands_runs{};           // runs until spent
+
+  // Of those that need no search.
+  std::array<std::uint64_t, 2> bands_held{};        // the band has what the page holds
+  std::array<std::uint64_t, 2> bands_full_spent{};  // the page is full, and the band does not have what it holds
 };
 
 // How much is done: the random cases so many times, or one part in so many.
@@ -1172,6 +1244,68 @@ class Judge {
     return most;
   }
 
+  // Judges a plain write of the value, a write in each band from 0 to the widest, and the reads after them. A wider band never costs more, and is
+  // never spent where a narrower one is not. Gives back what the search found for one of the bands.
+  PageSearch judge_bands(const Code& code, const Bytes& page, std::uint32_t value, std::uint32_t asked) {
+    const std::vector<Offer> offers = search_band(code, page, value);
+    const Offer& exact = taken(offers, value, 0);
+    const Bytes data = bytes_of_value(value);
+    judge(Call{kWrite, code.name, kBandShape.bytes, kBandShape.strips, kHouse, page, data, 0}, written(exact.write, data));
+    std::uint64_t narrower = exact.write.answer;
+    for (std::uint32_t band = 0; band <= kWidest; ++band) {
+      const Offer& offer = taken(offers, value, band);
+      judge(band_call(code, page, value, band), written(offer.write, Bytes()));
+      if (offer.write.answer > narrower) give_up("the search itself is wrong: a wider band costs more, or is spent where a narrower one is not");
+      if (SEGRUNOV_NUMBER(offer.write.answer) == SEGRUNOV_DONE) {
+        const bool right = value_of_bytes(read_page(code, kBandShape, offer.write.page)) == offer.value && away(offer.value, value) <= band;
+        if (!right) give_up("the search itself is wrong: its page does not read as a value of the band");
+        judge_read(code, kBandShape, offer.write.page, bytes_of_value(offer.value));
+      }
+      count_band(code, page, value, band, offers, narrower);
+      narrower = offer.write.answer;
+    }
+    ++counts_.bands_plain[code_index(code)];
+    return taken(offers, value, asked).write;
+  }
+
+  // What the page holds costs nothing, and no other value does; a full page takes no other. No search: the papers say so outright.
+  void judge_band_of_held(const Code& code, const Bytes& page, std::uint32_t value) {
+    const std::uint32_t held = value_of_bytes(read_page(code, kBandShape, page));
+    const bool full = page == Bytes(page.size(), 0xff);
+    for (std::uint32_t band = 0; band <= kWidest; ++band) {
+      const bool reached = away(held, value) <= band;
+      if (reached) {
+        judge(band_call(code, page, value, band), Outcome{0, page, Bytes()});
+      } else if (full) {
+        judge_refusal(band_call(code, page, value, band), SEGRUNOV_SPENT);
+      }
+      counts_.bands_held[code_index(code)] += reached ? 1 : 0;
+      counts_.bands_full_spent[code_index(code)] += !reached && full ? 1 : 0;
+    }
+  }
+
+  // At most 10 away from what its kind says.
+  std::uint32_t value_of_kind(ValueKind kind, const Code& code, const Bytes& page) {
+    std::uint32_t middle = 0;
+    switch (kind) {
+      case kAnyValue: middle = static_cast<std::uint32_t>(below(kLastValue + 1)); break;
+      case kNearHeld: middle = value_of_bytes(read_page(code, kBandShape, page)); break;
+      case kNearFitting: middle = value_of_bytes(fitting_data(code, kBandShape, page)); break;
+      case kNearFirst: break;
+      case kNearLast: middle = kLastValue; break;
+      default: middle = static_cast<std::uint32_t>(256 * (1 + below(255))); break;
+    }
+    return shifted(middle, 10);
+  }
+
+  // A value at most so far from another one, within the ends.
+  std::uint32_t shifted(std::uint32_t value, std::uint32_t most) {
+    const auto up = static_cast<std::uint32_t>(below(2 * most + 1));
+    return std::min(std::max(value + up, most) - most, kLastValue);
+  }
+
+  void count_band_run(const Code& code) { ++counts_.bands_runs[code_index(code)]; }
+
   void count_several_grounds() { ++counts_.several_grounds; }
   void count_pair(Function function, std::uint32_t first, std::uint32_t second) { ++counts_.pairs[function][first][second]; }
 
@@ -1203,6 +1337,7 @@ class Judge {
       case kList:
         return segrunov_write_list(call.code, call.bytes, call.strips, call.weights[0], call.weights[1], call.weights[2], call.count, page.pointer(),
                                    page.length(), data.pointer(), data.length());
+      case kWriteBand: return segrunov_write_band(call.code, page.pointer(), page.length(), static_cast<std::uint16_t>(call.value), call.band);
       default:
         return segrunov_write_list_mapped(call.code, call.bytes, call.strips, call.weights[0], call.weights[1], call.weights[2], call.count,
                                           page.pointer(), page.length(), map.pointer(), map.length(), data.pointer(), data.length());
@@ -1217,6 +1352,10 @@ class Judge {
     const std::uint64_t answer = perform(call, page, map, data);
     const Bytes left = page.inner();
     return Outcome{answer, left, data.inner(), levels_between(call.page, left), kByOwn};
+  }
+
+  static Call band_call(const Code& code, const Bytes& page, std::uint32_t value, std::uint32_t band) {
+    return Call{kWriteBand, code.name, kBandShape.bytes, kBandShape.strips, kHouse, page, Bytes(), 0, Bytes(), 1, value, band};
   }
 
   void judge_read_into(const Bytes& buffer, const Code& code, Shape shape, const Bytes& page, const Bytes& data) {
@@ -1372,6 +1511,53 @@ class Judge {
     counts_.erased_spent[i] += !done && sum_of_levels(page) == 0 ? 1 : 0;
   }
 
+  // Whether a value that the end at 0, or that at 65,535, keeps out of the band would be cheaper, did values go round there. By the library's own
+  // price: it is only counted.
+  static bool cheaper_beyond(const Code& code, const Bytes& page, std::uint32_t value, std::uint32_t band, std::uint64_t answer, bool first) {
+    constexpr std::uint32_t kValues = kLastValue + 1;
+    for (std::uint32_t distance = 1; distance <= band; ++distance) {
+      if (first ? distance <= value : value + distance <= kLastValue) continue;
+      const std::uint32_t beyond = (first ? value + kValues - distance : value + distance) % kValues;
+      const Call price = {kPrice, code.name, kBandShape.bytes, kBandShape.strips, kHouse, page, bytes_of_value(beyond), 0};
+      if (made(price).answer < answer) return true;
+    }
+    return false;
+  }
+
+  void count_band(const Code& code, const Bytes& page, std::uint32_t value, std::uint32_t band, const std::vector<Offer>& offers,
+                  std::uint64_t narrower) {
+    const std::size_t i = code_index(code);
+    const Offer& offer = taken(offers, value, band);
+    const std::uint64_t exact = taken(offers, value, 0).write.answer;
+    const std::uint64_t answer = offer.write.answer;
+    const std::uint32_t distance = away(offer.value, value);
+    const bool done = SEGRUNOV_NUMBER(answer) == SEGRUNOV_DONE;
+    ++counts_.bands[band];
+    ++(done ? counts_.bands_done : counts_.bands_spent)[i];
+    counts_.bands_cut_at_first[i] += cheaper_beyond(code, page, value, band, answer, true) ? 1 : 0;
+    counts_.bands_cut_at_last[i] += cheaper_beyond(code, page, value, band, answer, false) ? 1 : 0;
+    if (!done) return;
+    bool farther = false;
+    bool as_far = false;
+    for (const Offer& other : offers) {
+      const std::uint32_t there = away(other.value, value);
+      const bool equal = other.value != offer.value && there <= band && other.write.answer == answer;
+      farther = farther || (equal && there > distance);
+      as_far = as_far || (equal && there == distance);
+    }
+    const bool exact_spent = SEGRUNOV_NUMBER(exact) == SEGRUNOV_SPENT;
+    const bool narrower_spent = SEGRUNOV_NUMBER(narrower) == SEGRUNOV_SPENT;
+    counts_.bands_instead[i] += exact_spent ? 1 : 0;
+    counts_.bands_cheaper[i] += !exact_spent && answer < exact ? 1 : 0;
+    counts_.bands_nearest[i] += farther ? 1 : 0;
+    counts_.bands_lower[i] += as_far ? 1 : 0;
+    counts_.bands_by_path[i] += offer.write.tie ? 1 : 0;
+    counts_.bands_at_end[i] += distance == kWidest ? 1 : 0;
+    counts_.bands_over_byte[i] += offer.value / 256 != value / 256 ? 1 : 0;
+    counts_.bands_wider_cheaper[i] += !narrower_spent && answer < narrower ? 1 : 0;
+    counts_.bands_wider_done[i] += narrower_spent ? 1 : 0;
+  }
+
   // Beside a write with weights, the library's own without: spent with the same strip, or neither is; and whether the weights decided the page.
   void judge_weights(const Code& code, Shape shape, const Weights& weights, const Bytes& page, const Bytes& data, const PageSearch& least) {
     const Call call = {kWriteWeighted, code.name, shape.bytes, shape.strips, weights, page, data, 0};
@@ -1456,6 +1642,29 @@ void check_known_marks() {
     const PageSearch cell_15 = search_page(code, Shape{1, 1}, kHouse, erased, Bytes{0, 0x40}, Bytes{0x80});
     if (cell_14.answer != 16 || cell_14.page != Bytes{0, 0, 0, 0, 0, 0x10}) give_up("the search itself is wrong: cell 15 marked");
     if (cell_15.answer != 16 || cell_15.page != Bytes{0, 0, 0, 0, 0, 0x20}) give_up("the search itself is wrong: cell 14 marked");
+  }
+}
+
+// Document 02's words on made-up costs: 'the cheapest', then 'the nearest, then the lower'; and spent only where every value of the band is.
+void check_known_bands() {
+  struct Known {
+    std::array<std::uint64_t, 5> answers;  // to plain writes of 98 to 102
+    std::uint32_t band;
+    std::uint32_t stored;  // for 100, or 100 where all are spent
+  };
+  const std::uint64_t spent = answer_of(SEGRUNOV_SPENT, 0);
+  const std::vector<Known> table = {
+      {{16, 20, 48, 20, 16}, 0, 100},       {{16, 20, 48, 20, 16}, 1, 99},       {{16, 20, 48, 20, 16}, 2, 98},
+      {{16, 48, 48, 16, 16}, 2, 101},       {{20, 16, 16, 16, 20}, 2, 100},      {{48, 48, 48, 48, 16}, 2, 102},
+      {{20, spent, spent, 48, 0}, 1, 101},  {{spent, 48, spent, 20, 0}, 1, 101}, {{0, spent, spent, spent, 0}, 1, 100},
+      {{spent, spent, 0, spent, 0}, 2, 100}};
+  for (const Known& known : table) {
+    std::vector<Offer> offers(known.answers.size());
+    for (std::uint32_t i = 0; i < offers.size(); ++i) {
+      offers[i].value = 98 + i;
+      offers[i].write.answer = known.answers[i];
+    }
+    if (taken(offers, 100, known.band).value != known.stored) give_up("the search itself is wrong: a band of made-up costs");
   }
 }
 
@@ -1638,6 +1847,7 @@ std::vector<std::uint32_t> grounds(const Call& call) {
   const bool erase = is_erase(call.function);
   const std::uint64_t data_bytes = std::uint64_t{call.bytes} * call.strips;
   if (!erase && call.code != 3 && call.code != 7) numbers.push_back(SEGRUNOV_CODE);
+  if (is_band(call.function) && call.band > kWidest) numbers.push_back(SEGRUNOV_BAND);
   if (!within(call.bytes)) numbers.push_back(SEGRUNOV_BYTES);
   if (!within(call.strips)) numbers.push_back(SEGRUNOV_STRIPS);
   const bool zero = std::count(call.weights.begin(), call.weights.end(), 0) > 0;
@@ -1645,7 +1855,8 @@ std::vector<std::uint32_t> grounds(const Call& call) {
   if (is_list(call.function) && !within(call.count)) numbers.push_back(SEGRUNOV_COUNT);
   if (!is_times(call.page.size(), 6, data_bytes)) numbers.push_back(SEGRUNOV_PAGE_LENGTH);
   if (takes_map(call.function) && !is_times(call.map.size(), 2, data_bytes)) numbers.push_back(SEGRUNOV_MAP_LENGTH);
-  if (!erase && !is_times(call.data.size(), is_list(call.function) ? call.count : 1, data_bytes)) numbers.push_back(SEGRUNOV_DATA_LENGTH);
+  const std::uint32_t datas = is_list(call.function) ? call.count : 1;
+  if (takes_data(call.function) && !is_times(call.data.size(), datas, data_bytes)) numbers.push_back(SEGRUNOV_DATA_LENGTH);
   if (erase && !allowed_temperature(call.tenths)) numbers.push_back(SEGRUNOV_TEMPERATURE);
   return numbers;
 }
@@ -1657,6 +1868,12 @@ std::uint32_t bad_code(Judge& judge) {
 
 std::uint32_t bad_number(Judge& judge) {
   const std::array<std::uint32_t, 10> values = {0, 65, 66, 128, 255, 257, 0x10001U, 0x40000000U, 0x80000001U, 0xffffffffU};
+  return values[judge.place_below(values.size())];
+}
+
+// Just above the widest, and numbers whose lower byte or half is a band.
+std::uint32_t bad_band(Judge& judge) {
+  const std::array<std::uint32_t, 10> values = {9, 10, 16, 255, 256, 264, 0x10000U, 0x10008U, 0x80000001U, 0xffffffffU};
   return values[judge.place_below(values.size())];
 }
 
@@ -1691,9 +1908,22 @@ std::size_t list_length_for(std::uint32_t count, std::size_t data_bytes) {
   return product <= 66 * kMost * kMost ? static_cast<std::size_t>(product) : data_bytes;
 }
 
-// A call with these items at fault: bit 0 the code, 1 L, 2 S, 3 the page, 4 the data or the temperature, 5 a weight, 6 the map, 7 the count. Half of
-// the pages are full and hardly ever take the random data, so that 7 competes with the grounds from the input.
+// The write in a band has a shape of its own, and of the items the code, the page and the band.
+Call band_with_faults(Judge& judge, std::uint64_t set) {
+  Call call = {kWriteBand, judge.chance(1, 2) ? 3U : 7U, kBandShape.bytes, kBandShape.strips, kHouse, Bytes(), Bytes(), 0};
+  if ((set & 1) != 0) call.code = bad_code(judge);
+  const std::size_t page_bytes = page_length(kBandShape);
+  const std::size_t length = (set & 8) != 0 ? bad_length(judge, page_bytes) : page_bytes;
+  call.page = judge.chance(1, 2) ? Bytes(length, 0xff) : judge.random_bytes(length);
+  call.value = static_cast<std::uint32_t>(judge.below(kLastValue + 1));
+  call.band = (set & 256) != 0 ? bad_band(judge) : static_cast<std::uint32_t>(judge.below(kWidest + 1));
+  return call;
+}
+
+// A call with these items at fault: bit 0 the code, 1 L, 2 S, 3 the page, 4 the data or the temperature, 5 a weight, 6 the map, 7 the count, 8 the
+// band. Half of the pages are full and hardly ever take the random data, so that 7 competes with the grounds from the input.
 Call call_with_faults(Judge& judge, Function function, Shape shape, std::uint64_t set) {
+  if (is_band(function)) return band_with_faults(judge, set);
   Call call = {function, judge.chance(1, 2) ? 3U : 7U, shape.bytes, shape.strips, judge.random_weights(), Bytes(), Bytes(), 250};
   if ((set & 1) != 0) call.code = bad_code(judge);
   if ((set & 2) != 0) call.bytes = bad_number(judge);
@@ -1726,7 +1956,8 @@ struct Group {
 };
 constexpr Group kPlainCalls = {0, kUnmapped, 6, "refusals"};
 constexpr Group kMappedCalls = {kUnmapped, kSingle, 7, "refusals with a map"};
-constexpr Group kListCalls = {kSingle, kFunctions, 8, "refusals of lists"};
+constexpr Group kListCalls = {kSingle, kExact, 8, "refusals of lists"};
+constexpr Group kBandCalls = {kExact, kFunctions, 9, "refusals of bands"};
 
 // Few of the items at fault as a rule, now and then any of them.
 Call spoiled_call(Judge& judge, const Group& group) {
@@ -1763,6 +1994,7 @@ std::vector<std::uint32_t> refusals_of(Function function) {
     case kEraseMapped: return {2, 3, 4, 11, 8};
     case kList: return {1, 2, 3, 9, 10, 4, 5, 7};
     case kListMapped: return {1, 2, 3, 9, 10, 4, 11, 5, 7};
+    case kWriteBand: return {1, 12, 4, 7};
     default: return {1, 2, 3, 4, 5, 7};
   }
 }
@@ -1777,13 +2009,21 @@ std::uint64_t item_of(std::uint32_t number) {
     case SEGRUNOV_WEIGHT: return 32;
     case SEGRUNOV_MAP_LENGTH: return 64;
     case SEGRUNOV_COUNT: return 128;
+    case SEGRUNOV_BAND: return 256;
     case SEGRUNOV_SPENT: return 0;
     default: return 16;
   }
 }
 
+// Whether the band, however wide, does not have the value that a full page reads as, whatever the code.
+bool far_from_full(const Call& call) {
+  return std::all_of(kCodes.begin(), kCodes.end(), [&](const Code& code) {
+    return away(value_of_bytes(read_page(code, kBandShape, Bytes(page_length(kBandShape), 0xff))), call.value) > call.band;
+  });
+}
+
 // Two grounds at once: the first in the order is the answer. A page is spent where it is full and the data zeros, since no full page reads as zeros;
-// or where it is erased with every cell marked and the data is not zeros.
+// or where it is erased with every cell marked and the data is not zeros. For a band it is full, and what it reads as is no value of the band.
 void two_grounds(Judge& judge, Function function, std::uint32_t first, std::uint32_t second) {
   const Shape shape = {static_cast<std::uint32_t>(1 + judge.below(4)), static_cast<std::uint32_t>(1 + judge.below(4))};
   Call call = call_with_faults(judge, function, shape, item_of(first) | item_of(second));
@@ -1798,7 +2038,8 @@ void two_grounds(Judge& judge, Function function, std::uint32_t first, std::uint
   }
   const std::vector<std::uint32_t> numbers = grounds(call);
   // A length that fits an L, S or count far beyond the limits is not to be had: then there is a third ground. And for no data no page is spent.
-  const bool both = numbers == wanted && (second != SEGRUNOV_SPENT || !call.data.empty());
+  const bool takes_none = is_band(function) ? far_from_full(call) : !call.data.empty();
+  const bool both = numbers == wanted && (second != SEGRUNOV_SPENT || takes_none);
   if (both) judge.count_pair(function, first, second);
   judge.judge_refusal(call, numbers.front());
 }
@@ -2153,6 +2394,83 @@ void certain_cases(Judge& judge) {
   progress(judge, "certain writes");
 }
 
+// ---------------------------------------------------------------- the writes in a band
+
+// Pages that hold one value, and another that is given: at the other end, which is no neighbour; across the border of the two bytes; as far away as
+// the widest band goes. And 6 on an erased page: with either code it is dearer than 5 and 7, and these cost the same.
+void bands_beside_held(Judge& judge, const Code& code) {
+  struct Beside {
+    std::uint32_t held;
+    std::uint32_t value;
+  };
+  const Bytes erased(page_length(kBandShape), 0);
+  for (const Beside beside : {Beside{kLastValue, 0}, Beside{0, kLastValue}, Beside{255, 256}, Beside{256, 255}, Beside{1000, 1000 + kWidest},
+                              Beside{1000, 1000 - kWidest}, Beside{0, 6}}) {
+    const Bytes page = search_page(code, kBandShape, kHouse, erased, no_marks(kBandShape), bytes_of_value(beside.held)).page;
+    judge.judge_bands(code, page, beside.value, kWidest);
+  }
+}
+
+// A page of each kind, and one that is nearly spent, with values of every kind.
+void band_pages(Judge& judge, const Code& code) {
+  for (std::uint64_t kind = 0; kind <= Judge::kStripKinds; ++kind) {
+    for (unsigned v = 0; v < kValueKinds; ++v) {
+      const std::size_t length = page_length(kBandShape);
+      const Bytes page = kind < Judge::kStripKinds ? judge.strip_of_kind(kind, length) : judge.random_full_cells(length, 7, 8);
+      judge.judge_bands(code, page, judge.value_of_kind(static_cast<ValueKind>(v), code, page), kWidest);
+    }
+  }
+}
+
+// A winding's temperature goes up and down by a few units, from erased until spent and some writes beyond, then an erase. The page is carried along
+// by the writes in one of the bands; the sum of its levels is the raises since the start.
+void band_run(Judge& judge, const Code& code, std::uint32_t band) {
+  const Bytes erased(page_length(kBandShape), 0);
+  Bytes page = erased;
+  std::uint64_t raises = 0;
+  auto value = judge.value_of_kind(static_cast<ValueKind>(judge.below(kValueKinds)), code, page);
+  for (unsigned beyond = 0; beyond < 4;) {
+    value = judge.shifted(value, 12);
+    const PageSearch least = judge.judge_bands(code, page, value, band);
+    if (beyond > 0 || SEGRUNOV_NUMBER(least.answer) == SEGRUNOV_SPENT) ++beyond;
+    page = least.page;
+    raises += least.raises;
+    judge.hold_ledger(erased, raises, page);
+  }
+  judge.count_band_run(code);
+  judge.judge(Call{kErase, 0, kBandShape.bytes, kBandShape.strips, kHouse, page, Bytes(), 200}, Outcome{0, erased, Bytes()});
+}
+
+// Near what a page holds; a full one also near both ends.
+void bands_of_held(Judge& judge, const Code& code) {
+  for (std::uint64_t kind = 0; kind < Judge::kStripKinds; ++kind) {
+    const Bytes page = judge.strip_of_kind(kind, page_length(kBandShape));
+    for (unsigned i = 0; i < 10; ++i) judge.judge_band_of_held(code, page, judge.value_of_kind(kNearHeld, code, page));
+  }
+  const Bytes full(page_length(kBandShape), 0xff);
+  for (std::uint32_t i = 0; i <= kWidest; ++i) {
+    for (const std::uint32_t value : {i, kLastValue - i}) judge.judge_band_of_held(code, full, value);
+  }
+}
+
+void band_cases(Judge& judge) {
+  for (const Code& code : kCodes) bands_beside_held(judge, code);
+  for (unsigned round = judge.rounds(50, 2); round > 0; --round) band_pages(judge, kCodes[0]);
+  for (unsigned round = judge.rounds(4, 1); round > 0; --round) band_pages(judge, kCodes[1]);
+  progress(judge, "bands");
+  for (unsigned round = judge.rounds(10, 1); round > 0; --round) {
+    for (std::uint32_t band = 0; band <= kWidest; ++band) band_run(judge, kCodes[0], band);
+  }
+  for (unsigned round = judge.rounds(4, 1); round > 0; --round) band_run(judge, kCodes[1], 2 * (round % 5));
+  progress(judge, "runs of bands until spent");
+  for (unsigned round = judge.rounds(20, 1); round > 0; --round) {
+    for (const Code& code : kCodes) bands_of_held(judge, code);
+  }
+  progress(judge, "bands of what is held");
+  refusals(judge, 10000, kBandCalls);
+  pairs_of_grounds(judge, kBandCalls);
+}
+
 // ---------------------------------------------------------------- the verdict
 
 // Prints a count; false if the kind was never met.
@@ -2233,6 +2551,24 @@ bool every_kind_met(const Counts& counts) {
   all = met_for_both_codes("three certain writes", counts.certain) && all;
   all = met_for_both_codes("certain writes, bounds alone", counts.certain_bytes) && all;
   all = met("three certain, not searched", "code 7", counts.certain_wide) && all;
+  for (unsigned band = 0; band <= kWidest; ++band) all = met("bands", std::to_string(band).c_str(), counts.bands[band]) && all;
+  all = met_for_both_codes("bands done", counts.bands_done) && all;
+  all = met_for_both_codes("bands spent for every value", counts.bands_spent) && all;
+  all = met_for_both_codes("bands of 0 and plain writes", counts.bands_plain) && all;
+  all = met_for_both_codes("bands done, the value spent", counts.bands_instead) && all;
+  all = met_for_both_codes("bands cheaper than the value", counts.bands_cheaper) && all;
+  all = met_for_both_codes("ties that the nearest decides", counts.bands_nearest) && all;
+  all = met_for_both_codes("ties that the lower decides", counts.bands_lower) && all;
+  all = met_for_both_codes("bands with a tie of pages", counts.bands_by_path) && all;
+  all = met_for_both_codes("values stored 8 away", counts.bands_at_end) && all;
+  all = met_for_both_codes("values across a byte's border", counts.bands_over_byte) && all;
+  all = met_for_both_codes("dearer by the end at 0", counts.bands_cut_at_first) && all;
+  all = met_for_both_codes("dearer by the end at 65535", counts.bands_cut_at_last) && all;
+  all = met_for_both_codes("wider and cheaper", counts.bands_wider_cheaper) && all;
+  all = met_for_both_codes("wider and no longer spent", counts.bands_wider_done) && all;
+  all = met_for_both_codes("runs of bands until spent", counts.bands_runs) && all;
+  all = met_for_both_codes("bands with what is held", counts.bands_held) && all;
+  all = met_for_both_codes("bands spent on a full page", counts.bands_full_spent) && all;
   for (unsigned f = kUnmapped; f < kFunctions; ++f) all = every_pair_met(counts, static_cast<Function>(f)) && all;
   for (unsigned f = 0; f < kFunctions; ++f) {
     for (const std::uint32_t number : refusals_of(static_cast<Function>(f))) {
@@ -2248,6 +2584,7 @@ int compare(std::uint64_t seed, Factor factor) {
   check_known_cells();
   check_known_run();
   check_known_marks();
+  check_known_bands();
   Judge judge(seed, factor);
   small_pages(judge);
   random_shapes(judge);
@@ -2259,6 +2596,7 @@ int compare(std::uint64_t seed, Factor factor) {
   mapped_cases(judge);
   list_cases(judge);
   certain_cases(judge);
+  band_cases(judge);
   const bool complete = every_kind_met(judge.counts());
   if (!complete) give_up("a kind was never met");
   if (judge.calls() < 20000) give_up("fewer than 20000 calls");

@@ -1,6 +1,6 @@
 /*
  * Measures each call: the most stack that it needs, over both codes and the ends of L and S, and its time on the largest page and on that of
- * examples/relay.c. A list has two datas.
+ * examples/relay.c. A list has two datas. A write in a band has one page, L = 2 and S = 1, and the widest band.
  * Fails where a call is refused or needs more stack than SEGRUNOV_STACK says, and where a price needs more than PRICE_STACK, or not the
  * same for L = 1 and L = 64: it keeps no array with a place for each stage or cell.
  */
@@ -114,6 +114,12 @@ static void call_write_list_mapped(void)
     answer = segrunov_write_list_mapped(code, bytes, strips, 1, 254, 255, LISTED, page, page_bytes(), map, map_bytes(), data, list_bytes());
 }
 
+/* A value with eight on either side, so that each of the seventeen is priced. */
+static void call_write_band(void)
+{
+    answer = segrunov_write_band(code, page, page_bytes(), (uint16_t)(256u + 255u * data[0]), SEGRUNOV_MAX_BAND);
+}
+
 struct call {
     const char *name;
     void (*make)(void);
@@ -132,6 +138,7 @@ static const struct call CALLS[] = {
     {"erase_mapped", call_erase_mapped},
     {"write_list", call_write_list},
     {"write_list_mapped", call_write_list_mapped},
+    {"write_band", call_write_band},
 };
 
 static int is_price(const struct call *call)
@@ -142,6 +149,17 @@ static int is_price(const struct call *call)
 static int is_list(const struct call *call)
 {
     return strstr(call->name, "list") != NULL;
+}
+
+static int is_band(const struct call *call)
+{
+    return strstr(call->name, "band") != NULL;
+}
+
+/* What a time is of, beside the page. */
+static const char *remark(const struct call *call)
+{
+    return is_list(call) ? ", two datas" : is_band(call) ? ", the widest band" : "";
 }
 
 /* An erased page, a map that marks at most one cell of a stage, and data that differs from round to round. A stage with a free cell below level 3 can
@@ -177,14 +195,20 @@ static void fail(const struct call *call, const char *what)
     failed = 1;
 }
 
+/* The arguments of a call. A band has its own L and S. */
+static void set_arguments(const struct call *call, uint32_t c, uint32_t l, uint32_t s)
+{
+    code = c;
+    bytes = is_band(call) ? SEGRUNOV_BAND_BYTES : l;
+    strips = is_band(call) ? SEGRUNOV_BAND_STRIPS : s;
+}
+
 /* The stack of a call with these arguments, less what no call touches. */
 static size_t needed(const struct call *call, uint32_t c, uint32_t l, uint32_t s)
 {
     const size_t nothing = touched(no_call);
     size_t all;
-    code = c;
-    bytes = l;
-    strips = s;
+    set_arguments(call, c, l, s);
     renew();
     all = touched(call->make);
     if (SEGRUNOV_NUMBER(answer) != SEGRUNOV_DONE) {
@@ -198,9 +222,7 @@ static double least_time(const struct call *call, uint32_t c, uint32_t l, uint32
 {
     double least = 1e12;
     int i;
-    code = c;
-    bytes = l;
-    strips = s;
+    set_arguments(call, c, l, s);
     for (i = 0; i < ROUNDS; i++) {
         double took;
         renew();
@@ -246,10 +268,11 @@ int main(void)
         const struct call *call = &CALLS[i];
         const size_t most = most_needed(call);
         printf("%-17s  stack %5u bytes", call->name, (unsigned)most);
-        for (s = 0; ROUNDS > 0 && s < 2; s++) {
-            const uint32_t l = TIMED[s][0], t = TIMED[s][1];
-            printf("   %2u strips of %2u bytes%s: code 3 " CLOCK ", code 7 " CLOCK, (unsigned)t, (unsigned)l, is_list(call) ? ", two datas" : "",
-                   least_time(call, SEGRUNOV_SHORT, l, t), least_time(call, SEGRUNOV_LONG, l, t));
+        for (s = 0; ROUNDS > 0 && s < (is_band(call) ? 1u : 2u); s++) {
+            const double with_short = least_time(call, SEGRUNOV_SHORT, TIMED[s][0], TIMED[s][1]);
+            const double with_long = least_time(call, SEGRUNOV_LONG, TIMED[s][0], TIMED[s][1]);
+            printf("   %2u strips of %2u bytes%s: code 3 " CLOCK ", code 7 " CLOCK, (unsigned)strips, (unsigned)bytes, remark(call), with_short,
+                   with_long);
         }
         printf("\n");
     }
