@@ -120,6 +120,19 @@ static void call_write_band(void)
     answer = segrunov_write_band(code, page, page_bytes(), (uint16_t)(256u + 255u * data[0]), SEGRUNOV_MAX_BAND);
 }
 
+/* What it may take the time of: the prices of the seventeen values, and a write of one of them. */
+static void call_prices_and_write(void)
+{
+    uint32_t value = 256u + 255u * data[0] - SEGRUNOV_MAX_BAND;
+    uint32_t i;
+    for (i = 0; i <= 2 * SEGRUNOV_MAX_BAND; i++, value++) {
+        data[0] = (uint8_t)(value % 256);
+        data[1] = (uint8_t)(value / 256);
+        answer = segrunov_price(code, bytes, strips, page, page_bytes(), data, data_bytes());
+    }
+    answer = segrunov_write(code, bytes, strips, page, page_bytes(), data, data_bytes());
+}
+
 struct call {
     const char *name;
     void (*make)(void);
@@ -140,6 +153,9 @@ static const struct call CALLS[] = {
     {"write_list_mapped", call_write_list_mapped},
     {"write_band", call_write_band},
 };
+
+/* Beside the last of them. */
+static const struct call BESIDE_BAND = {"band of prices", call_prices_and_write};
 
 static int is_price(const struct call *call)
 {
@@ -261,6 +277,14 @@ static size_t most_needed(const struct call *call)
     return most;
 }
 
+/* The time of a call on the n-th of its pages. */
+static void print_time(const struct call *call, size_t n)
+{
+    const double with_short = least_time(call, SEGRUNOV_SHORT, TIMED[n][0], TIMED[n][1]);
+    const double with_long = least_time(call, SEGRUNOV_LONG, TIMED[n][0], TIMED[n][1]);
+    printf("   %2u strips of %2u bytes%s: code 3 " CLOCK ", code 7 " CLOCK, (unsigned)strips, (unsigned)bytes, remark(call), with_short, with_long);
+}
+
 int main(void)
 {
     size_t i, s;
@@ -269,11 +293,13 @@ int main(void)
         const size_t most = most_needed(call);
         printf("%-17s  stack %5u bytes", call->name, (unsigned)most);
         for (s = 0; ROUNDS > 0 && s < (is_band(call) ? 1u : 2u); s++) {
-            const double with_short = least_time(call, SEGRUNOV_SHORT, TIMED[s][0], TIMED[s][1]);
-            const double with_long = least_time(call, SEGRUNOV_LONG, TIMED[s][0], TIMED[s][1]);
-            printf("   %2u strips of %2u bytes%s: code 3 " CLOCK ", code 7 " CLOCK, (unsigned)strips, (unsigned)bytes, remark(call), with_short,
-                   with_long);
+            print_time(call, s);
         }
+        printf("\n");
+    }
+    if (ROUNDS > 0) {
+        printf("17 prices and a write beside it  ");
+        print_time(&BESIDE_BAND, 0);
         printf("\n");
     }
     return failed;

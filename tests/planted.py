@@ -278,13 +278,13 @@ FAULTS = {
             for words, one, other in (
                 ("the enum is not that of ground,", "(bytesGround L)", "(stripsGround S)"),
                 ("is not that of listGround,", "(weightsGround W)", "(first-of (countGround count) (lengthsGround count map L S page content))"),
-                ("is not that of listGround,", "(pageGround oneBit L S page)", "(first-of (mapGround oneBit L S map) (datasGround count L S content))"),
+                ("of listGround,", "(pageGround oneBit L S page)", "(first-of (mapGround oneBit L S map) (datasGround count L S content))"),
                 ("segrunov_read is refused by 4, 5, 1,", "(sizesGround code L S)", "(lengthsGround none none L S page content)"),
                 ("segrunov_erase_mapped is refused by 2, 3, 4, 8, 11,", "(mapGround oneBit L S map)", "(eraseGround tenths)"),
                 ("is not that of valueGround,", "(bandGround M)", "(pageGround oneBit bandBytes bandStrips page)"),
             )
         ),
-        ("the order of the enum is not that of valueGround,", instead(ENUM, "    CodeUnknown,\n    BandOutside,", "    BandOutside,\n    CodeUnknown,")),
+        ("the order of the enum is not that of valueGround,", instead(ENUM, "CodeUnknown,\n    BandOutside,", "BandOutside,\n    CodeUnknown,")),
         ("has no line 'first-of (some r) later", instead(REFUSALS, "first-of (some r) later = some r", "first-of (some r) later = later")),
         ("has no line 'callAnswer (some r) w k", instead("crates/page_promises/specs/Writes.antt", "(some r) w k", "(some r) none k")),
         ("has no line '  bandAnswerBy (some r) o", instead(BAND, "bandAnswerBy (some r) o = B.Refused r", "bandAnswerBy (some r) o = B.Spent")),
@@ -386,6 +386,8 @@ FAULTS = {
         ("write_list needs more stack than its limit", used("write_list", "done(12288)")),
         ("write_list_mapped needs more stack than its limit", used("write_list_mapped", "done(12288)")),
         ("write_list is refused", used("write_list", "UINT64_C(5) << 32")),
+        ("write_band needs more stack than its limit", used("write_band", "done(12288)")),
+        ("write_band is refused", used("write_band", "UINT64_C(4) << 32")),
         ("read is refused", used("read", "UINT64_C(4) << 32")),
     ],
     "edits.py": [
@@ -424,6 +426,7 @@ FAULTS = {
         ("there is no row 'code 3 080000000000 reads 07'", change(STDOUT, r"^code 3 080000000000 reads .*\n", "")),
         ("there is no row 'erase at 401 8 0'", instead(STDOUT, "erase at 401 8 0", "erase at 401 0 0")),
         ("there is no row 'a weight of 0: answer 9 ", instead(STDOUT, "a weight of 0: answer 9 ", "a weight of 0: answer 10 ")),
+        ("there is no row 'the lower of two, code 3: answer 0 60 stored 1775", instead(STDOUT, "60 stored 1775", "60 stored 1787")),
         ("there is no row '  13 3 0 0'", instead(STDOUT, "  13 3 0 0", "  13 2 1 0")),
         ("the model has no row 'planted' here", append(STDOUT, "planted\n")),
         ("the model has no row '64' here", change(STDOUT, r"^64\n", "64\n64\n")),

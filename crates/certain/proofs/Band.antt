@@ -1,7 +1,7 @@
 -- THE FIRST THREE WRITES AFTER AN ERASE are certain in a band too: it is never spent where the plain write is not, and never costs more.
 --   band-certain    where every cell is below level k, with k at most 3, it is done within the k-th bound
 --   band-low        and leaves every cell below level k + 1
-use mathlib.Core.Path.{_≡_, refl, _∙_, sym, ap}
+use mathlib.Core.Path.{_≡_, refl, _∙_, ap}
 use mathlib.Core.List.{List}
 use mathlib.Core.Option.{none}
 use Prim.Native.Nat.{ℕ, suc, _≤_}
@@ -28,7 +28,8 @@ plain-done (B.Refused r) e = let z : _≡_ {A = ℕ} 0 1 = cc in absurd (omega a
 value-data : (w : ℕ) → w ≤ 65535 → DataFor bandBytes bandStrips (valueBytes w)
 value-data w h = record { size = refl; octets = value-octets w h }
 
-module _ (code : ℕ) (known : codeGround code ≡ none) {k : ℕ} {page : List ℕ} (low : Low bandBytes bandStrips k page) (v M : ℕ) (fits : v ≤ 65535)
+module _ (code : ℕ) (known : codeGround code ≡ none) {k : ℕ} {page : List ℕ} (low : Low bandBytes bandStrips k page) (v M : ℕ)
+    (fits : v ≤ 65535)
   where
     permitted : Permitted house code bandBytes bandStrips
     permitted = house-permitted code bandBytes bandStrips (code-ground code ∙ known)

@@ -73,7 +73,8 @@ module _ (rank : ℕ → ℕ) (f : ℕ → Option ℕ) where
     inside = omega arith;
     its-rank = refl;
     its-cost = e;
-    least = λ j d h. and-last n (λ i. f i ≡ some d → c ≤ d) (λ i l g. absurd (not-none g (empty i l))) (λ g. omega (arith, one-cost e g)) j h;
+    least = λ j d h.
+        and-last n (λ i. f i ≡ some d → c ≤ d) (λ i l g. absurd (not-none g (empty i l))) (λ g. omega (arith, one-cost e g)) j h;
     ahead = λ j h. and-last n (λ i. f i ≡ some c → Ahead rank n i) (λ i l g. absurd (not-none g (empty i l))) (λ g. ahead-self rank n) j h;
   }
 
@@ -101,7 +102,8 @@ module _ (rank : ℕ → ℕ) (f : ℕ → Option ℕ) where
           record { ranked = omega arith; lower = λ d. absurd (let y : ⊥ = omega arith in y) }
 
   -- one that is not
-  other-left : (n c : ℕ) (o : Offer) → Chosen rank f n o → f n ≡ some c → outdoes (rank n) c (o .rank) (o .cost) ≡ false → Chosen rank f (suc n) o
+  other-left : (n c : ℕ) (o : Offer) → Chosen rank f n o → f n ≡ some c → outdoes (rank n) c (o .rank) (o .cost) ≡ false
+      → Chosen rank f (suc n) o
   other-left n c o b e t = record {
     inside = omega (arith, b .inside);
     its-rank = b .its-rank;

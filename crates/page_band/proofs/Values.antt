@@ -7,7 +7,7 @@
 --   turn-tried      one more value
 --   all-tried       the choice among all of them is the band's
 --   place-fits      and so is the value chosen
-use mathlib.Core.Path.{_≡_, refl, _∙_, ap}
+use mathlib.Core.Path.{_≡_, refl}
 use mathlib.Core.Bool.{Bool}
 use mathlib.Core.List.{List}
 use mathlib.Core.Option.{Option, none, some}

@@ -11,11 +11,10 @@
 --   in-order-band, refused-band a call without a ground answers by its choice; one that is refused changes nothing
 --   write-band-kept             what answers so and leaves this page keeps promise and bound
 use mathlib.Core.Path.{_≡_, refl, sym, _∙_, ap, subst}
-use mathlib.Core.Bool.{Bool, true, false, cond}
-use mathlib.Core.List.{List, [], _∷_}
+use mathlib.Core.List.{List}
 use mathlib.Core.Logic.{⊎-elim, _↔_}
 use mathlib.Core.Option.{Option, none, some, Option·some-injective}
-use Prim.Native.Nat.{ℕ, zero, suc, _<_, _≤_, _+_, _-_, _*_, _/_, _%_, min}
+use Prim.Native.Nat.{ℕ, zero, suc, _<_, _≤_, _-_}
 use native.Mathlib.Omega.{arith}
 use lib.ListN.{length, getD}
 use Rattle.cells.specs.Bytes.{Octets}
@@ -29,7 +28,7 @@ use Rattle.demand.specs.Demand.{Could, jobCost, Cheapest}
 use Rattle.demand.specs.Reading.{readBy, readPage}
 use Rattle.demand.specs.Offers.{Offer}
 use Rattle.demand.proofs.Offers.{not-none, chosen}
-use Rattle.refusals.specs.Refusals.{bandGround, bandBytes, bandStrips, valueGround, writeGround, numbered}
+use Rattle.refusals.specs.Refusals.{bandBytes, bandStrips, valueGround, writeGround, numbered}
 use Rattle.refusals.specs.declared.Refusal.{Refusal}
 use Rattle.refusals.proofs.Refusals.{band-permitted, value-band, value-ground}
 use Rattle.page_answers.specs.Answers.{offered, plainAnswer, valueOf}
@@ -248,8 +247,8 @@ module _ (start : ℕ → ℕ) (code : ℕ) (before : List ℕ) (v M : ℕ) wher
       go none q (some o) e =
           let w = valueAt v M (o .number) in
           let z = in-order-job start none house code bandBytes bandStrips before (valueBytes w) (value-plain code M before q) refl refl in
-          let c = chosen (λ i. away v (valueAt v M i)) (λ i. jobOffer (valueJob code before (valueAt v M i))) (valueCount v M) e .its-cost in
-          (sym (z .0) ∙ offered-done _ c, z .1)
+          let c = chosen (λ i. away v (valueAt v M i)) (λ i. jobOffer (valueJob code before (valueAt v M i))) (valueCount v M) e in
+          (sym (z .0) ∙ offered-done _ (c .its-cost), z .1)
 
 -- so what every plain write of a value keeps it keeps, whatever its answer
 pub band-keeps : (start : ℕ → ℕ) (code : ℕ) (before : List ℕ) (v M : ℕ) → v ≤ 65535 → (P : List ℕ → Type 0)

@@ -7,7 +7,7 @@
 use mathlib.Core.Path.{_≡_, refl, subst}
 use mathlib.Core.List.{List}
 use mathlib.Core.Logic.{_↔_}
-use mathlib.Core.Option.{Option, none, some, Option·some-injective}
+use mathlib.Core.Option.{none, some, Option·some-injective}
 use Prim.Native.Nat.{ℕ, _<_}
 use Rattle.demand.specs.Jobs.{Job, InOrder}
 use Rattle.demand.specs.Demand.{Could, jobCost, Cheapest}
@@ -15,7 +15,7 @@ use Rattle.demand.specs.Offers.{Offer, choose, Offered, NoneFor}
 use Rattle.demand.proofs.Offers.{not-none, chosen, union-least, union-nothing, union-spent}
 use Rattle.page_answers.specs.Answers.{offered}
 use Rattle.page_answers.specs.declared.Answer.{Answer}
-use Rattle.page_promises.specs.Writes.{jobAnswer, jobPage}
+use Rattle.page_promises.specs.Writes.{jobPage}
 use Rattle.page_promises.specs.Promise.{Promised, done, spent, refused}
 use Rattle.page_promises.specs.Families.{jobOffer, CheapestOf}
 use Rattle.page_promises.proofs.Promise.{promise-kept, one-ground}

@@ -104,7 +104,8 @@ pub data Behind (v w : ℕ) (after : List ℕ) (u : ℕ) (other : List ℕ) : Ty
 pub record BandCheapest (start : ℕ → ℕ) (code : ℕ) (before : List ℕ) (v M : ℕ) (after : List ℕ) (cost w : ℕ) : Type 0 where
   pub near : InBand v M w
   pub picked : Cheapest start (valueJob code before w) after cost
-  pub least : (u : ℕ) → InBand v M u → (other : List ℕ) → Could (valueJob code before u) other → cost ≤ jobCost (valueJob code before u) other
+  pub least : (u : ℕ) → InBand v M u → (other : List ℕ) → Could (valueJob code before u) other
+      → cost ≤ jobCost (valueJob code before u) other
   pub among-equals : (u : ℕ) → InBand v M u → (other : List ℕ) → Could (valueJob code before u) other
       → jobCost (valueJob code before u) other ≡ cost
       → Behind v w after u other

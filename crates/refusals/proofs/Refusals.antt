@@ -295,7 +295,9 @@ value-band code M page e = neither (bandGround M) _ (neither (codeGround code) _
 pub value-ground : (code M page : ℕ) → bandGround M ≡ none
     → valueGround code M page ≡ writeGround house code bandBytes bandStrips page 2
 unfolding valueGround ground lengthsGround datasGround
-value-ground code M page e = rw (house-ground code bandBytes bandStrips page 2, e, code-ground code) (go (codeGround code) (pageGround oneBit bandBytes bandStrips page))
+value-ground code M page e =
+    rw (house-ground code bandBytes bandStrips page 2, e, code-ground code)
+    (go (codeGround code) (pageGround oneBit bandBytes bandStrips page))
   where
     go : (g h : Option Refusal) → first-of g h ≡ first-of g (first-of h none)
     go (some r) h = refl

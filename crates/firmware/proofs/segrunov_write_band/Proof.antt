@@ -1,7 +1,5 @@
 -- The answer is the call's, without the value stored, in one word.
-use mathlib.Core.Path.{_∙_, ap}
 use borrow.Author.Needs.{needs}
-use Rattle.page_answers.specs.Answers.{plainAnswer}
 use Rattle.words.proofs.Words.{lower-half}
 use Rattle.firmware.proofs.segrunov_write_band.Statement.{statement}
 use Rattle.firmware.proofs.segrunov_write_band.Tie as tie

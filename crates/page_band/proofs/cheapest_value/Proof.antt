@@ -69,8 +69,8 @@ loop-again c =
     let a = s .args in
     let l = t .before .loop in
     let at = w .value-at .ensures ∙ ap (λ (low : ℕ). low + l .k) (n .before .lowest-value .ensures) in (
-      turn-tried (a .code) (a .page .now) (a .value) (a .band) (l .k) at (c .before .before .price-value .ensures) (c .before .distance .ensures)
-          (l .inv .0) (c .better .ensures),
+      turn-tried (a .code) (a .page .now) (a .value) (a .band) (l .k) at (c .before .before .price-value .ensures)
+          (c .before .distance .ensures) (l .inv .0) (c .better .ensures),
       more (t .loop-test .taken),
     )
 

@@ -33,7 +33,8 @@ lowest-value-requires c κs = search needs
 value-at-requires : tie.Need-value-at-requires
 value-at-requires c κs =
     let s = c .before .before .before .before .before .before .before in
-    place-fits (s .args .code) (s .args .page .now) (s .args .value) (s .args .band) (sixteen-bits (s .fits .value)) (c .lowest-value .ensures)
+    let a = s .args in
+    place-fits (a .code) (a .page .now) (a .value) (a .band) (sixteen-bits (s .fits .value)) (c .lowest-value .ensures)
     (chosen (c .before .before))
 
 write-value-requires : tie.Need-write-value-requires
