@@ -5,8 +5,10 @@
 --   away v w                    how far a value is from the one given
 --   lowestValue, valueCount     the values of the band from the lowest on, and how many they are; valueAt, the one at a place
 --   bandChoice                  the choice among them
+--   bandAnswerBy, chosenPage    the answer and the page after it, by the ground of a refusal and what is chosen
 --   bandAnswer                  the answer
 --   bandPageBy, bandPage        the page after it, by any order of the raises, and by this release's
+--   bandCells                   the cells of the page
 --   Behind, BandCheapest        what it picks among ALL pages that read as any value of the band
 --   BandPromised, WroteBand     what it promises, on every input; of this release
 --   largestBandCost             it costs at most this
