@@ -51,9 +51,9 @@
  * list's answer; on the answers of the calls that there were it gives what this one gives, and nothing changes for
  * their callers.
  *
- * A BAND. segrunov_write_band stores a number of 16 bits, as a winding's temperature, low byte first, on a page with L
- * = 2 and S = 1: 12 bytes. It may store any number from 0 to 65,535 that is at most M away from the one given, and
- * takes the cheapest of all pages that read as one of these with no cell lowered. Among equals the nearest number is
+ * A BAND. segrunov_write_band stores a number of 16 bits, as a winding's temperature, low byte first, on a page of 12
+ * bytes: L = 2, S = 1. It may store any number from 0 to 65,535 that is at most M away from the one given, and takes
+ * the cheapest of all pages that read as one of these with no cell lowered. Among equals the nearest number is
  * stored, then the lower; then the tie goes as in every write. Nothing goes round: near 0 and 65,535 the band ends
  * there. The page is spent, with strip 0, only where no number of the band can be stored. Its cost is what the write of
  * the number stored costs; segrunov_read says which that is. With M = 0 it is segrunov_write with L = 2 and S = 1. A

@@ -8,13 +8,14 @@
 use mathlib.Core.Path.{_≡_, refl, sym, _∙_, ap}
 use mathlib.Core.Bool.{Bool, true, false, cond, _&&_, _||_, true≢false, false≢true}
 use mathlib.Core.List.{List}
-use mathlib.Core.Logic.{⊎-elim, _↔_}
+use mathlib.Core.Logic.{_↔_}
 use mathlib.Core.Option.{Option, none, some, Option·some-injective}
 use Prim.Native.Nat.{ℕ, zero, suc, _<_, _≤_}
 use native.Mathlib.Omega.{arith}
 use lib.Dec.{ltb, eqb}
+use borrow.Author.Count.{below-more}
 use borrow.Author.Tests.{ltb-true, ltb-false, eqb-true, eqb-false}
-use Rattle.cells.proofs.Places.{same?}
+use Rattle.search.proofs.Best.{some-none}
 use Rattle.demand.specs.Offers.{Offer, outdoes, withOffer, choose, Ahead, Chosen, Offered, LeastOf, NoneFor}
 
 -- an offer has one cost
@@ -23,11 +24,11 @@ one-cost {c = c} {d = d} p q = Option·some-injective c d (sym p ∙ q)
 
 -- and is not none
 pub not-none : {A : Type 0} {x : Option A} {a : A} → x ≡ some a → x ≡ none → ⊥
-not-none {a = a} p q = let e : some a ≡ none = sym p ∙ q in let z : _≡_ {A = ℕ} 0 1 = cc in omega arith
+not-none {a = a} p q = some-none a (sym p ∙ q)
 
 -- 0 .. n are 0 .. n − 1 and n
 and-last : (n : ℕ) (P : ℕ → Type 0) → ((j : ℕ) → j < n → P j) → P n → (j : ℕ) → j < suc n → P j
-and-last n P before here j h = ⊎-elim (λ e. rw e here) (λ d. before j (omega arith)) (same? j n)
+and-last n P before here j h = below-more P n before here j (omega arith)
 
 -- a number is in order with itself
 ahead-self : (rank : ℕ → ℕ) (i : ℕ) → Ahead rank i i

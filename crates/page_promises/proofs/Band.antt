@@ -284,8 +284,8 @@ module _ (start : ℕ → ℕ) (code : ℕ) (before : List ℕ) (v : ℕ) (fits 
       given : InBand v 0 v
       given = record { low = omega arith; high = omega arith; fits = fits }
 
-      same-ground : valueGround code 0 (length before) ≡ writeGround house code bandBytes bandStrips (length before) 2
-      same-ground = value-ground code 0 (length before) (band-permitted 0 (omega arith))
+      plain-ground : valueGround code 0 (length before) ≡ writeGround house code bandBytes bandStrips (length before) 2
+      plain-ground = value-ground code 0 (length before) (band-permitted 0 (omega arith))
 
       go : (r : BandAnswer) (page : List ℕ) → BandPromised start (valueGround code 0 (length before)) code before v 0 page r
           → AsWrite start code before v 0 r page
@@ -294,10 +294,10 @@ module _ (start : ℕ → ℕ) (code : ℕ) (before : List ℕ) (v : ℕ) (fits 
       go r page (stored g p) a = let z = rw (only-value (p .near)) at a in (sym (z .0), z .1)
       go r page (all-spent g n k) a =
           let z = plain-spent (wrote-by start none house code bandBytes bandStrips before (valueBytes v) (value-octets v fits))
-          (sym same-ground ∙ g) (n v given) in
+          (sym plain-ground ∙ g) (n v given) in
           (z .0, k ∙ z .1)
       go r page (not-begun g k) a =
-          let z = refused-call start none house code bandBytes bandStrips before (valueBytes v) (sym same-ground ∙ g) in
+          let z = refused-call start none house code bandBytes bandStrips before (valueBytes v) (sym plain-ground ∙ g) in
           (z .0, k ∙ z .1)
 
 -- IT COSTS AT MOST 896: each of 32 cells rises by one at the most, for 28 at the most

@@ -36,6 +36,7 @@ use Rattle.demand.specs.Demand.{Could}
 use Rattle.demand.specs.Computed.{pageWrite, spentStrip}
 use Rattle.demand.proofs.Jobs.{oneBit-whole}
 use Rattle.demand.proofs.Demand.{cheapest, spent-at}
+use Rattle.demand.proofs.Offers.{not-none}
 use Rattle.demand.proofs.Weights.{could-any-weights, spent-any-strip, spent-once}
 use Rattle.refusals.specs.Refusals.{weightsGround, listGround, numbered}
 use Rattle.page_promises.specs.Writes.{callAnswer, callPage, oneBitJob, jobAnswer, jobPage, markedBy, mapSize, groundWith, jobWith}
@@ -129,10 +130,7 @@ page-length start map W code L S before content =
 
 -- no ground and a ground exclude each other
 pub one-ground : {g : Option Refusal} {r : Refusal} → g ≡ none → g ≡ some r → ⊥
-one-ground {r = r} e f =
-    let z : none ≡ some r = sym e ∙ f in
-    let y : _≡_ {A = ℕ} 0 1 = cc in
-    omega arith
+one-ground e f = not-none f e
 
 -- 'A CALL WITH NONE OF THESE GROUNDS IS DONE': no ground from the input, and a page that could be, so that it is not spent
 pub could-done : {start : ℕ → ℕ} {g : Option Refusal} {J : Job} {after : List ℕ} {r : Answer} → Promised start g J after r → g ≡ none

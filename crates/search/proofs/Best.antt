@@ -239,8 +239,8 @@ pub settles-iff : {A B : Problem} {r : Option Solution} → ((d : ℕ) (y : List
 settles-iff f (unsolved p) = unsolved (λ d y w. p d y (f d y .1 w))
 settles-iff f (sole v l) = sole (f _ _ .0 v) (λ d y w. l d y (f d y .1 w))
 
--- a solution is not none
-pub some-none : (a : Solution) → some a ≡ none → ⊥
+-- a solution is not none, nor is anything else that there is
+pub some-none : {A : Type 0} (a : A) → some a ≡ none → ⊥
 some-none a e = let z : _≡_ {A = ℕ} 0 1 = cc in omega arith
 
 -- what a solution says, in plain words

@@ -1,7 +1,9 @@
 -- The invariant: what is taken so far is the choice among the first k values.
 use mathlib.Core.Path.{_≡_, refl, _∙_, ap}
-use Prim.Native.Nat.{ℕ, _+_, _-_, _<_, _≤_}
+use Prim.Native.Nat.{ℕ, _+_, _-_, _≤_}
+use native.Mathlib.Numerals.{add-one-le}
 use native.Mathlib.Omega.{arith}
+use borrow.Author.Count.{falls}
 use borrow.Author.Needs.{needs}
 use Rattle.demand.specs.Offers.{choose}
 use Rattle.page_choosing.specs.Picks.{taken}
@@ -16,13 +18,6 @@ Inv-loop code page value band low count pick₀ k₀ pick k = (taken pick ≡ tr
 
 abbrev μ-loop : tie.MeasureT-loop
 μ-loop code page value band low count pick₀ k₀ pick k = count - k
-
--- with few facts in reach
-less : {k count : ℕ} → k < count → count - (k + 1) < count - k
-less h = omega arith
-
-more : {k count : ℕ} → k < count → k + 1 ≤ count
-more h = omega arith
 
 lowest-value-requires : tie.Need-lowest-value-requires Inv-loop μ-loop
 lowest-value-requires c κs = search needs
@@ -58,7 +53,7 @@ add-k c = search needs
 loop-less : tie.Need-loop-less Inv-loop μ-loop
 loop-less c =
     let t = c .before .before .before .before in
-    less (t .loop-test .taken)
+    falls _ _ (t .loop-test .taken)
 
 loop-again : tie.Need-loop-again Inv-loop μ-loop
 loop-again c =
@@ -71,7 +66,7 @@ loop-again c =
     let at = w .value-at .ensures ∙ ap (λ (low : ℕ). low + l .k) (n .before .lowest-value .ensures) in (
       turn-tried (a .code) (a .page .now) (a .value) (a .band) (l .k) at (c .before .before .price-value .ensures)
           (c .before .distance .ensures) (l .inv .0) (c .better .ensures),
-      more (t .loop-test .taken),
+      add-one-le (t .loop-test .taken),
     )
 
 returns : tie.Need-returns Inv-loop μ-loop
