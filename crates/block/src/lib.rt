@@ -1,5 +1,7 @@
 // A block of pages: a put tries every page, and writes the cheapest and the directory. Get and erase stand in a room of their own, and are
 // handed on here.
+#![tactic(auto)]
+
 ghost use Rattle.std.specs.Prelude.{◌≡◌, ◌<◌, ◌≤◌};
 ghost use Rattle.std.proofs.Math.Option.{none, some};
 ghost use Rattle.cells.specs.Raising.{start_of};

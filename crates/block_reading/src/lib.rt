@@ -1,4 +1,6 @@
 // Reading the live page of a block, and erasing the block.
+#![tactic(auto)]
+
 ghost use Rattle.std.specs.Prelude.{◌≡◌, ◌≤◌, length, replicate};
 ghost use Rattle.refusals.specs.Refusals.{directory_size, block_erasing, completion_of, kept};
 ghost use Rattle.block_promises.specs.Block.{live_of, ground_of_get, live_page};

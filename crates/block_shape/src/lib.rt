@@ -1,4 +1,6 @@
 // What a call on a block is given is in order, or refused on the first ground that applies; and where the pages of a block begin.
+#![tactic(auto)]
+
 ghost use Rattle.std.specs.Prelude.{◌≡◌, ◌+◌, ◌*◌};
 ghost use Rattle.std.proofs.Math.Option.{none};
 ghost use Rattle.refusals.specs.Refusals.{limits_ground, page_bytes, directory_size, pages_ground, block_ground, put_ground, live_ground};

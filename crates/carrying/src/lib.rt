@@ -1,6 +1,8 @@
 // Carrying the digits of a strip out, eight stages at a time: each cell that does not show the bit that they want is raised by one. Which
 // bit of a cell a raise sets is a matter of the bit at which it starts to look for a zero (`start_of`). Sixteen cells are raised at once, as
 // one word of three bits a cell.
+#![tactic(auto)]
+
 ghost use Rattle.std.specs.Prelude.{◌≡◌, ◌+◌, ◌*◌, ◌%◌, ◌^◌, ◌<◌, ◌≤◌, length};
 ghost use Rattle.cells.specs.Raising.{start_of, raised_to};
 ghost use Rattle.codes.specs.Codes.{generators_of};

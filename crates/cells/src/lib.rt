@@ -2,6 +2,8 @@
 //
 // A cell is three bits of a slice of bytes, and its level, 0 to 3, is how many of them are one. Every function here takes every input:
 // what lies beyond the end of a slice reads as 0 and is never raised.
+#![tactic(auto)]
+
 ghost use Rattle.std.specs.Prelude.{◌≡◌, cond, ◌+◌, ◌*◌, ◌<◌, ◌≤◌, get_or};
 ghost use Rattle.cells.specs.Bytes.{bit_of, Unset, with_bit};
 ghost use Rattle.cells.specs.Levels.{level, raises_of};

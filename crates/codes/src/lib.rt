@@ -1,6 +1,8 @@
 // The two coset codes, made by name: their table, and the states of their encoders. Beside them `parities`, what the generators make of the
 // last bits; `blocks`, the same for eight stages at a time, and the labels, which are the data divided by the first generator; and
 // `strips`, reading a strip.
+#![tactic(auto)]
+
 mod blocks;
 mod parities;
 mod strips;
@@ -21,6 +23,7 @@ pub const STRIP_CELLS: u32 = 16;
 pub const MAP_BYTES: usize = 2;
 
 #[derive(Drop)]
+#[derive(Clone, Copy)]
 enum Name {
     Short,
     Long,
@@ -28,11 +31,13 @@ enum Name {
 
 // A code is its name, so every value of the type is one of the two codes.
 #[derive(Drop)]
+#[derive(Clone, Copy)]
 pub struct Code {
     name: Name,
 }
 
 #[derive(Drop)]
+#[derive(Clone, Copy)]
 struct CodeRow {
     memory: u32,
     g1: u32,
@@ -82,7 +87,7 @@ impl Code {
 
     pub fn memory(self) -> u32
         ensures value { (result ≡ (generators_of self).memory) × (result ≤ 6) }
-        ensures* do_value { do ⌜ (← (⟦Code::MAX_MEMORY⟧).entry) ≡ long.memory ⌝ }
+        ensures largest { Self.MAX_MEMORY ≡ long.memory }
     {
         self.generators().memory
     }

@@ -12,6 +12,7 @@ use crate::{Code, MAP_BYTES, STRIP_BYTES, STRIP_CELLS};
 
 // What a reading carries from one byte of data to the next: the last bits of the first cells and of the second, the newest worth 1.
 #[derive(Drop)]
+#[derive(Clone, Copy)]
 struct Windows {
     first: u32,
     second: u32,
@@ -19,6 +20,7 @@ struct Windows {
 
 // A byte of data, and the windows after it.
 #[derive(Drop)]
+#[derive(Clone, Copy)]
 struct ByteRead {
     byte: u8,
     windows: Windows,

@@ -93,6 +93,7 @@ cons-list y g (suc j) = g j
 -- by its number
 pub closed_at : (problem : ℕ → Problem) (S : ℕ) (f : ℕ → ℕ) (k : ℕ) → FirstClosed problem (list_of S f) k → ClosedAt problem S f k
 unfolding list_of cons cons-list
+closed_at problem zero f k x = elim x [ ]
 closed_at problem (suc S) f zero (here p) =
     record {
       inside = omega arith;

@@ -1,5 +1,7 @@
 // The calls for the relay's firmware, which is in C: numbers and byte slices go in, one number comes out. The declarations for C are in
 // include/segrunov.h.
+#![tactic(auto)]
+
 ghost use Rattle.std.specs.Prelude.{◌≡◌, [], ◌∷◌, ◌%◌, ◌≤◌, length, replicate};
 ghost use Rattle.std.proofs.Math.Option.{none, some};
 ghost use Rattle.cells.specs.Marks.{marks_in, emptied};

@@ -1,4 +1,6 @@
 // The grounds of a refusal, each tested in one place; `judges` puts them in the paper's order.
+#![tactic(auto)]
+
 ghost use Rattle.std.specs.Prelude.{◌≡◌};
 ghost use Rattle.std.proofs.Math.Option.{none};
 ghost use Rattle.codes.specs.Layouts.{one_bit};

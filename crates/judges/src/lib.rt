@@ -1,4 +1,6 @@
 // What a call is given is in order, or refused on the first ground that applies: the grounds in the paper's order.
+#![tactic(auto)]
+
 ghost use Rattle.std.specs.Prelude.{◌≡◌};
 ghost use Rattle.std.proofs.Math.Option.{none};
 ghost use Rattle.codes.specs.Codes.{generators_of};

@@ -1,5 +1,7 @@
 // Known cells: what the compiled functions answer on known bytes, a row each, held against the file stdout, which tests/known.py works out
 // by the papers. The proofs speak of the source; this runs what the compiler made of it.
+#![tactic(auto)]
+
 use codes::Code;
 use libc::STDOUT_FILENO;
 use page::{BandAnswer, Row};

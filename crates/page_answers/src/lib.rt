@@ -1,4 +1,6 @@
 // The answers of the calls, with the paper's numbers and values, and the running total of a page.
+#![tactic(auto)]
+
 ghost use Rattle.std.specs.Prelude.{◌≡◌};
 ghost use Rattle.page_answers.specs.Answers.{number_of, value_of, end_number, end_strip, plain_answer};
 ghost use Rattle.page_answers.specs.Totals.{no_total, added, answer_for};
@@ -8,6 +10,7 @@ use trellis::Outcome;
 
 // The answer of a write, and of a price: done with the cost, spent with the strip's number, or refused.
 #[derive(Drop)]
+#[derive(Clone, Copy)]
 pub enum Answer {
     Done(u32),
     Spent(u32),
@@ -16,6 +19,7 @@ pub enum Answer {
 
 // How a list of writes ended: every data is written, the page is spent for the next one, with the strip's number, or it is refused.
 #[derive(Drop)]
+#[derive(Clone, Copy)]
 pub enum End {
     Done,
     Spent(u32),
@@ -24,6 +28,7 @@ pub enum End {
 
 // The answer of a list of writes: how many of its datas are written, what they cost together, and how it ended.
 #[derive(Drop)]
+#[derive(Clone, Copy)]
 pub struct ListAnswer {
     pub written: u32,
     pub cost: u32,
@@ -32,6 +37,7 @@ pub struct ListAnswer {
 
 // The answer of a write in a band: done with the cost and the value stored, spent, or refused.
 #[derive(Drop)]
+#[derive(Clone, Copy)]
 pub enum BandAnswer {
     Done(u32, u16),
     Spent,
@@ -40,6 +46,7 @@ pub enum BandAnswer {
 
 // The running total of a page: the cost and the number of the strips so far, and whether one was spent.
 #[derive(Drop)]
+#[derive(Clone, Copy)]
 pub struct Total {
     pub cost: u64,
     pub strips: u32,

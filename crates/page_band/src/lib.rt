@@ -1,4 +1,6 @@
 // A write that may store any value of a band: every value is priced, and the cheapest is written.
+#![tactic(auto)]
+
 ghost use Rattle.std.specs.Prelude.{◌≡◌, ◌+◌, ◌≤◌, length};
 ghost use Rattle.std.proofs.Math.Option.{none};
 ghost use Rattle.cells.specs.Climbs.{house};

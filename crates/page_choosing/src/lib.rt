@@ -1,4 +1,6 @@
 // The choice among several writes: each is priced in turn, and the best so far is kept.
+#![tactic(auto)]
+
 ghost use Rattle.std.specs.Prelude.{◌≡◌};
 ghost use Rattle.std.proofs.Math.Option.{some};
 ghost use Rattle.demand.specs.Offers.{outdoes, with_offer};
@@ -9,6 +11,7 @@ use page_answers::Answer;
 
 // What is taken so far: nothing, or an offer, its number, its rank and its cost.
 #[derive(Drop)]
+#[derive(Clone, Copy)]
 pub enum Pick {
     Nothing,
     Taken(u32, u32, u32),

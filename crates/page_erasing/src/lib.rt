@@ -1,4 +1,6 @@
 // Erasing a page.
+#![tactic(auto)]
+
 ghost use Rattle.std.specs.Prelude.{◌≡◌, ◌<◌, length, replicate};
 ghost use Rattle.std.proofs.Math.Option.{some};
 ghost use Rattle.cells.specs.Marks.{marks_in, emptied, kept_byte};

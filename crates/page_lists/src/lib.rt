@@ -1,4 +1,6 @@
 // Writing a list of datas on a page that is in order, one after another: the loop behind the refusals.
+#![tactic(auto)]
+
 ghost use Rattle.std.specs.Prelude.{◌≡◌, ◌+◌, ◌<◌};
 ghost use Rattle.cells.specs.Marks.{marks_in};
 ghost use Rattle.codes.specs.Codes.{generators_of};

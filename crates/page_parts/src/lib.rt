@@ -1,10 +1,13 @@
 // The parts of the caller's slices: the strips of a page, their parts of a map, and the datas of a list.
+#![tactic(auto)]
+
 ghost use Rattle.std.specs.Prelude.{◌≡◌, ◌+◌, ◌*◌, ◌<◌, ◌≤◌, min, length};
 ghost use Rattle.demand.specs.Jobs.{part};
 ghost use Rattle.page_parts.specs.Shape.{strip_of, Lies, Found, map_part};
 
 // Where a strip stands in its page.
 #[derive(Drop)]
+#[derive(Clone, Copy)]
 struct Place {
     start: usize,
     end: usize,

@@ -1,4 +1,6 @@
 // Reading a page.
+#![tactic(auto)]
+
 ghost use Rattle.std.specs.Prelude.{◌≡◌, length};
 ghost use Rattle.codes.specs.Layouts.{one_bit};
 ghost use Rattle.codes.specs.Codes.{generators_of};

@@ -1,5 +1,7 @@
 // Pricing and writing the strips of a page that is in order: the loops behind the refusals. A write plans every strip before it touches
 // one.
+#![tactic(auto)]
+
 ghost use Rattle.std.specs.Prelude.{◌≡◌, ◌*◌, length};
 ghost use Rattle.std.proofs.Math.Option.{none};
 ghost use Rattle.cells.specs.Places.{Free};

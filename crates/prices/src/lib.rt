@@ -1,4 +1,6 @@
 // The table of rows by the weights: each row has the prices of the four words of a stage of two cells, one bit a cell.
+#![tactic(auto)]
+
 ghost use Rattle.std.specs.Prelude.{◌≡◌, ℕ, ◌+◌, ◌*◌, ◌<◌, ◌≤◌, get_or};
 ghost use Rattle.stages.specs.Stage.{closed};
 ghost use Rattle.prices.specs.Prices.{step_list, row_price, Table};

@@ -1,11 +1,14 @@
 // Why a call is refused, and the numbers of the refusals. `grounds` tests each ground in one place, and `judges` puts them in the paper's
 // order.
+#![tactic(auto)]
+
 ghost use Rattle.std.specs.Prelude.{◌≡◌};
 ghost use Rattle.std.proofs.Math.Option.{Option};
 ghost use Rattle.refusals.specs.Refusals.{first_of, refusal_number, completion_of, completion_number};
 
 // Why a call is refused, in the order of the tests; the paper's numbers are 1, 12, 2, 3, 13, 9, 10, 4, 11, 5, 8 and 14.
 #[derive(Drop)]
+#[derive(Clone, Copy)]
 pub enum Refusal {
     CodeUnknown,
     BandOutside,
@@ -23,6 +26,7 @@ pub enum Refusal {
 
 // The answer of a call that is done or refused.
 #[derive(Drop)]
+#[derive(Clone, Copy)]
 pub enum Completion {
     Done,
     Refused(Refusal),
@@ -30,6 +34,7 @@ pub enum Completion {
 
 // How many datas a call writes: one, or a list of so many.
 #[derive(Drop)]
+#[derive(Clone, Copy)]
 pub enum Count {
     One,
     List(u32),
@@ -37,6 +42,7 @@ pub enum Count {
 
 // The map that a call has: none, or one of so many bytes.
 #[derive(Drop)]
+#[derive(Clone, Copy)]
 pub enum Map {
     Nothing,
     Length(usize),

@@ -1,5 +1,7 @@
 // THE LAYOUT, for the search: which row of prices a stage picks. Two cells a stage, one bit a cell: a row is the kinds of the two cells and
 // the label. Two bits a cell and three cells a stage will be other rows.
+#![tactic(auto)]
+
 ghost use Rattle.std.specs.Prelude.{◌≡◌, ◌+◌, ◌*◌, ◌^◌, ◌<◌, ◌≤◌, length};
 ghost use Rattle.cells.specs.Bytes.{bit_of};
 ghost use Rattle.codes.specs.Taps.{window_of};

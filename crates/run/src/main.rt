@@ -1,5 +1,7 @@
 // The run program: it reads standard input, hands the bytes on to `script`, and prints what that says, in this order and nothing else.
 // Input and output have no model in the kit: that this loop reads and prints so, and libc, are what must be believed.
+#![tactic(auto)]
+
 ghost use Rattle.script.specs.Positions.{Leads};
 ghost use Rattle.script.specs.Buffers.{position_of, Ready, Blank};
 

@@ -10,6 +10,7 @@ use turns::{Run, following, line_turn};
 
 // The bytes of a line so far, and how many bytes were looked at.
 #[derive(Drop)]
+#[derive(Clone, Copy)]
 struct Part {
     used: usize,
     end: usize,

@@ -1,5 +1,7 @@
 // Eight stages at a time. The choice of each stage stands in the low byte of the costs, so that a stage is a sum and a minimum, and a
 // price and a write share it.
+#![tactic(auto)]
+
 ghost use Rattle.std.specs.Prelude.{◌≡◌, ℕ, ◌+◌, ◌-◌, ◌*◌, ◌^◌, ◌<◌, ◌≤◌, length, get_or};
 ghost use Rattle.codes.specs.Generators.{short, long};
 ghost use Rattle.codes.specs.Codes.{generators_of};

@@ -1,4 +1,6 @@
 // One stage of the search, from the back, on a row of four prices.
+#![tactic(auto)]
+
 pub mod stage;
 
 // From this number on there is no cost: `closed`.

@@ -1,10 +1,13 @@
 // The text of the run program: what a line says, and the texts that are printed.
+#![tactic(auto)]
+
 pub mod decoding;
 pub mod parsing;
 pub mod printing;
 
 // The three values of line 2.
 #[derive(Drop)]
+#[derive(Clone, Copy)]
 pub struct Values {
     pub code: u32,
     pub bytes: u32,
@@ -13,6 +16,7 @@ pub struct Values {
 
 // What line 2 gives: its values, where it is in form.
 #[derive(Drop)]
+#[derive(Clone, Copy)]
 pub enum Form {
     Given(Values),
     Broken,

@@ -1,4 +1,6 @@
 // A write of the run program, and its row.
+#![tactic(auto)]
+
 ghost use Rattle.std.specs.Prelude.{◌≡◌, ◌≤◌, length};
 ghost use Rattle.page_answers.specs.Answers.{answer_cost};
 ghost use Rattle.text.specs.Text.{Tail};

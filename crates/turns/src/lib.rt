@@ -1,4 +1,6 @@
 // What each line of the run program's input does, up to what is printed.
+#![tactic(auto)]
+
 pub mod following;
 
 ghost use Rattle.cells.specs.Places.{Free};
@@ -11,6 +13,7 @@ use text::Values;
 // Where a run is between two bytes of its input: the values of line 2, the number of the line that is being read, how many of its bytes are
 // kept, and whether the run goes on.
 #[derive(Drop)]
+#[derive(Clone, Copy)]
 pub struct Run {
     pub values: Values,
     pub number: u64,
@@ -20,6 +23,7 @@ pub struct Run {
 
 // What a whole line does: where the run is then, and where the text that is printed starts in the buffer.
 #[derive(Drop)]
+#[derive(Clone, Copy)]
 pub struct Turn {
     pub run: Run,
     pub at: usize,

@@ -1,4 +1,6 @@
 // The one number that an answer is to C.
+#![tactic(auto)]
+
 ghost use Rattle.std.specs.Prelude.{◌≡◌, ◌+◌, ◌*◌};
 ghost use Rattle.page_promises.specs.Lists.{ListBounds};
 ghost use Rattle.words.specs.Words.{answer_word, completion_word, list_word, Fields};

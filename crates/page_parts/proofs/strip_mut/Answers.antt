@@ -1,0 +1,11 @@
+-- The part lies in the page, and is the strip.
+use mathlib.Core.Path.{refl}
+use native.Mathlib.Omega.{arith}
+use Rattle.page_parts.proofs.strip_mut.Goals as goal
+
+pub returns : goal.returns
+returns c =
+    record {
+      result_value = c.find-p.ensures.is_strip _ refl;
+      lies = record { block = λ i. refl; offset = λ i. omega (arith, c.find-p.ensures.starts _ refl i) };
+    }
