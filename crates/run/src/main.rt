@@ -1,15 +1,38 @@
 // The run program: it reads standard input, hands the bytes on to `script`, and prints what that says, in this order and nothing else.
-// Input and output have no model in the kit: that this loop reads and prints so, and libc, are what must be believed.
+// Input and output have no model in std: that this loop reads and prints so, and the C library, are what must be believed.
 #![tactic(auto)]
 
 ghost use Rattle.script.specs.Positions.{Leads};
 ghost use Rattle.script.specs.Buffers.{position_of, Ready, Blank};
 
-use libc::{STDIN_FILENO, STDOUT_FILENO};
 use script::{Run, running};
+use std::io;
+use std::io::{Read, Stdin};
+
+// Standard output, and whether all was written. After a write that failed nothing more is written.
+#[derive(Drop)]
+struct Output<'a> {
+    rt: &'a HostRuntime,
+    written: io::Result<()>,
+}
+
+impl<'a> Output<'a> {
+    fn print(&mut self, text: &[u8]) {
+        if self.written.is_ok() {
+            self.written = self.rt.write_all(text);
+        }
+    }
+}
 
 // Hands the bytes of one read on, and prints what they lead to.
-fn hand_on(run: Run, bytes: &[u8], line: &mut [u8], page: &mut [u8], data: &mut [u8]) -> Run
+fn hand_on(
+    output: &mut Output<'_>,
+    run: Run,
+    bytes: &[u8],
+    line: &mut [u8],
+    page: &mut [u8],
+    data: &mut [u8],
+) -> Run
     requires { Ready run line.old page.old «data».old }
     ensures ready { Ready result line.new page.new «data».new }
     ensures leads { Leads (position_of run line.old page.old) bytes.now
@@ -21,7 +44,7 @@ fn hand_on(run: Run, bytes: &[u8], line: &mut [u8], page: &mut [u8], data: &mut 
     while i < bytes.len() {
         let step = running::take_bytes(state, &bytes[i..], line, page, data, &mut buffer);
         let at = step.at;
-        io::write_all(STDOUT_FILENO, &buffer[at..]);
+        output.print(&buffer[at..]);
         let next = step.run;
         state = next;
         i += step.taken;
@@ -30,39 +53,54 @@ fn hand_on(run: Run, bytes: &[u8], line: &mut [u8], page: &mut [u8], data: &mut 
 }
 
 // The end of the input.
-fn finish(run: Run) {
+fn finish(output: &mut Output<'_>, run: Run) {
     let mut buffer = [0u8; 96];
     let at = running::take_end(run, &mut buffer);
-    io::write_all(STDOUT_FILENO, &buffer[at..]);
+    output.print(&buffer[at..]);
 }
 
-// The whole input, which ends where a read brings nothing. A proved loop has to end, and nothing says that the input does: so it counts
-// down from a number that no run uses up.
-fn read_all(line: &mut [u8], page: &mut [u8], data: &mut [u8])
+// The whole input, which ends where a read brings nothing. A proved loop has to end, and nothing says that the input does: so there are at
+// most as many reads as no run uses up.
+fn read_all(
+    stdin: &mut Stdin,
+    output: &mut Output<'_>,
+    line: &mut [u8],
+    page: &mut [u8],
+    data: &mut [u8],
+) -> io::Result<()>
     requires { Blank line.old page.old «data».old }
 {
     let mut run = running::begin();
-    let mut reads_left = u64::MAX;
-    while reads_left > 0 {
-        if !run.on {
-            return;
+    let mut chunk = [0u8; 65536];
+    for _ in 0..u64::MAX {
+        if !run.on || output.written.is_err() {
+            return Ok(());
         }
-        let mut chunk = io::large_buffer();
-        let got = libc::read(STDIN_FILENO, &mut chunk);
-        let n = io::count(got, &chunk);
+        let n = stdin.read(&mut chunk)?;
         if n == 0 {
-            finish(run);
-            return;
+            finish(output, run);
+            return Ok(());
         }
-        run = hand_on(run, &chunk[..n], line, page, data);
-        reads_left -= 1;
+        run = hand_on(output, run, &chunk[..n], line, page, data);
     }
+    Ok(())
 }
 
 // The largest page has 24,576 bytes, its data 4,096, and of a line one byte more is kept than the longest one in form has.
-fn main() {
+fn main(rt: HostRuntime) -> io::Result<()> {
     let mut page = [0u8; 24576];
     let mut data = [0u8; 4096];
     let mut line = [0u8; 8193];
-    read_all(&mut line, &mut page, &mut data);
+    let mut output = Output {
+        rt: &rt,
+        written: Ok(()),
+    };
+    read_all(
+        &mut rt.stdin(),
+        &mut output,
+        &mut line,
+        &mut page,
+        &mut data,
+    )?;
+    output.written
 }
