@@ -59,8 +59,8 @@ fn finish(output: &mut Output<'_>, run: Run) {
     output.print(&buffer[at..]);
 }
 
-// The whole input, which ends where a read brings nothing. A proved loop has to end, and nothing says that the input does: so there are at
-// most as many reads as no run uses up.
+// The whole input, which ends where a read brings nothing. A proved loop has to end, and nothing says that the input does: so the reads are
+// counted, up to a number that no run comes to.
 fn read_all(
     stdin: &mut Stdin,
     output: &mut Output<'_>,
