@@ -1,0 +1,22 @@
+-- The strips of the one value, with the house's weights and a map that marks no cell.
+use mathlib.Core.Path.{◌∙◌, ap}
+use mathlib.Core.Option.{none}
+use Rattle.cells.proofs.Marks.{no-map}
+use Rattle.page_promises.specs.Writes.{job_answer}
+use Rattle.page_band.proofs.Values.{lent-in-order, lent-job}
+use Rattle.page_band.proofs.price_value.Goals as goal
+
+pub price_strips-requires : goal.price_strips-requires
+price_strips-requires c =
+    let both = lent-in-order c.args.code c.args.page.now c.args.value c.house_weights-weights.ensures c.value_bytes-data.ensures
+    c.requires in
+    record {
+      sized = both.0;
+      dear = both.1;
+    }
+
+pub returns : goal.returns
+returns c =
+    c.price_strips.ensures
+    ∙ ap (job_answer none) (lent-job c.args.code c.args.page.now c.args.value c.house_weights-weights.ensures c.value_bytes-data.ensures
+    c.code_of.ensures no-map)

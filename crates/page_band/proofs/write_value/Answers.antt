@@ -1,0 +1,27 @@
+-- The strips of the one value, with the house's weights and a map that marks no cell.
+use mathlib.Core.Path.{◌∙◌, ap}
+use mathlib.Core.Option.{none}
+use Rattle.cells.specs.Raising.{start_of}
+use Rattle.cells.proofs.Marks.{no-map}
+use Rattle.demand.specs.Jobs.{Job}
+use Rattle.page_promises.specs.Writes.{job_answer, job_page}
+use Rattle.page_band.proofs.Values.{lent-in-order, lent-job}
+use Rattle.page_band.proofs.write_value.Goals as goal
+
+pub write_strips-requires : goal.write_strips-requires
+write_strips-requires c =
+    let both = lent-in-order c.args.code c.args.page.now c.args.value c.house_weights-weights.ensures c.value_bytes-data.ensures
+    c.requires in
+    record {
+      sized = both.0;
+      dear = both.1;
+    }
+
+pub returns : goal.returns
+returns c =
+    let j = lent-job c.args.code c.args.page.now c.args.value c.house_weights-weights.ensures c.value_bytes-data.ensures
+    c.code_of.ensures no-map in
+    record {
+      value = c.write_strips.ensures.value ∙ ap (job_answer none) j;
+      page_after = c.write_strips.ensures.page_after ∙ ap (λ (J : Job). job_page none J start_of) j;
+    }
