@@ -28,7 +28,7 @@ module _ (start : ℕ → ℕ) {map : Option (List ℕ)} {W : List ℕ} {code L 
   -- the list has no ground
   listed-none : ground_of map W code L S count page content ≡ none
   listed-none =
-      none-applies (some count) (map_size map) W code L S (length page) (length content) P.sizes P.not-Free
+      none-applies (some count) (map_size map) W code L S (length page) (length content) P.sizes P.not_free
       (rw (limits-in count some-count (omega arith))) N.right low.size size
 
   -- its datas have their bytes
