@@ -1,0 +1,12 @@
+-- The answer is the call's, in one word.
+use mir.Syntax.{w16}
+use mir.ValLaws.{to_z-of_z}
+use Rattle.firmware.proofs.segrunov_erase_mapped.Goals as goal
+
+pub returns : goal.returns
+returns c =
+    let e = rw (to_z-of_z w16 c.args.tenths c.ranges.tenths) at c.erase_mapped.ensures in
+    record {
+      value = rw e.value at c.completion_word.ensures;
+      page_after = e.page_after;
+    }
