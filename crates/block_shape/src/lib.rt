@@ -6,8 +6,9 @@ ghost use Rattle.std.proofs.Math.Option.{none};
 ghost use Rattle.refusals.specs.Refusals.{limits_ground, page_bytes, directory_size, pages_ground, block_ground, put_ground, live_ground};
 ghost use Rattle.refusals.specs.Refusals.{block_erasing, completion_of};
 
-use grounds::{judge_data, judge_limits, judge_sizes, judge_tenths};
-use refusals::{Completion, Count, Refusal, earlier};
+use refusals::{
+    Completion, Count, Refusal, earlier, judge_data, judge_limits, judge_sizes, judge_tenths,
+};
 
 // The bytes of a page.
 pub fn page_size(bytes: u32, strips: u32) -> usize

@@ -8,11 +8,10 @@ ghost use Rattle.refusals.specs.Refusals.{count_given, map_given, limits_ground,
 ghost use Rattle.refusals.specs.Refusals.{value_ground, erasing_ground, numbered, completion_of};
 
 use codes::Code;
-use grounds::{
-    judge_band, judge_count, judge_data, judge_limits, judge_map, judge_page, judge_sizes,
-    judge_tenths, judge_weights,
+use refusals::{
+    Completion, Count, Map, earlier, judge_band, judge_count, judge_data, judge_limits, judge_map,
+    judge_page, judge_sizes, judge_tenths, judge_weights,
 };
-use refusals::{Completion, Count, Map, earlier};
 
 // Judges L, S and the page's length, in this order.
 pub fn judge_shape(bytes: u32, strips: u32, page: usize) -> Completion

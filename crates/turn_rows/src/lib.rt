@@ -13,7 +13,7 @@ use text::{Values, printing};
 pub fn size(v: Values) -> usize
     ensures { (result ≤ 4096) × (result ≡ size_of v) }
 {
-    let judged = grounds::judge_sizes(v.code, v.bytes, v.strips);
+    let judged = refusals::judge_sizes(v.code, v.bytes, v.strips);
     match judged {
         Completion::Done => (v.bytes as usize) * (v.strips as usize),
         Completion::Refused(_) => 0,

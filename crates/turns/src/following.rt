@@ -61,7 +61,7 @@ pub fn values_turn(v: Values, line: &[u8], buffer: &mut [u8]) -> Turn
     let Form::Given(w) = form else {
         return stop_form(v, 2, buffer);
     };
-    let judged = grounds::judge_sizes(w.code, w.bytes, w.strips);
+    let judged = refusals::judge_sizes(w.code, w.bytes, w.strips);
     match judged {
         Completion::Refused(r) => stop(v, refusals::refusal_number(r) as u64, 2, buffer),
         Completion::Done => Turn {
