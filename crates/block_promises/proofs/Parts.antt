@@ -13,7 +13,7 @@ use mathlib.Core.Option.{none}
 use Prim.Native.Nat.{ℕ, zero, suc, ◌<◌, ◌≤◌, ◌+◌, ◌*◌}
 use native.Mathlib.Omega.{arith}
 use native.Mathlib.Nat.{mul_assoc}
-use lib.ListN.{length, take, drop, length-drop}
+use lib.ListN.{length, drop, length-drop}
 use lib.Seq.{length-take-le}
 use Rattle.cells.specs.Bytes.{Octets}
 use Rattle.cells.specs.Levels.{level}
@@ -25,11 +25,11 @@ use Rattle.cells.proofs.Parts.{within}
 use Rattle.codes.proofs.Layouts.{one_bit-bytes}
 use Rattle.demand.specs.Jobs.{InOrder}
 use Rattle.refusals.specs.Refusals.{one_to_64, is_code, code_ground, bytes_ground, strips_ground, limits_ground, sizes_ground, free_step}
-use Rattle.refusals.specs.Refusals.{weights_ground, directory_code, directory_bytes, directory_strips, directory_size, page_bytes, block_size}
+use Rattle.refusals.specs.Refusals.{weights_ground, directory_code, directory_bytes, directory_strips, page_bytes}
 use Rattle.refusals.proofs.Refusals.{none-applies, PutFits, put-in-order}
 use Rattle.page_promises.specs.Writes.{ground_with}
 use Rattle.page_promises.proofs.Promise.{job-in-order}
-use Rattle.block_promises.specs.Block.{directory_of, page_in, page_cell_count, block_cells, directory_cells, directory_job, page_job}
+use Rattle.block_promises.specs.Block.{directory_of, page_in, page_cell_count, block_cells, directory_job, page_job}
 use Rattle.block_promises.specs.Block.{ground_of_put}
 use Rattle.block_promises.proofs.Windows.{house-dear, cells_fill, window-level}
 

@@ -3,7 +3,7 @@
 --   page-ends        a page of the block ends within it
 --   page-reads       the page is in order for a read
 --   directory-reads  the directory is read by code 3, with L = 1 and S = 1
-use mathlib.Core.Path.{◌≡◌, refl, sym, ◌∙◌}
+use mathlib.Core.Path.{◌≡◌, refl, ◌∙◌}
 use mathlib.Core.List.{List}
 use mathlib.Core.Option.{none}
 use Prim.Native.Nat.{ℕ, ◌+◌, ◌*◌, ◌-◌, ◌<◌, ◌≤◌}

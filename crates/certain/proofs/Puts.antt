@@ -20,22 +20,20 @@ use Rattle.cells.specs.Climbs.{house}
 use Rattle.cells.proofs.Places.{same?, each_first}
 use Rattle.cells.proofs.Bytes.{one-octet}
 use Rattle.cells.proofs.Parts.{within}
-use Rattle.codes.specs.Layouts.{one_bit}
 use Rattle.codes.proofs.Layouts.{one_bit-bytes}
 use Rattle.demand.specs.Offers.{Offer}
 use Rattle.demand.proofs.Offers.{not_none, unchosen}
 use Rattle.refusals.specs.Refusals.{one_to_64, is_code, code_ground, bytes_ground, strips_ground, limits_ground, sizes_ground}
 use Rattle.refusals.specs.Refusals.{directory_code, directory_bytes, directory_strips, directory_size, page_bytes, block_size, pages_ground}
 use Rattle.refusals.proofs.Refusals.{pages-limits, put-permitted}
-use Rattle.page_answers.specs.Answers.{offered}
 use Rattle.page_answers.specs.declared.Answer.TheVariants as A
 use Rattle.page_promises.specs.Writes.{answer_of, page_by}
 use Rattle.page_known.proofs.Known.{cases-hold}
-use Rattle.block_promises.specs.Block.{directory_of, page_in, put_offer, put_choice, put_block, ground_of_put, put_answer, block_after, block_by}
+use Rattle.block_promises.specs.Block.{directory_of, page_in, put_offer, put_choice, put_block, ground_of_put, put_answer}
 use Rattle.block_promises.proofs.Windows.{zero_bytes, window-zeros}
 use Rattle.block_promises.proofs.Parts.{Fit, put-fits}
-use Rattle.block_promises.proofs.Block.{directory_answer, directory-plain, page-plain, TwoWrites, two-writes, in-order-put}
-use Rattle.certain.specs.Certain.{Permitted, DataFor, Low, Sure}
+use Rattle.block_promises.proofs.Block.{directory-plain, page-plain, TwoWrites, two-writes, in-order-put}
+use Rattle.certain.specs.Certain.{Permitted, DataFor, Low}
 use Rattle.certain.specs.Puts.{certain_puts, block_puts, CertainPuts}
 use Rattle.certain.proofs.Certain.{turn-certain, turn_low, no-marks, erased-low, house-permitted}
 

@@ -1,3 +1,2 @@
 // The paper's table of known cases, and runs of writes, each row computed. It has no function.
 #![tactic(auto)]
-

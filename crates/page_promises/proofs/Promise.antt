@@ -11,12 +11,11 @@
 --   could-done                      a call with no ground is done where some page could be
 --   done-not-spent, spent-no-page   spent exactly when there is no page
 --   spent-any-weights               and whether it is does not depend on the weights
-use mathlib.Core.Path.{◌≡◌, refl, sym, ◌∙◌, ap, subst}
+use mathlib.Core.Path.{◌≡◌, refl, ◌∙◌, ap, subst}
 use mathlib.Core.Bool.{Bool}
 use mathlib.Core.List.{List}
 use mathlib.Core.Option.{Option, none, some}
 use Prim.Native.Nat.{ℕ}
-use native.Mathlib.Omega.{arith}
 use lib.ListN.{length}
 use Rattle.cells.specs.Bytes.{Octets}
 use Rattle.cells.specs.Climbs.{Weights}

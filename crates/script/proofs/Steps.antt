@@ -26,7 +26,7 @@ use Rattle.script.specs.Runs.{lines_from, run_from}
 use Rattle.turns.specs.declared.Run.{Run}
 use Rattle.turns.specs.declared.Turn.{Turn}
 use Rattle.text.proofs.Text.{nothing_put}
-use Rattle.script.specs.Positions.{Position, prints_from, taken}
+use Rattle.script.specs.Positions.{Position, prints_from}
 use Rattle.script.specs.Buffers.{kept_bytes, position_of, Ready, Blank, LineEnd, KeptPart, Stepped}
 use Rattle.turns.specs.Buffers.{most_page, Holds}
 use Rattle.script.proofs.Positions.{stopped-silent, stopped-takes, part-takes, line-takes}

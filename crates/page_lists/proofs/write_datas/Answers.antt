@@ -1,6 +1,6 @@
 use mathlib.Core.Path.{◌≡◌, refl, sym, ◌∙◌}
 use mathlib.Core.Option.{none}
-use Prim.Native.Nat.{◌≤◌, ◌-◌}
+use Prim.Native.Nat.{◌≤◌}
 use native.Mathlib.Omega.{arith}
 use mir.Syntax.{w8}
 use borrow.Author.Rules.{elem_Fits}
@@ -11,7 +11,6 @@ use Rattle.trellis.proofs.Ways.{Suits, suits}
 use Rattle.page_promises.specs.Writes.{one_bit_job, job_answer, job_page}
 use Rattle.page_answers.specs.Answers.{answer_cost}
 use Rattle.page_promises.specs.Lists.{data_of, course_after}
-use Rattle.page_answers.specs.declared.End.TheVariants as E
 use Rattle.page_promises.proofs.Lists.{with-one, not-ended}
 use Rattle.page_lists.proofs.Turns.{data-fits, data-most, count_most, turn-sized, turn-course, turn-ended, turn_below}
 use Rattle.page_lists.proofs.write_datas.Goals as goal

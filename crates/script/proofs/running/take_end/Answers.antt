@@ -27,8 +27,8 @@ returns c =
     record {
       upper_bound = c.stop_form-turn.ensures.text_is.at_most;
       by_index = λ line page h. elim c.if-run-eq0.branch [
-        then-run-eq0+else-number-gt3 w ↦
-          tail-same (end-missing c.args.run line page on w.if-run-eq0.true w.if-number-gt3.false) c.stop_form-turn.ensures.text_is
-      | else-run-eq0 w ↦ tail-same (end-open c.args.run line page on h w.if-run-eq0.false) c.stop_form-turn.ensures.text_is
+        | then-run-eq0+else-number-gt3 w ↦
+            tail-same (end-missing c.args.run line page on w.if-run-eq0.true w.if-number-gt3.false) c.stop_form-turn.ensures.text_is
+        | else-run-eq0 w ↦ tail-same (end-open c.args.run line page on h w.if-run-eq0.false) c.stop_form-turn.ensures.text_is
       ];
     }

@@ -1,6 +1,6 @@
 -- The invariant: before block q the numbers tell what the states cost from there on (BlocksDecoded), and the blocks from q on are kept.
 use mathlib.Core.Path.{◌≡◌}
-use Prim.Native.Nat.{ℕ, ◌<◌, ◌≤◌, ◌+◌, ◌*◌, ◌-◌}
+use Prim.Native.Nat.{ℕ, ◌<◌, ◌≤◌, ◌+◌, ◌*◌}
 use lib.ListN.{length, get_or}
 use Rattle.cells.specs.Places.{Untouched}
 use Rattle.cells.specs.Levels.{level}

@@ -1,5 +1,4 @@
 -- The invariant: before block q the numbers tell what the states cost from there on (BlocksDecoded).
-use Prim.Native.Nat.{◌-◌}
 use Rattle.cells.specs.Marks.{marks_in}
 use Rattle.codes.specs.Codes.{generators_of}
 use Rattle.trellis.proofs.Ways.{BlocksDecoded}
