@@ -1,4 +1,4 @@
-# make test    everything: set-up, formatting, documents, every proof, every must-fail edit, every program
+# make test    everything: set-up, documents, layout, every proof, every must-fail edit, every program
 # make run     runs a list of writes: examples/writes.txt, or SCRIPT=file
 # make lib     proves the C interface and makes the folder target/segrunov: libsegrunov.a beside segrunov.h
 #              TARGET=triple: for another processor, target/segrunov-TRIPLE (FLAGS=.. for its compiler, CLANG=.. for another one): docs/PROCESSORS.md
@@ -20,32 +20,38 @@ HAVE_RT = command -v rt > /dev/null || { echo "make: the command rt of the Rattl
 test: setup
 	@bash tests/gate
 
-# The program is proved before it is run; what the prover says is shown where it fails.
+# The program is proved and built before it is run, once without input; what the prover says is shown where it fails.
 SCRIPT = examples/writes.txt
 run:
 	@$(HAVE_RT)
 	@mkdir -p target
-	@rt check run > target/run.log 2>&1 || { cat target/run.log; exit 1; }
-	@target/bin/run < $(SCRIPT)
+	@(cd crates/run && rt run < /dev/null) > target/run.log 2>&1 || { cat target/run.log; exit 1; }
+	@crates/run/out/run < $(SCRIPT)
 
 OWN = target/segrunov
 LIB = $(OWN)$(if $(TARGET),-$(TARGET))
 lib: $(LIB)/libsegrunov.a $(LIB)/segrunov.h
 	@echo "lib: $(LIB) has libsegrunov.a and segrunov.h"
 
-# The one place that knows the archive's name in the kit. Folders are listed too, since a file that is gone is a change.
-$(OWN)/libsegrunov.a: crates.txt KIT $(shell find crates)
+# The archive is of crate firmware_c, for the processor that every x86-64 serves. Folders are listed too, since a file that is gone is a change;
+# what rt keeps in out/ is none. With CHECKED=yes the libraries below are those that rt ci left in this checkout right before, as in tests/gate:
+# rt lib would prove each of them once more.
+$(OWN)/libsegrunov.a: crates.txt KIT $(shell find crates -name out -prune -o -print)
 	@$(HAVE_RT)
 	@mkdir -p target
-	@rt staticlib firmware > target/lib.log 2>&1 || { cat target/lib.log; exit 1; }
-	@install -D -m 644 target/staticlib/libfirmware.a $@
+ifdef CHECKED
+	@cross/build $@ > target/lib.log 2>&1 || { cat target/lib.log; exit 1; }
+else
+	@(cd crates/firmware_c && rt lib --cpu x86-64) > target/lib.log 2>&1 || { cat target/lib.log; exit 1; }
+	@install -D -m 644 crates/firmware_c/out/libfirmware_c.a $@
+endif
 
 $(LIB)/segrunov.h: include/segrunov.h
 	@install -D -m 644 $< $@
 
 # For another processor: made again where the archive for x86-64 is another one, or the compiler or its flags are others than the last time.
 ifdef TARGET
-$(LIB)/libsegrunov.a: $(OWN)/libsegrunov.a target/cross/$(TARGET).flags cross/lib cross/compile
+$(LIB)/libsegrunov.a: $(OWN)/libsegrunov.a target/cross/$(TARGET).flags cross/lib cross/build cross/compile
 	@$(HAVE_RT)
 	@CLANG="$(CLANG)" cross/lib $(TARGET) $(FLAGS)
 

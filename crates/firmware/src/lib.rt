@@ -1,5 +1,5 @@
-// The calls for the relay's firmware, which is in C: numbers and byte slices go in, one number comes out. The declarations for C are in
-// include/segrunov.h.
+// The calls for the relay's firmware, which is in C: numbers and byte slices go in, one number comes out. Crate `firmware_c` exports them, and
+// the declarations for C are in include/segrunov.h.
 #![tactic(auto)]
 
 ghost use Rattle.std.specs.Prelude.{◌≡◌, [], ◌∷◌, ◌%◌, ◌≤◌, length, replicate};
@@ -21,14 +21,7 @@ ghost use Rattle.words.specs.Words.{answer_word, completion_word, list_word, Fie
 use words::{answer_word, completion_word, list_word};
 
 // Fills a buffer of L.S bytes with what the page reads as.
-#[unsafe(no_mangle)]
-pub extern "C" fn segrunov_read(
-    code: u32,
-    bytes: u32,
-    strips: u32,
-    page: &[u8],
-    data: &mut [u8],
-) -> u64
+pub fn segrunov_read(code: u32, bytes: u32, strips: u32, page: &[u8], data: &mut [u8]) -> u64
     ensures value { result ≡ completion_word (completion_of (ground code bytes strips (length page.now)
         (length «data».old))) }
     ensures data_after { «data».new ≡ kept (ground code bytes strips (length page.now) (length «data».old))
@@ -38,14 +31,7 @@ pub extern "C" fn segrunov_read(
 }
 
 // What a write of the same data would answer; nothing is changed.
-#[unsafe(no_mangle)]
-pub extern "C" fn segrunov_price(
-    code: u32,
-    bytes: u32,
-    strips: u32,
-    page: &[u8],
-    data: &[u8],
-) -> u64
+pub fn segrunov_price(code: u32, bytes: u32, strips: u32, page: &[u8], data: &[u8]) -> u64
     ensures value { result ≡ answer_word (answer_of house code bytes strips page.now «data».now) }
     ensures wrote { Wrote house code bytes strips page.now «data».now
         (page_of house code bytes strips page.now «data».now)
@@ -56,14 +42,7 @@ pub extern "C" fn segrunov_price(
 }
 
 // Writes the data at the least cost.
-#[unsafe(no_mangle)]
-pub extern "C" fn segrunov_write(
-    code: u32,
-    bytes: u32,
-    strips: u32,
-    page: &mut [u8],
-    data: &[u8],
-) -> u64
+pub fn segrunov_write(code: u32, bytes: u32, strips: u32, page: &mut [u8], data: &[u8]) -> u64
     ensures value { result ≡ answer_word (answer_of house code bytes strips page.old «data».now) }
     ensures page_after { page.new ≡ page_of house code bytes strips page.old «data».now }
     ensures wrote { Wrote house code bytes strips page.old «data».now page.new
@@ -74,8 +53,7 @@ pub extern "C" fn segrunov_write(
 }
 
 // What a write of the same data with these weights would answer; nothing is changed.
-#[unsafe(no_mangle)]
-pub extern "C" fn segrunov_price_weighted(
+pub fn segrunov_price_weighted(
     code: u32,
     bytes: u32,
     strips: u32,
@@ -96,8 +74,7 @@ pub extern "C" fn segrunov_price_weighted(
 }
 
 // Writes the data at the least cost in these weights.
-#[unsafe(no_mangle)]
-pub extern "C" fn segrunov_write_weighted(
+pub fn segrunov_write_weighted(
     code: u32,
     bytes: u32,
     strips: u32,
@@ -118,8 +95,7 @@ pub extern "C" fn segrunov_write_weighted(
 }
 
 // What a write of the same data with this map and these weights would answer; nothing is changed.
-#[unsafe(no_mangle)]
-pub extern "C" fn segrunov_price_mapped(
+pub fn segrunov_price_mapped(
     code: u32,
     bytes: u32,
     strips: u32,
@@ -142,8 +118,7 @@ pub extern "C" fn segrunov_price_mapped(
 }
 
 // Writes the data at the least cost in these weights, and raises no cell that the map marks.
-#[unsafe(no_mangle)]
-pub extern "C" fn segrunov_write_mapped(
+pub fn segrunov_write_mapped(
     code: u32,
     bytes: u32,
     strips: u32,
@@ -168,8 +143,7 @@ pub extern "C" fn segrunov_write_mapped(
 }
 
 // Writes the datas one after another, each at the least cost in these weights, and stops before the first for which the page is spent.
-#[unsafe(no_mangle)]
-pub extern "C" fn segrunov_write_list(
+pub fn segrunov_write_list(
     code: u32,
     bytes: u32,
     strips: u32,
@@ -193,8 +167,7 @@ pub extern "C" fn segrunov_write_list(
 }
 
 // Writes the datas one after another, each at the least cost in these weights, and raises no cell that the map marks.
-#[unsafe(no_mangle)]
-pub extern "C" fn segrunov_write_list_mapped(
+pub fn segrunov_write_list_mapped(
     code: u32,
     bytes: u32,
     strips: u32,
@@ -223,8 +196,7 @@ pub extern "C" fn segrunov_write_list_mapped(
 }
 
 // Writes the cheapest value that is at most the band away from the one given, of equals the nearest, then the lower.
-#[unsafe(no_mangle)]
-pub extern "C" fn segrunov_write_band(code: u32, page: &mut [u8], value: u16, band: u32) -> u64
+pub fn segrunov_write_band(code: u32, page: &mut [u8], value: u16, band: u32) -> u64
     ensures value { result ≡ answer_word (plain_answer (band_answer code page.old value band)) }
     ensures page_after { page.new ≡ band_page code page.old value band }
     ensures wrote_band { WroteBand code page.old value band page.new
@@ -236,8 +208,7 @@ pub extern "C" fn segrunov_write_band(code: u32, page: &mut [u8], value: u16, ba
 }
 
 // Makes every byte of the page 0 at a temperature from 50 to 400 tenths of a degree.
-#[unsafe(no_mangle)]
-pub extern "C" fn segrunov_erase(bytes: u32, strips: u32, page: &mut [u8], tenths: i16) -> u64
+pub fn segrunov_erase(bytes: u32, strips: u32, page: &mut [u8], tenths: i16) -> u64
     ensures value { result ≡ completion_word (completion_of (first_of (shape_ground bytes strips (length page.old))
         (erase_ground tenths))) }
     ensures page_after { page.new ≡ kept (first_of (shape_ground bytes strips (length page.old)) (erase_ground tenths))
@@ -247,8 +218,7 @@ pub extern "C" fn segrunov_erase(bytes: u32, strips: u32, page: &mut [u8], tenth
 }
 
 // Empties every cell that the map does not mark, at a temperature from 50 to 400 tenths of a degree; the bits of the others stay.
-#[unsafe(no_mangle)]
-pub extern "C" fn segrunov_erase_mapped(
+pub fn segrunov_erase_mapped(
     bytes: u32,
     strips: u32,
     page: &mut [u8],
@@ -264,8 +234,7 @@ pub extern "C" fn segrunov_erase_mapped(
 }
 
 // Writes the data into the page of the block for which that page and the directory cost least, the lowest number of equals.
-#[unsafe(no_mangle)]
-pub extern "C" fn segrunov_block_put(
+pub fn segrunov_block_put(
     code: u32,
     bytes: u32,
     strips: u32,
@@ -283,8 +252,7 @@ pub extern "C" fn segrunov_block_put(
 }
 
 // Fills a buffer of L.S bytes with what the live page of the block reads as.
-#[unsafe(no_mangle)]
-pub extern "C" fn segrunov_block_get(
+pub fn segrunov_block_get(
     code: u32,
     bytes: u32,
     strips: u32,
@@ -301,8 +269,7 @@ pub extern "C" fn segrunov_block_get(
 }
 
 // Makes every byte of the block 0 at a temperature from 50 to 400 tenths of a degree.
-#[unsafe(no_mangle)]
-pub extern "C" fn segrunov_block_erase(
+pub fn segrunov_block_erase(
     bytes: u32,
     strips: u32,
     pages: u32,
