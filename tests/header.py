@@ -3,9 +3,9 @@
 them, where the bytes that a page or its map has for each byte of data are others than in the code, where the bytes of a
 block or the place of a page in it are other sums than in the definitions, where what a certain write costs at most is
 another product, where the fields of an answer are not those of the definitions, where a call is declared otherwise than
-crates/firmware exports it, where the header or README.md has the grounds of a call, or the order in which they are
-tested, otherwise than the definitions, where the enum of the refusals has another order, and where tests/measure.c lacks
-a call that the header declares.
+crates/firmware_c exports it, or is exported without its own name, where the header or README.md has the grounds of a
+call, or the order in which they are tested, otherwise than the definitions, where the enum of the refusals has another
+order, and where tests/measure.c lacks a call that the header declares.
 
 The stack is no number of the definitions: tests/measure.c holds it against the calls.
 """
@@ -31,42 +31,42 @@ PUTS = "crates/certain/specs/Puts.antt"
 # For each number, the definition that has it.
 DEFINED = {
     "SHORT": (REFUSALS, "numbered code = cond (eqb code {}) short long"),
-    "LONG": (REFUSALS, "isCode n = eqb n 3 || eqb n {}"),
-    "DONE": (ANSWERS, "numberOf (A.Done cost) = {}"),
-    "CODE": (REFUSALS, "refusalNumber CodeUnknown = {}"),
-    "BYTES": (REFUSALS, "refusalNumber BytesOutside = {}"),
-    "STRIPS": (REFUSALS, "refusalNumber StripsOutside = {}"),
-    "PAGE_LENGTH": (REFUSALS, "refusalNumber PageLength = {}"),
-    "DATA_LENGTH": (REFUSALS, "refusalNumber DataLength = {}"),
-    "SPENT": (ANSWERS, "numberOf (A.Spent strip) = {}"),
-    "TEMPERATURE": (REFUSALS, "refusalNumber EraseTemperature = {}"),
-    "WEIGHT": (REFUSALS, "refusalNumber WeightZero = {}"),
-    "COUNT": (REFUSALS, "refusalNumber CountOutside = {}"),
-    "MAP_LENGTH": (REFUSALS, "refusalNumber MapLength = {}"),
-    "BAND": (REFUSALS, "refusalNumber BandOutside = {}"),
-    "PAGES": (REFUSALS, "refusalNumber PagesOutside = {}"),
-    "NO_PAGE": (REFUSALS, "refusalNumber PageMissing = {}"),
+    "LONG": (REFUSALS, "is_code n = eqb n 3 || eqb n {}"),
+    "DONE": (ANSWERS, "number_of (A.Done cost) = {}"),
+    "CODE": (REFUSALS, "refusal_number CodeUnknown = {}"),
+    "BYTES": (REFUSALS, "refusal_number BytesOutside = {}"),
+    "STRIPS": (REFUSALS, "refusal_number StripsOutside = {}"),
+    "PAGE_LENGTH": (REFUSALS, "refusal_number PageLength = {}"),
+    "DATA_LENGTH": (REFUSALS, "refusal_number DataLength = {}"),
+    "SPENT": (ANSWERS, "number_of (A.Spent strip) = {}"),
+    "TEMPERATURE": (REFUSALS, "refusal_number EraseTemperature = {}"),
+    "WEIGHT": (REFUSALS, "refusal_number WeightZero = {}"),
+    "COUNT": (REFUSALS, "refusal_number CountOutside = {}"),
+    "MAP_LENGTH": (REFUSALS, "refusal_number MapLength = {}"),
+    "BAND": (REFUSALS, "refusal_number BandOutside = {}"),
+    "PAGES": (REFUSALS, "refusal_number PagesOutside = {}"),
+    "NO_PAGE": (REFUSALS, "refusal_number PageMissing = {}"),
     "HOUSE_W1": (CLIMBS, "house = {} ∷ 20 ∷ 28 ∷ []"),
     "HOUSE_W2": (CLIMBS, "house = 16 ∷ {} ∷ 28 ∷ []"),
     "HOUSE_W3": (CLIMBS, "house = 16 ∷ 20 ∷ {} ∷ []"),
-    "MAX_COST": (WRITES, "largestCost = {}"),
-    "MAX_WEIGHTED_COST": (WRITES, "largestWeightedCost = {}"),
-    "MAX_LIST": (REFUSALS, "oneTo64 n = leb 1 n && leb n {}"),
-    "MAX_LIST_COST": (LISTS, "largestListCost = {}"),
-    "BAND_BYTES": (REFUSALS, "bandBytes = {}"),
-    "BAND_STRIPS": (REFUSALS, "bandStrips = {}"),
-    "MAX_BAND": (REFUSALS, "bandGround M = cond (leb M {}) none (some BandOutside)"),
-    "MAX_BAND_COST": (BAND, "largestBandCost = {}"),
-    "MIN_PAGES": (REFUSALS, "pagesGround P = cond (leb {} P && leb P 16) none (some PagesOutside)"),
-    "MAX_PAGES": (REFUSALS, "pagesGround P = cond (leb 2 P && leb P {}) none (some PagesOutside)"),
-    "MAX_PUT_COST": (BLOCK, "largestPutCost = {}"),
-    "DIRECTORY_BYTES": (REFUSALS, "directorySize = {}"),
+    "MAX_COST": (WRITES, "largest_cost = {}"),
+    "MAX_WEIGHTED_COST": (WRITES, "largest_weighted_cost = {}"),
+    "MAX_LIST": (REFUSALS, "one_to_64 n = leb 1 n && leb n {}"),
+    "MAX_LIST_COST": (LISTS, "largest_list_cost = {}"),
+    "BAND_BYTES": (REFUSALS, "band_bytes = {}"),
+    "BAND_STRIPS": (REFUSALS, "band_strips = {}"),
+    "MAX_BAND": (REFUSALS, "band_ground M = cond (leb M {}) none (some BandOutside)"),
+    "MAX_BAND_COST": (BAND, "largest_band_cost = {}"),
+    "MIN_PAGES": (REFUSALS, "pages_ground P = cond (leb {} P && leb P 16) none (some PagesOutside)"),
+    "MAX_PAGES": (REFUSALS, "pages_ground P = cond (leb 2 P && leb P {}) none (some PagesOutside)"),
+    "MAX_PUT_COST": (BLOCK, "largest_put_cost = {}"),
+    "DIRECTORY_BYTES": (REFUSALS, "directory_size = {}"),
     "PAGE_BYTES": (CODES, "pub const STRIP_BYTES: usize = {};"),
     "MAP_BYTES": (CODES, "pub const MAP_BYTES: usize = {};"),
-    "CERTAIN_WRITES": (CERTAIN, "certainWrites = {}"),
-    "CERTAIN_COST": (CERTAIN, "certainMost L S k W = {} * L * S * dearest k W"),
-    "FIRST_BIT_CHANGES": (CHANGES, "mostChanges = {}"),
-    "CERTAIN_PUTS": (PUTS, "certainPuts = {}"),
+    "CERTAIN_WRITES": (CERTAIN, "certain_writes = {}"),
+    "CERTAIN_COST": (CERTAIN, "certain_most L S k W = {} * L * S * dearest k W"),
+    "FIRST_BIT_CHANGES": (CHANGES, "most_changes = {}"),
+    "CERTAIN_PUTS": (PUTS, "certain_puts = {}"),
 }
 
 # What the bytes for each byte of data are multiplied by, and the cost of a certain write.
@@ -77,20 +77,20 @@ WEIGHED = re.escape("(weight) * (bytes) * (strips)")
 SUMS = [
     (
         "BLOCK_BYTES(bytes, strips, pages) (SEGRUNOV_DIRECTORY_BYTES + SEGRUNOV_PAGE_BYTES(bytes, strips) * (size_t)(pages))",
-        (REFUSALS, "blockSize L S P = directorySize + pageBytes L S * P"),
+        (REFUSALS, "block_size L S P = directory_size + page_bytes L S * P"),
     ),
     (
         "BLOCK_PAGE(bytes, strips, number) SEGRUNOV_BLOCK_BYTES(bytes, strips, number)",
-        (BLOCK, "pageIn L S i block = take (pageBytes L S) (drop (directorySize + pageBytes L S * i) block)"),
+        (BLOCK, "page_in L S i block = take (page_bytes L S) (drop (directory_size + page_bytes L S * i) block)"),
     ),
 ]
 
 # The fields of an answer, the lowest first, and the definitions that say at which power of two each but the first begins.
 FIELDS = ["VALUE", "NUMBER", "WRITTEN", "SPENT_STRIP"]
 PLACES = [
-    "answerWord a = numberOf a * 2 ^ {NUMBER} + valueOf a",
-    "completionWord c = completionNumber c * 2 ^ {NUMBER}",
-    "listWord a = a .cost + listNumber a * 2 ^ {NUMBER} + a .written * 2 ^ {WRITTEN} + listStrip a * 2 ^ {SPENT_STRIP}",
+    "answer_word a = number_of a * 2 ^ {NUMBER} + value_of a",
+    "completion_word c = completion_number c * 2 ^ {NUMBER}",
+    "list_word a = a.cost + list_number a * 2 ^ {NUMBER} + a.written * 2 ^ {WRITTEN} + list_strip a * 2 ^ {SPENT_STRIP}",
 ]
 
 # What the types of the calls are to C. A slice is a pointer and a length.
@@ -100,8 +100,8 @@ SLICES = {"&[u8]": "const uint8_t *", "&mut [u8]": "uint8_t *"}
 # The definition that has the grounds of a call, by its name or else by the verb of it, and the parameter that each ground is about: 'as far as a
 # call has the item'. Those of a block stand with a block's definitions.
 GROUNDS = {
-    **{"read": "ground", "price": "listGround", "write": "listGround", "write_band": "valueGround", "erase": "erasingGround"},
-    **{"block_put": "putGround", "block_get": "groundOfGet", "block_erase": "blockErasing"},
+    **{"read": "ground", "price": "list_ground", "write": "list_ground", "write_band": "value_ground", "erase": "erasing_ground"},
+    **{"block_put": "put_ground", "block_get": "ground_of_get", "block_erase": "block_erasing"},
 }
 ITEMS = {
     **{1: "code", 12: "band", 2: "bytes", 3: "strips", 13: "pages", 9: "w1", 10: "count", 4: "page or block", 11: "map", 5: "data"},
@@ -113,11 +113,11 @@ SPENDING = {"price", "write", "block_put"}
 
 # That of two grounds the one that stands first is tested first, and spent after all from the input.
 IN_TURN = [
-    (REFUSALS, "first-of (some r) later = some r"),
-    (WRITES, "callAnswer (some r) w k = A.Refused r"),
-    (LISTS, "unlessRefused (some r) c before = record { page = before; answer = refusedList r }"),
-    (BAND, "  bandAnswerBy (some r) o = B.Refused r"),
-    (BLOCK, "  putAnswerBy (some r) o = A.Refused r"),
+    (REFUSALS, "first_of (some r) later = some r"),
+    (WRITES, "call_answer (some r) w k = A.Refused r"),
+    (LISTS, "unless_refused (some r) c before = record { page = before; answer = refused_list r }"),
+    (BAND, "  band_answer_by (some r) o = B.Refused r"),
+    (BLOCK, "  put_answer_by (some r) o = A.Refused r"),
 ]
 
 # Numbers in a sentence.
@@ -192,7 +192,8 @@ def declarations(header):
 def misdeclared(header, exported):
     """What is wrong with the declarations: names, types and order of the parameters, a call that is missing, and what else there is."""
     wanted, there = [prototype(f) for f in exported], declarations(header)
-    bad = [f"include/segrunov.h does not declare '{line}'" for line in wanted if line not in there]
+    bad = [f"{f.where}: {f.name} is not exported by its own name" for f in exported if not f.named]
+    bad += [f"include/segrunov.h does not declare '{line}'" for line in wanted if line not in there]
     return bad + [f"include/segrunov.h declares '{line}', and no function is exported so" for line in there if line not in wanted]
 
 
@@ -213,11 +214,11 @@ def spelled(text):
 
 def tested(definition):
     """The numbers of a definition's grounds in the order in which they are tested: that in which they stand."""
-    numbers = dict(re.findall(r"^refusalNumber (\w+) = (\d+)$", read(REFUSALS), re.M))
+    numbers = dict(re.findall(r"^refusal_number (\w+) = (\d+)$", read(REFUSALS), re.M))
     order = []
     for equation in re.findall(rf"^{definition} .*?=(.*(?:\n +\S.*)*)", read(REFUSALS) + read(BLOCK), re.M):
         for word in re.findall(r"\w+", equation):
-            order += [int(numbers[word])] if word in numbers else tested(word) if word.endswith("Ground") else []
+            order += [int(numbers[word])] if word in numbers else tested(word) if word.endswith("_ground") else []
     return order
 
 
@@ -231,7 +232,7 @@ def grounds(function):
 
 def in_enum():
     """The numbers of all grounds in the order of the enum, which is said to be that of the tests."""
-    numbers = dict(re.findall(r"^refusalNumber (\w+) = (\d+)$", read(REFUSALS), re.M))
+    numbers = dict(re.findall(r"^refusal_number (\w+) = (\d+)$", read(REFUSALS), re.M))
     members = re.search(r"^pub enum Refusal \{\n(.*?)^\}", read(ENUM), re.M | re.S)[1]
     return [int(numbers[name]) for name in re.findall(r"\w+", members)]
 
@@ -239,7 +240,7 @@ def in_enum():
 def misordered(exported):
     """What is wrong with the sentences about the order of the tests, and with what each call is said to be refused by, in that order."""
     bad = [f"{path} has no line '{line}'" for path, line in IN_TURN if line not in read(path).splitlines()]
-    whole, state, header = in_enum(), tested("eraseGround") + tested("liveGround"), prose("include/segrunov.h")
+    whole, state, header = in_enum(), tested("erase_ground") + tested("live_ground"), prose("include/segrunov.h")
     for definition in GROUNDS.values():
         order = tested(definition)
         if [number for number in whole if number in order] != order:

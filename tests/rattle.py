@@ -8,15 +8,16 @@ import sys
 
 from repository import ROOT, crates
 
-# What is not code: comments, byte strings and bytes.
-MASKED = re.compile(r"""//[^\n]*|(?<!\w)b"(?:\\.|[^"\\])*"|(?<!\w)b'(?:\\.|[^'\\])'""")
+# What is not code: comments, strings, characters and bytes; the string of `extern "C"` is code.
+MASKED = re.compile(r"""(?P<code>\bextern\s+"C")|//[^\n]*|(?<!\w)b?"(?:\\.|[^"\\])*"|(?<!\w)b?'(?:\\[^\n']+|[^'\\\n])'""")
 ITEM = re.compile(
-    r"""(?P<public>\bpub\b(?:\([^)]*\))?\s+)?(?P<exported>\bextern\s+"C"\s+)?\bfn\s+(?P<name>\w+)\s*
-    | \bimpl\b\s*(?:<[^>]*>\s*)?(?P<type>\w+)[^{]*\{""",
+    r"""(?P<named>\#\[unsafe\(no_mangle\)\]\s+)?(?P<public>\bpub\b(?:\([^)]*\))?\s+)?(?P<exported>\bextern\s+"C"\s+)?\bfn\s+(?P<name>\w+)\s*
+    | \bimpl\b\s*(?:<[^>]*>\s*)?(?:[\w:<>, ]+\sfor\s+)?(?P<type>\w+)[^{]*\{""",
     re.X,
 )
-RESULT = re.compile(r"\s*(?:->([^{}]+?))?\s*(?=\{|\brequires\b|\bensures\b)")
-CLAUSE = re.compile(r"\s*(requires|ensures)\b\s*[\w-]*\s*(?=\{)")
+RESULT = re.compile(r"\s*(?:->([^{}]+?))?\s*(?=\{|\bghost\b|\brequires\b|\bensures\b)")
+GHOST = re.compile(r"\s*ghost\b\s*\w+\s*:\s*(?=\{)")
+CLAUSE = re.compile(r"\s*(requires|ensures)\b\*?\s*([\w-]*)\s*(?=\{)")
 BODY = re.compile(r"\s*(?=\{)")
 CLOSING = {"(": ")", "{": "}", "<": ">"}
 
@@ -24,14 +25,18 @@ CLOSING = {"(": ")", "{": "}", "<": ">"}
 @dataclasses.dataclass
 class Function:
     where: str  # crates/page/src/shape.rt:39
+    lines: range  # those that it stands on, from the first word of its signature to the last brace
     crate: str
     name: str  # page::shape::strip
     public: bool
     exported: bool  # to C
+    named: bool  # there by its own name
     parameters: list  # names and types
     result: str  # its type; empty where there is none
     requires: list  # the clauses' texts
     ensures: list
+    names: dict  # of a kind of clause the names of its clauses, each in the place of its text; empty where a clause has none
+    body: str
 
 
 def after(text, at):
@@ -72,21 +77,24 @@ def head(text, at):
     if not result:
         raise ValueError("no contract and no body follow its signature")
     given, end = text[at + 1 : end - 1], result.end()
-    clauses = {"requires": [], "ensures": []}
+    clauses, names = {"requires": [], "ensures": []}, {"requires": [], "ensures": []}
+    if ghost := GHOST.match(text, end):
+        end = after(text, ghost.end())
     while clause := CLAUSE.match(text, end):
         end = after(text, clause.end())
         clauses[clause[1]].append(text[clause.end() + 1 : end - 1])
+        names[clause[1]].append(clause[2])
     body = BODY.match(text, end)
     if not body:
         raise ValueError("no body follows its contract")
-    return list(parameters(given)), (result[1] or "").strip(), clauses, body.end()
+    return list(parameters(given)), (result[1] or "").strip(), {**clauses, "names": names}, body.end()
 
 
 def sources(crate):
     """The modules of a crate: the name of each, its file and its text with what is not code left blank."""
     for path in sorted((ROOT / "crates" / crate / "src").glob("**/*.rt")):
         module = path.relative_to(ROOT / "crates" / crate / "src").with_suffix("").parts
-        text = MASKED.sub(lambda m: re.sub(r"[^\n]", " ", m[0]), path.read_text(encoding="utf-8"))
+        text = MASKED.sub(lambda m: m[0] if m["code"] else re.sub(r"[^\n]", " ", m[0]), path.read_text(encoding="utf-8"))
         where = path.relative_to(ROOT)
         if "/*" in text or re.search(r"\bmod\s+\w+\s*\{", text):
             sys.exit(f"{where}: a comment in /* */, or a module in braces, is not understood")
@@ -105,15 +113,18 @@ def of_crate(crate):
             if item["type"]:
                 owner, until = item["type"], after(text, at - 1)
                 continue
+            first = len(text[: item.start() + 1].splitlines())
             where = f"{path}:{len(text[:at].splitlines())}"
             try:
                 given, result, clauses, body = head(text, at)
                 at = after(text, body)
+                lines = range(first, len(text[:at].splitlines()) + 1)
             except ValueError as e:
                 sys.exit(f"{where}: fn {item['name']} is not understood: {e}")
             seen += 1
             name = "::".join([homes[owner], owner, item["name"]] if item.start() < until else [module, item["name"]])
-            yield Function(where, crate, name, bool(item["public"]), bool(item["exported"]), given, result, **clauses)
+            kinds = {kind: bool(item[kind]) for kind in ("public", "exported", "named")}
+            yield Function(where, lines, crate, name, **kinds, parameters=given, result=result, **clauses, body=text[body + 1 : at - 1])
         words = len(re.findall(r"\bfn\b", text))
         if seen != words:
             sys.exit(f"{path}: {seen} functions are understood, and the word fn stands there {words} times")
@@ -121,8 +132,12 @@ def of_crate(crate):
 
 def handed_on(crate):
     """The names of the functions of other crates that a crate hands on by `pub use`; a type's name begins with a capital letter."""
-    lines = (line for _, _, text in sources(crate) for line in re.findall(r"^\s*pub use ([\w:]+);$", text, re.M))
-    return {name for name in lines if not name.split("::")[-1][0].isupper()}
+    names = set()
+    for _, _, text in sources(crate):
+        for line in re.findall(r"^\s*pub use ([^;]+);", text, re.M):
+            path, _, group = line.partition("{")
+            names |= {path + name for name in re.findall(r"\w+", group)} if group else {path}
+    return {name for name in names if not name.split("::")[-1][0].isupper()}
 
 
 def constants(crate):

@@ -11,9 +11,9 @@ def read(path):
 
 
 def crates():
-    """The crates of crates.txt."""
-    names = (line.split("#")[0].split(":")[0].strip() for line in read("crates.txt").splitlines())
-    return [name for name in names if name]
+    """The crates of crates.txt. Words after the name, as in `firmware_c staticlib: firmware`, say what kind of crate it is."""
+    heads = (line.split("#")[0].split(":")[0].split() for line in read("crates.txt").splitlines())
+    return [head[0] for head in heads if head]
 
 
 def edits():
