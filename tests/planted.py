@@ -1,8 +1,8 @@
 #!/usr/bin/env python3
 """Plants faults in a copy of the repository, one at a time, and fails where the check that is to find one passes, or does not name it.
 
-The logs of the must-fail edits are made up, in the prover's forms, since the real ones are there only after rt ci; tests/measure.c measures a
-library whose calls do nothing; and what the gate runs beside the checks is a stand-in that passes.
+What rt says of the must-fail edits is made up, in its own forms and the prover's, since it is there only after rt ci; tests/measure.c measures
+a library whose calls do nothing; and what the gate runs beside the checks is a stand-in that passes.
 """
 import os
 import pathlib
@@ -13,17 +13,18 @@ import subprocess
 import sys
 import tempfile
 
-from edits import first_named, proof_of
-from repository import ROOT, edits, finish, floor, read
+from edits import FUNCTIONS, first_named, proofs_of
+from repository import ROOT, declared, edits, finish, floor, read
 
 # The edit that faults are planted in.
 CRATE, NAME = edits()[0]
 EDIT = f"crates/{CRATE}/must-fail/{NAME}.edit"
-LOG = f"target/must-fail/{CRATE}/{NAME}/.log"
+LOG = "target/ci.log"
 OLD = re.search(r"^old: (.*)$", read(EDIT), re.M)[1]
 
 # Files that faults are planted in; most of them price.
 FIRMWARE = "crates/firmware/src/lib.rt"
+EXPORTS = "crates/firmware_c/src/lib.rt"
 HEADER = "include/segrunov.h"
 REFUSALS = "crates/refusals/specs/Refusals.antt"
 ENUM = "crates/refusals/src/lib.rt"
@@ -38,6 +39,9 @@ ROWS = "crates/rows/src/lib.rt"
 PARTS = "crates/page_parts/src/lib.rt"
 STRIP = "code, &rows, strip(page, bytes, k), map_part(map, bytes, k), &data[a..a + bytes]"
 KEPT = "let mut kept = [0u8; 64]; kept[0] = 1;"
+
+# Where rt cuts the first line of the prover.
+CUT = 160
 
 # What rt ci is to count.
 PROVED = floor()["crates"] + floor()["edits"]
@@ -70,7 +74,7 @@ def delete(path):
 def function(crate, signature, *clauses):
     """A function in front of one that has a contract. Without clauses its brace stands on the signature's line."""
     head = "\n    ".join([signature, *clauses]) + ("\n{" if clauses else " {")
-    other = "pub fn after(n: u32) -> u32\n    ensures { λ r. ⌜ r ≡ n ⌝ }\n{\n    n\n}"
+    other = "pub fn after(n: u32) -> u32\n    ensures { result ≡ n }\n{\n    n\n}"
     return append(f"crates/{crate}/src/lib.rt", f"\n{head}\n    0\n}}\n\n{other}\n")
 
 
@@ -83,25 +87,39 @@ def number(name, more):
     return change("tests/floor.txt", rf"^{name} .*", f"{name} {floor()[name] + more}")
 
 
-def log(crate, name, *reports):
-    """The log of an edit that is refused. AT in a report is the folder in which it was tried."""
-    return "\n".join([*reports, "logic=not-proved", ""]).replace("AT/", f"/any/target/must-fail/{crate}/{name}/")
+def said_of(crate, name, what):
+    """The line in which rt says what an edit came to."""
+    return f"rt: must-fail {crate}/{name}.edit: {what}"
 
 
-def logged(*reports):
-    """Another log of the edit."""
-    return {LOG: lambda old: log(CRATE, NAME, *reports)}
+def said(what, crate=CRATE, name=NAME):
+    """Another such line of an edit, or none."""
+    return change(LOG, rf"^{re.escape(said_of(crate, name, ''))}.*\n", said_of(crate, name, what) + "\n" if what else "")
 
 
-def named_log(crate, name):
-    """A log in which an edit fails first at the statement that it names, after what rests on it."""
+def refused(report, only="", of=(CRATE, NAME)):
+    """An edit as refused, with another first line of the prover."""
+    return said(f"refused, as it must be{only}: {report[:CUT]}", *of)
+
+
+def named_line(crate, name):
+    """What rt says of an edit that fails first at the statement that it names."""
     statement, _, place = (first_named(crate, name) or "").partition(" of ")
-    file = proof_of(place).removeprefix(f"crates/{crate}/")
-    if (ROOT / "crates" / crate / file).is_file():
-        failed = f"AT/{file}:1:1: error: `{statement}`: expected type `P`\n  but this has type `Q`"
-    else:
-        failed = f"note: AT/src/lib.rt:1:1: it is not proved that P (`{statement}`)\nfn {place}: no proof: expected `planted-spec`"
-    return log(crate, name, "AT/proofs/Lib.antt:1:1: note: large solution", RESTS, failed)
+    report = None
+    for path in (path for path in proofs_of(place) if (ROOT / path).is_file()):
+        text, file = read(path), path.removeprefix(f"crates/{crate}/")
+        if declared(path, statement):
+            report = f"./{file}:1:1: error: `{statement}`: expected type `P`, but this has type `Q`"
+        elif inner := re.search(rf"\blet {re.escape(statement)} :", text):
+            before = text[: inner.end()].split("\n")
+            report = report or f"./{file}:{len(before)}:{len(before[-1]) + 2}: error: `planted`: `omega`: the goal does not follow"
+    if not report and place in FUNCTIONS:
+        function = FUNCTIONS[place]
+        clauses = function.names["ensures"]
+        goal = f"{statement}-clause-{clauses[-1]}" if statement.startswith("returns") and len(clauses) > 1 else statement
+        file = function.where.rpartition(":")[0].removeprefix(f"crates/{crate}/")
+        report = f"note: {file}:{function.lines[-1]}:5: it is not proved that what the function ensures holds when it returns (`{goal}`)"
+    return said_of(crate, name, f"refused, as it must be: {(report or '')[:CUT]}")
 
 
 def in_price_strip(line, item=""):
@@ -145,12 +163,14 @@ def refused_by(call, old, new):
     return {HEADER: lambda text: re.sub(rf"(?<=Refused by ){comment}", new, text, flags=re.S)}
 
 
-RESTS = "AT/proofs/Lib.antt:1:1: error: `rests`: `planted` was not admitted (it was rejected), so this cannot be checked"
-SEARCH = "`search`: no proof of `P`\n  was found. It stopped 2 lemmas deep, with lemmas still to try"
-SAID = f"note: what antt said of a `search` in the proof that rattle made: AT/src/lib.rt:1:1: `planted`: {SEARCH}"
-NOTE = "note: AT/src/lib.rt:1:1: it is not proved that P (`planted`)"
-PROOF = "AT/proofs/planted/Proof.antt:1:1:"
-ASKS = "requires { ⌜ ⊤ ⌝ }"
+SEARCH = "`search`: no proof of `P` was found. It stopped 2 lemmas deep, with lemmas still to try"
+LINE = next(f.lines[0] for f in FUNCTIONS.values() if f.where.startswith(f"crates/{CRATE}/src/lib.rt:"))
+NOTE = f"note: src/lib.rt:{LINE}:1: it is not proved that P (`planted`)"
+WITHIN, INSIDE = ("codes", "bit_by_the_wrong_parity"), "proofs/strips/read_byte/Answers.antt"
+PROOF = "./proofs/planted/Answers.antt:1:1:"
+BY_A_LIMIT = " (only by a limit of the prover, which gave no verdict, so this says less of the contract: choose a change that it refuses sooner)"
+BY_A_NAME = " (only because a proof file names what the edit took away, so this says little of the contract: change a value and keep the names)"
+ASKS = "requires { Unit }"
 STORE = "if page.len() > 0 { page[0] = 0; }"
 FLAG = "pub enum Flag { No, Yes }"
 FIELDS, FIELDS_VALUE = struct("Fields", 64, "u32", "0")
@@ -167,31 +187,46 @@ FAULTS = {
     "contracts.py": [
         ("page::planted is public and has no ensures", function("page", "pub fn planted(n: u32) -> u32")),
         ("page::planted is public and has no ensures", function("page", "pub fn planted<'a>(x: &'a [u8], y: &'a [u8]) -> u32")),
-        ("page::planted has a result of which", function("page", "pub fn planted(n: u32) -> u32", "ensures { λ _. ⌜ n ≡ _ ⌝ }")),
-        ("page::planted has a result of which", function("page", "pub fn planted(n: u32) -> u32", "ensures { λ r. ⌜ n ≡ n ⌝ }")),
-        ("may change x,", function("text", "fn planted(x: &mut [u8]) -> u32", "ensures { λ r. ⌜ r ≡ length (now (x .entry)) ⌝ }")),
-        ("page::planted is to take every input", function("page", "pub fn planted()", ASKS, "ensures { λ _. ⌜ ⊤ ⌝ }")),
-        ("text::planted is to take every input", function("text", 'extern "C" fn planted()', ASKS, "ensures { λ _. ⌜ ⊤ ⌝ }")),
-        ("page_reading::read is to take every input", before(READING, "    ensures { λ r. ⌜ r ≡ completionOf (ground", f"    {ASKS}\n")),
-        ("refusals::planted is to take every input", function("refusals", "pub fn planted()", ASKS, "ensures { λ _. ⌜ ⊤ ⌝ }")),
+        ("page::planted has a result of which", function("page", "pub fn planted(n: u32) -> u32", "ensures { n ≡ n + 0 }")),
+        ("page::planted has a result of which", function("page", "pub fn planted(n: u32) -> u32", "ensures { All (λ result. result ≡ n) }")),
+        ("page::planted has a result of which", function("page", "pub fn planted(n: u32) -> u32", "ensures { (result : ℕ) → result ≡ n }")),
+        ("page::planted has a result of which", function("page", "pub fn planted(n: u32) -> u32", "ensures { let result = n in result ≡ n }")),
+        ("may change x,", function("text", "fn planted(x: &mut [u8]) -> u32", "ensures { result ≡ length x.old }")),
+        ("may change data,", function("text", "fn planted(data: &mut [u8]) -> u32", "ensures { result ≡ length («data».old) }")),
+        ("page::planted is to take every input", function("page", "pub fn planted()", ASKS, "ensures { Unit }")),
+        ("page::planted is to take every input", function("page", "pub fn planted()", "requires first { Unit }", "ensures* { Unit }")),
+        ("text::planted is to take every input", function("text", 'extern "C" fn planted()', ASKS, "ensures { Unit }")),
+        ("page_reading::read is to take every input", before(READING, "    ensures value { result ≡ completion_of (ground", f"    {ASKS}\n")),
+        ("refusals::planted is to take every input", function("refusals", "pub fn planted()", ASKS, "ensures { Unit }")),
         ("BEHIND has grounds::judge_sizes, which", change("tests/contracts.py", r"(?<=grounds::)judge_page", "judge_sizes")),
         ("hands on page_reading::planted, which", append("crates/page/src/reading.rt", "pub use page_reading::planted;\n")),
-        ("both sides of ≡", function("page", "pub fn planted(n: u32) -> u32", "ensures { λ r. ⌜ r ≡ r ⌝ }")),
-        ("both sides of ≡", function("page", "pub fn planted(n: u32) -> u32", "ensures { λ r. ⌜ n + r ≡ (n + (r)) ⌝ }")),
-        ("both sides of ≤", function("page", "pub fn planted(n: u32) -> u32", "ensures { λ r. ⌜ r ≤ r ⌝ }")),
-        ("both sides of ≤", function("page", "pub fn planted(n: u32) -> u32", "ensures { λ r. ⌜ (n ≤ 4294967295) × (r ≤ r) ⌝ }")),
-        ("both sides of ≡", function("page", "pub fn planted(n: u32) -> u32", "ensures { λ r. ⌜ n < 4294967296 × r ≡ r ⌝ }")),
-        ("both sides of ≡", function("page", "pub fn planted(n: u32) -> u32", "ensures { λ r. ⌜ ((k : ℕ) → k < n → r ≡ r) ⌝ }")),
-        ("both sides of ≡", function("page", "pub fn planted(n: u32) -> u32", "ensures { λ r. ⌜ All (λ k. r + k ≡ r + k) ⌝ }")),
-        (
-            "both sides of ≡",
-            function("page", "pub fn planted(x: &[u8]) -> &[u8]", "ensures { λ r. ⌜ length (now r) ≡ length (now r) ⌝ }"),
-        ),
-        ("both sides of ≡", function("text", "fn planted(x: &mut [u8])", "ensures { λ _. ⌜ (x .exit) ≡ (x .exit) ⌝ }")),
-        ("both sides of ≡", function("text", "fn planted(x: &mut [u8])", "ensures { λ _. ⌜ now (x .exit) ≡ now (x .exit) ⌝ }")),
+        ("hands on page_reading::planted, which", append("crates/page/src/reading.rt", "pub use page_reading::{\n    read, planted,\n};\n")),
+        ("both sides of ≡", function("page", "pub fn planted(n: u32) -> u32", "ensures { result ≡ result }")),
+        ("both sides of ≡", function("page", "pub fn planted(n: u32) -> u32", "ensures value { result ≡ n }", "ensures same { result ≡ result }")),
+        ("both sides of ≡", function("page", "pub fn planted(n: u32) -> u32", "ensures { n + result ≡ (n + (result)) }")),
+        ("both sides of ≤", function("page", "pub fn planted(n: u32) -> u32", "ensures { result ≤ result }")),
+        ("both sides of ≤", function("page", "pub fn planted(n: u32) -> u32", "ensures { (n ≤ 4294967295) × (result ≤ result) }")),
+        ("both sides of ↔", function("page", "pub fn planted(n: u32) -> bool", "ensures { IsTrue result ↔ IsTrue result }")),
+        ("both sides of ≡", function("page", "pub fn planted(n: u32) -> u32", "ensures { n < 4294967296 × result ≡ result }")),
+        ("both sides of ≡", function("page", "pub fn planted(n: u32) -> u32", "ensures { (k : ℕ) → k < n → result ≡ result }")),
+        ("both sides of ≡", function("page", "pub fn planted(n: u32) -> u32", "ensures { All (λ k. result + k ≡ result + k) }")),
+        ("both sides of ≡", function("page", "pub fn planted(n: u32) -> u32", "ensures { let k = n in result + k ≡ result + k }")),
+        ("both sides of ≡", function("page", "pub fn planted(n: u32) -> u32", "ensures* { ⌜ result ≡ result ⌝ ∗ ⌜ result < n ⌝ }")),
+        ("both sides of ≡", function("page", "pub fn planted(x: &[u8]) -> &[u8]", "ensures { length result.now ≡ length result.now }")),
+        ("both sides of ≡", function("text", "fn planted(data: &mut [u8])", "ensures { «data».new ≡ (data.new) }")),
+        ("both sides of ≡", function("text", "fn planted(x: &mut [u8])", "ensures { (x.exit).now ≡ (x.exit).now }")),
         ("1 public constants PLANTED, and 0 ensures", append("crates/text/src/lib.rt", "\npub const PLANTED: usize = 1;\n")),
         ("2 public constants CLOSED, and 1 ensures", append("crates/text/src/lib.rt", "\npub const CLOSED: usize = 1;\n")),
-        ("1 public constants LOWEST, and 0 ensures", change(ROWS, r"⟦LOWEST⟧", "LOWEST")),
+        ("1 public constants LOWEST, and 0 ensures", change(ROWS, r"LOWEST(?= ≡)", "1")),
+        ("1 public constants LOWEST, and 0 ensures", change(ROWS, r"LOWEST ≡ .*(?= \})", "result ≡ LOWEST")),
+        ("segrunov_price has another contract than", instead(FIRMWARE, "result % 4294967296 ≤ largest_cost", "result % 4294967296 ≤ largest_list_cost")),
+        ("segrunov_write has another contract than", instead(EXPORTS, "page.new ≡ page_of house", "page.new ≡ page_by house")),
+        ("segrunov_erase has another contract than", change(EXPORTS, r"(?<=_erase\(bytes: u32, strips: u32, page: &mut \[u8\], tenths: )i16", "u16")),
+        ("segrunov_read is another call than", instead(EXPORTS, "read(code, bytes, strips,", "read(code, strips, bytes,")),
+        ("segrunov_write is another call than", instead(EXPORTS, "firmware::segrunov_write(", "firmware::segrunov_price(")),
+        ("no function of the name of firmware_c::segrunov_planted", append(EXPORTS, '\npub extern "C" fn segrunov_planted() {\n}\n')),
+        ("firmware::segrunov_planted is not exported", function("firmware", "pub fn segrunov_planted(n: u32) -> u32", "ensures { result ≡ 0 }")),
+        ("firmware::segrunov_read is exported, and not", change(FIRMWARE, r"^pub (?=fn segrunov_read\()", 'pub extern "C" ')),
         ("fn planted is not understood", append("crates/text/src/lib.rt", "\nfn planted(n: u32) -> u32;\n")),
         ("the word fn stands there", append("crates/text/src/lib.rt", "\nconst PLANTED: fn(u32) -> u32 = planted;\n")),
         ("is not understood", append("crates/text/src/lib.rt", "\n/* fn planted() {} */\n")),
@@ -212,7 +247,7 @@ FAULTS = {
     ],
     "header.py": [
         ("SEGRUNOV_MAX_COST is 1835007,", change("include/segrunov.h", "1835008", "1835007")),
-        ("SEGRUNOV_MAX_COST is 1835008,", change("crates/page_promises/specs/Writes.antt", r"^largestCost = .*", "largestCost = 1835009")),
+        ("SEGRUNOV_MAX_COST is 1835008,", change("crates/page_promises/specs/Writes.antt", r"^largest_cost = .*", "largest_cost = 1835009")),
         ("SEGRUNOV_MAX_WEIGHTED_COST is 16711679,", change("include/segrunov.h", "16711680", "16711679")),
         ("SEGRUNOV_HOUSE_W2 is 28,", change("include/segrunov.h", r"UINT8_C\(20\)", "UINT8_C(28)")),
         ("SEGRUNOV_HOUSE_W3 is 28,", change("crates/cells/specs/Climbs.antt", r"^house = .*", "house = 16 ∷ 20 ∷ 24 ∷ []")),
@@ -221,25 +256,25 @@ FAULTS = {
         ("SEGRUNOV_COUNT is 12,", change("include/segrunov.h", r"UINT32_C\(10\)", "UINT32_C(12)")),
         ("SEGRUNOV_MAX_LIST is 63,", change("include/segrunov.h", r"UINT32_C\(64\)", "UINT32_C(63)")),
         ("SEGRUNOV_MAX_LIST_COST is 50135039,", change("include/segrunov.h", "50135040", "50135039")),
-        ("SEGRUNOV_MAX_LIST_COST is 50135040,", change("crates/page_promises/specs/Lists.antt", r"^largestListCost = .*", "largestListCost = 1")),
+        ("SEGRUNOV_MAX_LIST_COST is 50135040,", change("crates/page_promises/specs/Lists.antt", r"^largest_list_cost = .*", "largest_list_cost = 1")),
         ("SEGRUNOV_MAX_BAND is 7,", change("include/segrunov.h", r"(?<=MAX_BAND UINT32_C\()8", "7")),
-        ("SEGRUNOV_MAX_BAND_COST is 896,", change(BAND, r"^largestBandCost = .*", "largestBandCost = 1792")),
-        ("SEGRUNOV_BAND_BYTES is 2,", change(REFUSALS, r"^bandBytes = .*", "bandBytes = 1")),
+        ("SEGRUNOV_MAX_BAND_COST is 896,", change(BAND, r"^largest_band_cost = .*", "largest_band_cost = 1792")),
+        ("SEGRUNOV_BAND_BYTES is 2,", change(REFUSALS, r"^band_bytes = .*", "band_bytes = 1")),
         ("SEGRUNOV_PAGES is 14,", change("include/segrunov.h", r"UINT32_C\(13\)", "UINT32_C(14)")),
         ("SEGRUNOV_NO_PAGE is 14,", change(REFUSALS, r"(?<=PageMissing = )14", "13")),
         ("SEGRUNOV_MIN_PAGES is 1,", change("include/segrunov.h", r"(?<=MIN_PAGES UINT32_C\()2", "1")),
         ("SEGRUNOV_MAX_PAGES is 16,", instead(REFUSALS, "leb P 16", "leb P 15")),
-        ("SEGRUNOV_MAX_PUT_COST is 1835456,", change(BLOCK, r"^largestPutCost = .*", "largestPutCost = 1835008")),
+        ("SEGRUNOV_MAX_PUT_COST is 1835456,", change(BLOCK, r"^largest_put_cost = .*", "largest_put_cost = 1835008")),
         ("SEGRUNOV_CERTAIN_PUTS is 5,", change("include/segrunov.h", r"(?<=CERTAIN_PUTS UINT32_C\()4", "5")),
-        ("SEGRUNOV_DIRECTORY_BYTES is 6,", change(REFUSALS, r"^directorySize = .*", "directorySize = 12")),
+        ("SEGRUNOV_DIRECTORY_BYTES is 6,", change(REFUSALS, r"^directory_size = .*", "directory_size = 12")),
         ("does not define SEGRUNOV_DIRECTORY_BYTES", instead(HEADER, "DIRECTORY_BYTES ((size_t)6)", "DIRECTORY_BYTES 6")),
         ("does not define SEGRUNOV_BLOCK_BYTES(", instead(HEADER, "(SEGRUNOV_DIRECTORY_BYTES + SEGRUNOV_PAGE", "(SEGRUNOV_PAGE")),
         ("does not define SEGRUNOV_BLOCK_PAGE(", instead(HEADER, "SEGRUNOV_BLOCK_BYTES(bytes, strips, number)", "(number)")),
-        ("has no line 'blockSize L S P = ", change(REFUSALS, r"^blockSize L S P = .*", "blockSize L S P = pageBytes L S * P")),
-        ("has no line 'pageIn L S i block = ", instead(BLOCK, "(drop (directorySize + ", "(drop (")),
-        ("has no line 'answerWord a = numberOf a * 2 ^ 31 +", change("include/segrunov.h", r">> 32(?= & UINT64_C\(0xff\))", ">> 31")),
-        ("has no line 'listWord a = ", change("crates/words/specs/Words.antt", r"(?<=a \.written \* 2 \^ )40", "41")),
-        ("has no line 'listWord a = ", change("crates/words/specs/Words.antt", r"(?<=listStrip a \* 2 \^ )48", "47")),
+        ("has no line 'block_size L S P = ", change(REFUSALS, r"^block_size L S P = .*", "block_size L S P = page_bytes L S * P")),
+        ("has no line 'page_in L S i block = ", instead(BLOCK, "(drop (directory_size + ", "(drop (")),
+        ("has no line 'answer_word a = number_of a * 2 ^ 31 +", change("include/segrunov.h", r">> 32(?= & UINT64_C\(0xff\))", ">> 31")),
+        ("has no line 'list_word a = ", change("crates/words/specs/Words.antt", r"(?<=a\.written \* 2 \^ )40", "41")),
+        ("has no line 'list_word a = ", change("crates/words/specs/Words.antt", r"(?<=list_strip a \* 2 \^ )48", "47")),
         ("SEGRUNOV_NUMBER does not end where SEGRUNOV_WRITTEN begins", change("include/segrunov.h", r"(?<=>> 32 & UINT64_C\(0xff)", "f")),
         ("SEGRUNOV_WRITTEN does not end where SEGRUNOV_SPENT_STRIP begins", change("include/segrunov.h", r"(?<=>> 40) & UINT64_C\(0xff\)", "")),
         ("has the fields VALUE, NUMBER, WRITTEN of an answer", change("include/segrunov.h", r"(?<=SEGRUNOV_SPENT_STRIP)\(answer\)", "(word)")),
@@ -247,7 +282,7 @@ FAULTS = {
         ("SEGRUNOV_PAGE_BYTES is 6,", change("crates/codes/src/lib.rt", r"(?<=STRIP_BYTES: usize = )6", "3")),
         ("does not define SEGRUNOV_MAP_BYTES", change("include/segrunov.h", r"(?<=\(size_t\)2 \* \(size_t\)\()bytes", "strips")),
         ("SEGRUNOV_CERTAIN_WRITES is 4,", change("include/segrunov.h", r"(?<=CERTAIN_WRITES UINT32_C\()3", "4")),
-        ("SEGRUNOV_CERTAIN_COST is 8,", change("crates/certain/specs/Certain.antt", r"(?<=^certainMost L S k W = )8", "4")),
+        ("SEGRUNOV_CERTAIN_COST is 8,", change("crates/certain/specs/Certain.antt", r"(?<=^certain_most L S k W = )8", "4")),
         ("does not define SEGRUNOV_CERTAIN_COST", change("include/segrunov.h", r"(?<=\(weight\) \* \(bytes\)) \* \(strips\)", "")),
         ("SEGRUNOV_FIRST_BIT_CHANGES is 7,", change("include/segrunov.h", r"(?<=FIRST_BIT_CHANGES UINT32_C\()6", "7")),
         ("SEGRUNOV_PLANTED has no definition", append("include/segrunov.h", "#define SEGRUNOV_PLANTED UINT32_C(1)\n")),
@@ -265,8 +300,10 @@ FAULTS = {
         ("does not declare 'uint64_t segrunov_read(", declared("read", "const uint8_t *page", "uint8_t *page")),
         ("declares 'uint64_t segrunov_write(", declared("write", "uint8_t *page", "const uint8_t *page")),
         ("does not declare 'uint64_t segrunov_erase(", change(HEADER, r"^uint64_t segrunov_erase\(.*\n", "")),
-        ("does not declare 'uint64_t segrunov_read(", instead(FIRMWARE, "bytes: u32,\n    strips: u32", "strips: u32,\n    bytes: u32")),
-        ("does not declare 'uint64_t segrunov_read_planted(", append(FIRMWARE, '\npub extern "C" fn segrunov_read_planted() -> u64 {\n    0\n}\n')),
+        ("does not declare 'uint64_t segrunov_read(", instead(EXPORTS, "bytes: u32,\n    strips: u32", "strips: u32,\n    bytes: u32")),
+        ("does not declare 'uint64_t segrunov_read_planted(", append(EXPORTS, '\npub extern "C" fn segrunov_read_planted() -> u64 {\n    0\n}\n')),
+        ("segrunov_price is not exported by its own name", change(EXPORTS, r"#\[unsafe\(no_mangle\)\]\n(?=pub extern \"C\" fn segrunov_price\()", "")),
+        ("segrunov_read is not exported by its own name", instead(EXPORTS, "#[unsafe(no_mangle)]", "#[no_mangle]")),
         ("declares 'extern int segrunov_planted', and no", append(HEADER, "extern int segrunov_planted;\n")),
         ("does not say 'The grounds that a call has are tested in", instead(HEADER, "9, 10, 4, 11, 5, 7, 8", "9, 10, 4, 11, 5, 8, 7")),
         ("does not say '1 to 5 and 9 to 13 from the input", instead(HEADER, "9, 10, 4, 11, 5; 7", "10, 9, 4, 11, 5; 7")),
@@ -293,34 +330,34 @@ FAULTS = {
             )
         ),
         *(
-            (words, instead(REFUSALS, f"first-of {one} {other}", f"first-of {other} {one}"))
+            (words, instead(REFUSALS, f"first_of {one} {other}", f"first_of {other} {one}"))
             for words, one, other in (
-                ("the enum is not that of ground,", "(bytesGround L)", "(stripsGround S)"),
-                ("is not that of listGround,", "(weightsGround W)", "(first-of (countGround count) (lengthsGround count map L S page content))"),
-                ("of listGround,", "(pageGround oneBit L S page)", "(first-of (mapGround oneBit L S map) (datasGround count L S content))"),
-                ("segrunov_read is refused by 4, 5, 1,", "(sizesGround code L S)", "(lengthsGround none none L S page content)"),
-                ("segrunov_erase_mapped is refused by 2, 3, 4, 8, 11,", "(mapGround oneBit L S map)", "(eraseGround tenths)"),
-                ("is not that of valueGround,", "(bandGround M)", "(pageGround oneBit bandBytes bandStrips page)"),
-                ("is not that of putGround,", "(blockGround L S P block)", "(datasGround none L S content)"),
-                ("segrunov_block_get is refused by 1, 2, 3, 13, 5, 4, 14,", "(blockGround L S P block)", "(datasGround none L S content)"),
-                ("is not that of blockErasing,", "(pagesGround P)", "(first-of (blockGround L S P block) (eraseGround tenths))"),
+                ("the enum is not that of ground,", "(bytes_ground L)", "(strips_ground S)"),
+                ("is not that of list_ground,", "(weights_ground W)", "(first_of (count_ground count) (lengths_ground count map L S page content))"),
+                ("of list_ground,", "(page_ground one_bit L S page)", "(first_of (map_ground one_bit L S map) (datas_ground count L S content))"),
+                ("segrunov_read is refused by 4, 5, 1,", "(sizes_ground code L S)", "(lengths_ground none none L S page content)"),
+                ("segrunov_erase_mapped is refused by 2, 3, 4, 8, 11,", "(map_ground one_bit L S map)", "(erase_ground tenths)"),
+                ("is not that of value_ground,", "(band_ground M)", "(page_ground one_bit band_bytes band_strips page)"),
+                ("is not that of put_ground,", "(block_ground L S P block)", "(datas_ground none L S content)"),
+                ("segrunov_block_get is refused by 1, 2, 3, 13, 5, 4, 14,", "(block_ground L S P block)", "(datas_ground none L S content)"),
+                ("is not that of block_erasing,", "(pages_ground P)", "(first_of (block_ground L S P block) (erase_ground tenths))"),
             )
         ),
-        ("the order of the enum is not that of valueGround,", instead(ENUM, "CodeUnknown,\n    BandOutside,", "BandOutside,\n    CodeUnknown,")),
-        ("has no line 'first-of (some r) later", instead(REFUSALS, "first-of (some r) later = some r", "first-of (some r) later = later")),
-        ("has no line 'callAnswer (some r) w k", instead("crates/page_promises/specs/Writes.antt", "(some r) w k", "(some r) none k")),
-        ("is not that of groundOfGet, 14, 1,", change(BLOCK, r"(?<== first-of )(\(putGround .*?\) buffer\)) (.*)$", "(liveGround P 0) (putGround)")),
-        ("has no line '  putAnswerBy (some r) o", instead(BLOCK, "putAnswerBy (some r) o = A.Refused r", "putAnswerBy (some r) o = A.Spent 0")),
-        ("has no line '  bandAnswerBy (some r) o", instead(BAND, "bandAnswerBy (some r) o = B.Refused r", "bandAnswerBy (some r) o = B.Spent")),
-        ("has no line 'unlessRefused (some r) c", instead("crates/page_promises/specs/Lists.antt", "answer = refusedList r", "answer = c .answer")),
+        ("the order of the enum is not that of value_ground,", instead(ENUM, "CodeUnknown,\n    BandOutside,", "BandOutside,\n    CodeUnknown,")),
+        ("has no line 'first_of (some r) later", instead(REFUSALS, "first_of (some r) later = some r", "first_of (some r) later = later")),
+        ("has no line 'call_answer (some r) w k", instead("crates/page_promises/specs/Writes.antt", "(some r) w k", "(some r) none k")),
+        ("is not that of ground_of_get, 14, 1,", change(BLOCK, r"(?<== first_of )(\(put_ground .*?\) buffer\)) (.*)$", "(live_ground P 0) (put_ground)")),
+        ("has no line '  put_answer_by (some r) o", instead(BLOCK, "put_answer_by (some r) o = A.Refused r", "put_answer_by (some r) o = A.Spent 0")),
+        ("has no line '  band_answer_by (some r) o", instead(BAND, "band_answer_by (some r) o = B.Refused r", "band_answer_by (some r) o = B.Spent")),
+        ("has no line 'unless_refused (some r) c", instead("crates/page_promises/specs/Lists.antt", "answer = refused_list r", "answer = c.answer")),
     ],
     "changes.py": [
         ("does not list K0.md", append("docs/changes/K0.md", "# K0\n\n## The check's time\n\n## Moved\n\n## Stayed\n")),
         ("lists K0.md, and there is none", append("docs/changes/README.md", "| [K0](K0.md) | planted |\n")),
         ("K8.md has a command that does not name two commits", change("docs/changes/K8.md", r"(?<=git diff \w{7}) \w{7}", "")),
         ("K4.md has no part '## Moved'", change("docs/changes/K4.md", r"^## Moved$", "## Planted")),
-        ("quotes what stands in no crate: pub fn price(", change(WRITING, r"valueOf r ≤ largestCost", "valueOf r ≤ valueOf r")),
-        ("quotes what stands in no crate: pub extern", change("docs/changes/K4.md", r"r % 4294967296", "r % 4294967295")),
+        ("quotes what stands in no crate: pub fn price(", change(WRITING, r"value_of result ≤ largest_cost", "value_of result ≤ value_of result")),
+        ("quotes what stands in no crate: pub extern", change("docs/changes/K4.md", r"result % 4294967296", "result % 4294967295")),
     ],
     "pricing.py": [
         ("segrunov_price is lent", change(FIRMWARE, r"(?<=_price\(\n    code: u32,\n    bytes: u32,\n    strips: u32,\n    page: &)", "mut ")),
@@ -429,21 +466,31 @@ FAULTS = {
         ("its comment does not say what must hold", change(EDIT, r"\A(?:# (?!first: ).*\n)+", "")),
         ("it is not comment lines, then", append(EDIT, "# planted\n")),
     ],
-    "edits.py --logs": [
-        ("there is no log", delete(LOG)),
-        ("the prover did not refuse it", change(LOG, r"^logic=not-proved$", "logic=proved")),
-        ("its log names no statement", logged(RESTS)),
-        ("no statement: specs/Planted.antt", logged("AT/specs/Planted.antt:1:1: error: `planted`: the numeral `1` is checked")),
-        ("no statement: src/lib.rt", logged("AT/src/lib.rt:1:1: error: `ensures-1`: expected type `Type 0`")),
-        ("no statement: proofs/planted/Proof.antt", logged(f"{PROOF} error: this line starts at column 1")),
-        ("first at planted of", logged("AT/proofs/Planted.antt:1:1: error: `planted`: the goal does not follow")),
-        ("first at planted of", logged(NOTE, "fn text::planted: no proof: Q")),
-        ("stopped at a limit", logged(NOTE, SAID, "fn text::planted: no proof: Q")),
-        ("a need or a name is missing", logged(f"{PROOF} error: `planted`: module `Tie` has no `Need-planted`")),
-        ("the proof no longer fits the code", logged(f"{PROOF} error: `planted`: record `Start` has no field `before`")),
-        ("does not answer the needs", logged(f"{PROOF} error: `planted-spec`: expected type `tie.Need-planted`")),
-        ("is not determined", logged(f"{PROOF} `planted` is not admitted: unsolved")),
-        ("stopped at a limit", logged(f"{PROOF} error: `planted`: {SEARCH}")),
+    f"edits.py --logs {LOG}": [
+        ("no line says what it came to", said("")),
+        ("the prover did not refuse it", said("NOT REFUSED: the crate is still proved with this edit")),
+        ("it was not tried", said("NOT TRIED: its check was killed, most likely for memory")),
+        ("BAD EDIT: it did not reach the prover", said("BAD EDIT: it did not reach the prover; the first lines of what it said:")),
+        ("no statement is named", said("refused, as it must be")),
+        ("no statement is named", refused("fn planted: no proof")),
+        ("no statement: specs/Planted.antt", refused("./specs/Planted.antt:1:1: error: `planted`: the numeral `1` is checked")),
+        ("no statement: src/lib.rt", refused("src/lib.rt:1:1: error: `ensures-1`: expected type `Type 0`")),
+        ("no statement: src/lib.rt", refused("note: src/lib.rt:100000:1: it is not proved that P (`planted`)")),
+        ("no statement: src/lib.rt", refused("note: src/lib.rt:1:1: a goal may be false even if its line does not say so")),
+        ("no statement: proofs/planted/Answers.antt", refused(f"{PROOF} error: this line starts at column 1")),
+        ("first at planted of", refused("./proofs/Planted.antt:1:1: error: `planted`: the goal does not follow")),
+        ("first at planted of", refused(f"{PROOF} error: `planted`: the goal does not follow")),
+        ("first at planted of", refused(NOTE)),
+        ("first at planted-clause-value of", refused(NOTE.replace("`planted`", "`planted-clause-value`"))),
+        ("first at planted… of", refused(NOTE.replace("P (`planted`)", "P" * (CUT - len(NOTE) + 5) + " (`planted`)"))),
+        ("stopped at a limit", refused(f"{PROOF} error: `planted`: antt ran out of stack", BY_A_LIMIT)),
+        ("stopped at a limit", refused(f"{PROOF} error: `planted`: {SEARCH}")),
+        ("a goal or a name is missing", refused(f"{PROOF} error: `planted`: `c.loop-i` is not in scope", BY_A_NAME)),
+        ("a goal or a name is missing", refused(f"{PROOF} error: `planted`: module `Goals` has no `planted`")),
+        ("the proof no longer fits the code", refused(f"{PROOF} error: `planted`: record `Start` has no field `before`")),
+        ("is not determined", refused(f"{PROOF} `planted` is not admitted: unsolved")),
+        ("bit_by_the_wrong_parity fails first at planted of", refused(f"./{INSIDE}:1:1: error: `planted`: P", of=WITHIN)),
+        ("bit_by_the_wrong_parity fails first at planted of", refused(f"./{INSIDE}:100000:1: error: `planted`: P", of=WITHIN)),
     ],
     "known.py": [
         ("there is no row 'seven writes", change(STDOUT, r"(?<=^seven writes: answer 0 written 7 strip 0 cost )160", "32")),
@@ -549,9 +596,7 @@ def main():
     signal.signal(signal.SIGTERM, lambda *_: sys.exit("planted: stopped"))
     with tempfile.TemporaryDirectory() as folder:
         copy = pathlib.Path(folder, "copy")
-        shutil.copytree(ROOT, copy, ignore=shutil.ignore_patterns("target", ".git", "__pycache__"))
-        for crate, name in edits():
-            put(copy / "target" / "must-fail" / crate / name / ".log", named_log(crate, name))
+        shutil.copytree(ROOT, copy, ignore=shutil.ignore_patterns("target", "out", ".git", "__pycache__"))
         for path, text in STAND_INS.items():
             put(copy / path, text)
         (copy / "bin" / "rt").chmod(0o755)
