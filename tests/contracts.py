@@ -128,9 +128,9 @@ def promise(function):
 
 def misdelivered(everything):
     """Faults by rule 6."""
-    exports = {f.name.split("::")[-1]: f for f in everything if f.exported}
+    exports = [(f.name.split("::")[-1], f) for f in everything if f.exported]
     calls = {f.name.split("::")[-1]: f for f in everything if f.crate == CALLS and f.public}
-    for name, f in sorted(exports.items()):
+    for name, f in exports:
         if f.crate != EXPORTS:
             yield f"{f.where}: {f.name} is exported, and not by {EXPORTS} (rule 6)"
         elif name not in calls:
@@ -139,7 +139,7 @@ def misdelivered(everything):
             yield f"{f.where}: {f.name} has another contract than {calls[name].name} (rule 6)"
         elif re.sub(r"\s|,(?=\s*\))", "", f.body) != f"{calls[name].name}({','.join(name for name, _ in f.parameters)})":
             yield f"{f.where}: {f.name} is another call than that of {calls[name].name} (rule 6)"
-    yield from (f"{f.where}: {f.name} is not exported by {EXPORTS} (rule 6)" for name, f in sorted(calls.items()) if name not in exports)
+    yield from (f"{f.where}: {f.name} is not exported by {EXPORTS} (rule 6)" for name, f in calls.items() if name not in dict(exports))
 
 
 def main():

@@ -1,5 +1,6 @@
 #!/usr/bin/env python3
-"""Plants faults in a copy of the repository, one at a time, and fails where the check that is to find one passes, or does not name it.
+"""Plants faults in a copy of the repository, one at a time, and fails where the check that is to find one passes, or does not name it: for all
+checks, or for those that are given (`tests/planted.py edits.py contracts.py`).
 
 What rt says of the must-fail edits is made up, in its own forms and the prover's, since it is there only after rt ci; tests/measure.c measures
 a library whose calls do nothing; and what the gate runs beside the checks is a stand-in that passes.
@@ -14,7 +15,8 @@ import sys
 import tempfile
 
 from edits import FUNCTIONS, first_named, proofs_of
-from repository import ROOT, declared, edits, finish, floor, read
+from repository import ROOT, edits, finish, floor, read
+from repository import declared as is_declared
 
 # The edit that faults are planted in.
 CRATE, NAME = edits()[0]
@@ -108,7 +110,7 @@ def named_line(crate, name):
     report = None
     for path in (path for path in proofs_of(place) if (ROOT / path).is_file()):
         text, file = read(path), path.removeprefix(f"crates/{crate}/")
-        if declared(path, statement):
+        if is_declared(path, statement):
             report = f"./{file}:1:1: error: `{statement}`: expected type `P`, but this has type `Q`"
         elif inner := re.search(rf"\blet {re.escape(statement)} :", text):
             before = text[: inner.end()].split("\n")
@@ -482,7 +484,7 @@ FAULTS = {
         ("first at planted of", refused(f"{PROOF} error: `planted`: the goal does not follow")),
         ("first at planted of", refused(NOTE)),
         ("first at planted-clause-value of", refused(NOTE.replace("`planted`", "`planted-clause-value`"))),
-        ("first at planted… of", refused(NOTE.replace("P (`planted`)", "P" * (CUT - len(NOTE) + 5) + " (`planted`)"))),
+        ("first at plan… of", refused(NOTE.replace("P (`", "P" * (CUT - NOTE.index("planted") - 3) + " (`"))),
         ("stopped at a limit", refused(f"{PROOF} error: `planted`: antt ran out of stack", BY_A_LIMIT)),
         ("stopped at a limit", refused(f"{PROOF} error: `planted`: {SEARCH}")),
         ("a goal or a name is missing", refused(f"{PROOF} error: `planted`: `c.loop-i` is not in scope", BY_A_NAME)),
@@ -527,9 +529,10 @@ FAULTS = {
         ("FAILED: every crate is listed", change("crates.txt", r"^known:.*\n", "")),
         ("FAILED: the hint for a missing kit", change("README.md", r"^## The kit$", "## Planted")),
         ("FAILED: rt ci\n", append("bin/rt", "exit 1\n")),
-        ("FAILED: rt ci ended in", change("bin/rt", "0 failed", "1 failed")),
-        ("FAILED: rt ci tried every crate and every edit", change("bin/rt", f"{PROVED} passed", f"{PROVED - 1} passed")),
-        ("FAILED: every must-fail edit is refused", delete(LOG)),
+        ("FAILED: rt ci ended in", instead(LOG, "passed, 0 failed", "passed, 1 failed")),
+        ("FAILED: no must-fail edit is bad", change(LOG, r"(?<= refused); every", ", 1 bad; every")),
+        ("FAILED: rt ci tried every crate and every edit", instead(LOG, f"{PROVED} passed", f"{PROVED - 1} passed")),
+        ("FAILED: every must-fail edit is refused", said("")),
         ("FAILED: these checks find planted faults", append("tests/planted.py", "raise SystemExit(1)\n")),
         ("FAILED: the clients on a PowerPC", append("tests/clients", '[ "$1" != powerpc-linux-gnu ] || exit 1\n')),
         ("FAILED: these clients find planted faults", append("tests/planted_on", "exit 1\n")),
@@ -554,9 +557,16 @@ static uint64_t done(size_t bytes)
 """
 CALLS = re.findall(r"^(uint64_t (segrunov\w+)\(.*\));$", read("include/segrunov.h"), re.M)
 
+# How rt ci ends where nothing fails.
+ENDED = [
+    f"rt: ok; handles allowed: none; must-fail edits: {floor()['edits']} refused; every proof and must-fail edit was done in this run",
+    f"{PROVED} passed, 0 failed",
+]
+
 STAND_INS = {
-    "bin/rt": '#!/bin/sh\nmkdir -p target/staticlib && : > target/staticlib/libfirmware.a\n'
-    f'[ "$1" != doc ] || exec {shutil.which("rt")} doc\n[ "$1" = ci ] || exit 0\necho "{PROVED} passed, 0 failed"\n',
+    LOG: "".join(f"{line}\n" for line in [*(named_line(*edit) for edit in edits()), *ENDED]),
+    "bin/rt": f'#!/bin/sh\n[ "$1" != doc ] || exec {shutil.which("rt")} doc\n[ "$1" = ci ] || exit 0\ncat {LOG}\n',
+    "cross/build": '#!/bin/sh\nmkdir -p "$(dirname "$1")" && : > "$1"\n',
     "tests/build": '#!/bin/sh\nmkdir -p target/tests && echo "#!/bin/sh" > "target/tests/$1" && chmod +x "target/tests/$1"\n',
     "planted.c": DONE + "".join(f"\n{call}\n{{\n    return done(64); /* {name} */\n}}\n" for call, name in CALLS),
     "tests/measured": 'cd "$(dirname "$0")/.." && gcc -Iinclude tests/measure.c planted.c -o target/measured && target/measured\n',
@@ -573,7 +583,7 @@ def wrong(root, check, words):
     script, *arguments = check.split()
     command = [sys.executable if script.endswith(".py") else "bash", root / "tests" / script, *arguments]
     path = {**os.environ, "PATH": f"{root / 'bin'}:{os.environ['PATH']}"}
-    done = subprocess.run(command, env=path, capture_output=True, encoding="utf-8")
+    done = subprocess.run(command, cwd=root, env=path, capture_output=True, encoding="utf-8")
     said = done.stdout + done.stderr
     if (done.returncode == 0) == (words is None) and (words or "") in said:
         return []
@@ -591,7 +601,7 @@ def put(path, text):
 
 
 def main():
-    bad = []
+    bad, wanted = [], {check: faults for check, faults in FAULTS.items() if check.split()[0] in sys.argv[1:] or not sys.argv[1:]}
     # the gate stops it where another test fails: the copy goes with it
     signal.signal(signal.SIGTERM, lambda *_: sys.exit("planted: stopped"))
     with tempfile.TemporaryDirectory() as folder:
@@ -599,8 +609,9 @@ def main():
         shutil.copytree(ROOT, copy, ignore=shutil.ignore_patterns("target", "out", ".git", "__pycache__"))
         for path, text in STAND_INS.items():
             put(copy / path, text)
-        (copy / "bin" / "rt").chmod(0o755)
-        for check, faults in FAULTS.items():
+        for path in "bin/rt", "cross/build":
+            (copy / path).chmod(0o755)
+        for check, faults in wanted.items():
             bad += wrong(copy, check, None)
             for words, fault in faults:
                 before = {path: (copy / path).read_text(encoding="utf-8") if (copy / path).is_file() else None for path in fault}
@@ -609,7 +620,7 @@ def main():
                 bad += wrong(copy, check, words)
                 for path, text in before.items():
                     put(copy / path, text)
-    finish(bad, f"planted: {sum(map(len, FAULTS.values()))} faults, each found by its check")
+    finish(bad, f"planted: {sum(map(len, wanted.values()))} faults, each found by its check")
 
 
 main()
