@@ -20,14 +20,14 @@ from repository import ROOT, finish
 
 # The cells, the judgement of the input, the calls and the C interface. Rooms that also have a loop behind the refusals are not among them: of
 # these the calls are held to it, which `page` hands on.
-TAKE_ALL = {"cells", "refusals", "grounds", "judges", "page_answers", "page_counting", "page_erasing", "page"}
+TAKE_ALL = {"cells", "refusals", "judges", "page_answers", "page_counting", "page_erasing", "page"}
 TAKE_ALL |= {"block_shape", "block_reading", "block", "firmware"}
 
 # The crate that a C compiler links, and the one that it hands on.
 EXPORTS, CALLS = "firmware_c", "firmware"
 
 # What is called only where L and S are within their limits: each has a `requires`.
-BEHIND = {"grounds::judge_page", "grounds::judge_map", "grounds::judge_data", "block_shape::page_size", "block_shape::page_start"}
+BEHIND = {"refusals::judge_page", "refusals::judge_map", "refusals::judge_data", "block_shape::page_size", "block_shape::page_start"}
 
 
 # What stands between two facts, or before one.

@@ -1,23 +1,32 @@
 """The functions of the libraries as the compiler has them, in its intermediate form (MIR): the types of their locals, what they call, what
 each local can lead to, and through which ones they store.
 
-The form is the term that the kit's `rattle-print-mir` writes of the source. `rt mir` prints the same, but proves the crates below it first,
-and the faults of tests/planted.py are not proved.
+Of a library that rt proved, the form stands in crates/NAME/out, as it was proved and compiled. Where the source is another one by now, as in
+the copies of tests/planted.py, whose faults are not proved, the compiler writes the form anew, of the source without its contracts. A crate's
+out/ can be a link to that of another checkout: the libraries whose source is the same there are taken from it.
+
+An archive for C keeps no such form. Each of its calls is to be that of the library's function of the same name, and nothing else.
 """
 import dataclasses
+import functools
+import importlib.machinery
+import importlib.util
+import json
 import pathlib
-import platform
 import re
 import subprocess
 import sys
 import tempfile
 
-from repository import ROOT, crates
-
-TOKEN = re.compile(r'[()]|"[^"]*"|[^\s()"]+')
+from repository import ROOT, read
 
 # The number of its variant, which a value of an enum has beside the fields.
 VARIANT = ["tyInt", "8"]
+
+# What of a source is left away: contracts, and what only these and the proofs name. Neither is of the form.
+NO_CODE = re.compile(r"""//[^\n]*|(?<!\w)b"(?:\\.|[^"\\])*"|(?<!\w)b'(?:\\.|[^'\\])'""")
+CLAUSE = re.compile(r"\b(?:requires|ensures)\b\s*[\w-]*\s*(?=\{)")
+GHOST = re.compile(r"^(?:ghost use [^;]*;|#!\[tactic\b[^\n]*)", re.M)
 
 
 @dataclasses.dataclass
@@ -29,28 +38,6 @@ class Function:
     calls: set  # the names of what it calls
     stores: set  # the locals through which it stores: not the local itself is assigned, but what it leads to
     leads: list  # for each local where it can lead: ("own", n) to the local n itself, ("lent", n) where the parameter n leads
-
-
-def term(text):
-    """A term as lists and words."""
-    open_lists = [[]]
-    for token in TOKEN.findall(text):
-        if token == "(":
-            open_lists.append([])
-        elif token == ")":
-            closed = open_lists.pop()
-            open_lists[-1].append(closed)
-        else:
-            open_lists[-1].append(token.strip('"'))
-    (whole,) = open_lists
-    return whole
-
-
-def members(chain):
-    """The members of a list of the form (lcons a (lcons b lnil)), whatever the list is of."""
-    while isinstance(chain, list):
-        _, member, chain = chain
-        yield member
 
 
 def within(whole, head):
@@ -67,26 +54,19 @@ def within(whole, head):
 class Types:
     """The types of the program, those with a name among them."""
 
-    def __init__(self, program):
-        self.named = {}
-        for pair in within(program, "pair"):
-            match pair:
-                # with a name stands a definition, or, where the type is used, its arguments
-                case [_, name, ["fields", fields]]:
-                    self.named[name] = list(members(fields))
-                case [_, name, ["variants", variants]]:
-                    self.named[name] = [VARIANT, *(kind for fields in members(variants) for kind in members(fields))]
+    def __init__(self, named):
+        self.named = named
 
     def parts(self, kind):
         """The types that a type is made of."""
         match kind:
-            case "tyBool" | "tyUnit" | "tyPtr" | ["tyInt", _]:
+            case "tyBool" | "tyUnit" | "tyPtr" | ["tyInt", _] | ["tyParam", _]:
                 return []
             case ["tyArray", element, _] | ["tyRef", _, _, element]:
                 return [element]
             case ["tyStruct", _, fields]:
-                return list(members(fields))
-            case ["tyNamed", [_, name, _]]:
+                return fields
+            case ["tyNamed", name]:
                 return self.named[name]
         sys.exit(f"mir: the type {kind} is not understood")
 
@@ -119,7 +99,7 @@ def text(kind):
             return f"[{text(element)}; {length}]"
         case ["tyInt", bits]:
             return f"u{bits}"
-        case ["tyNamed", [_, name, _]]:
+        case ["tyNamed", name]:
             return name
     return str(kind)
 
@@ -127,23 +107,8 @@ def text(kind):
 def sources(value, leads):
     """Where a value can lead: the address of a local leads to it, and what is made of other values where they lead."""
     addresses = [address[1] for address in within(value, "addrOf") if not any(within(address[1][2], "deref"))]
-    own = {("own", int(place[1])) for place in addresses}
-    return own.union(*(leads[int(place[1])] for place in within(value, "place") if place not in addresses))
-
-
-def stores(body):
-    """The places that are stored in, by an assignment or as the result of a call, and what each is made of."""
-    left = [body]
-    while left:
-        match left.pop():
-            case ["assign", place, value] | ["call", _, value, place]:
-                yield place, value
-            case ["seq" | "loop" | "block" | "default", *parts] | ["if" | "switch" | "arm", _, *parts]:
-                left += parts
-            case "skip" | "return" | "noDefault" | ["exit", _]:
-                pass
-            case other:
-                sys.exit(f"mir: the statement {other} is not understood")
+    own = {("own", place[1]) for place in addresses}
+    return own.union(*(leads[place[1]] for place in within(value, "place") if not any(place is address for address in addresses)))
 
 
 def leads_of(parameters, size, stored):
@@ -153,50 +118,394 @@ def leads_of(parameters, size, stored):
     while before != leads:
         before = [set(places) for places in leads]
         for (_, local, _), value in stored:
-            leads[int(local)] |= sources(value, leads)
+            leads[local] |= sources(value, leads)
     return leads
 
 
-def function(definition):
-    _, name, (_, _, _, parameters, kinds, body), *_ = definition
-    locals_ = list(members(kinds))
-    callees = [call[1] for call in within(body, "call")]
-    stored = list(stores(body))
-    if other := [callee for callee in callees if callee[0] != "direct"]:
-        sys.exit(f"mir: {name} has a call that is not understood: {other[0]}")
+def function(name, parameters, locals_, calls, stored):
+    """A function, of its locals as types and whether each has an address, of what it calls, and of the places that it stores in, with what."""
     return Function(
         name,
-        int(parameters),
-        [kind for _, kind, _ in locals_],
-        {n for n, (_, _, stored) in enumerate(locals_) if stored == "memorySlot"},
-        {callee[1][1] for callee in callees},
-        {int(local) for (_, local, path), _ in stored if any(within(path, "deref"))},
-        leads_of(int(parameters), len(locals_), stored),
+        parameters,
+        [kind for kind, _ in locals_],
+        {n for n, (_, in_memory) in enumerate(locals_) if in_memory},
+        set(calls),
+        {local for (_, local, path), _ in stored if any(within(path, "deref"))},
+        leads_of(parameters, len(locals_), stored),
     )
 
 
-def printed():
-    """What the kit's printer writes of a program that has every library."""
+class Kept:
+    """The form as a proved library keeps it: mir.json, a list of functions, each a name and a body in JSON."""
+
+    def kind(self, said):
+        match said:
+            case "Bool" | "Unit" | "Ptr":
+                return f"ty{said}"
+            case {"Int": bits}:
+                return ["tyInt", str(bits)]
+            case {"Param": n}:
+                return ["tyParam", str(n)]
+            case {"Ref": [_, "Imm" | "Mut" as how, element]}:
+                return ["tyRef", "", how.lower(), self.kind(element)]
+            case {"Array": [element, {"Lit": length}]}:
+                return ["tyArray", self.kind(element), ["lit", str(length)]]
+            case {"Struct": [name, fields]}:
+                return ["tyStruct", name, [self.kind(field) for field in fields]]
+            case {"Named": [{"name": name}, []]}:
+                return ["tyNamed", name]
+        sys.exit(f"mir: the type {said} is not understood")
+
+    def named(self, said):
+        """A type with a name, and the types that it is made of."""
+        match said:
+            case {"name": name, "shape": {"Fields": fields}}:
+                return name, [self.kind(field) for field in fields]
+            case {"name": name, "shape": {"Variants": variants}}:
+                return name, [VARIANT, *(self.kind(field) for fields in variants for field in fields)]
+        sys.exit(f"mir: the type {said} is not understood")
+
+    def place(self, said):
+        steps = [["deref"] if isinstance(step, dict) and "Deref" in step else ["step"] for step in said["steps"]]
+        return ["place", said["local"], steps]
+
+    def value(self, said):
+        """A value, of which the places and the addresses taken count."""
+        match said:
+            case {"local": _, "steps": _}:
+                return self.place(said)
+            case {"AddrOf": place}:
+                return ["addrOf", self.place(place)]
+            case dict():
+                return ["of", *map(self.value, said.values())]
+            case list():
+                return ["of", *map(self.value, said)]
+        return []
+
+    def function(self, name, said):
+        calls, stored = [], []
+        for part in said["body"]:
+            match part:
+                case "Seq" | "Block" | "Loop" | "Skip" | "Return" | "Unreachable" | {"If": _} | {"Switch": _} | {"Exit": _}:
+                    pass
+                case {"Assign": [place, value]} | {"LendStatic": [place, _, value]}:
+                    stored.append((self.place(place), self.value(value)))
+                case {"Call": [{"Fn": [callee, _]}, values, place]}:
+                    calls.append(callee)
+                    stored.append((self.place(place), self.value(values)))
+                case _:
+                    sys.exit(f"mir: {name} has a statement that is not understood: {part}")
+        locals_ = [(self.kind(local["ty"]), local["home"] == "MemorySlot") for local in said["locals"]]
+        return function(name, said["params"], locals_, calls, stored)
+
+    def read(self, path, wanted=None):
+        """The functions of the file, or only those of these names, and the types with a name."""
+        functions, named = {}, {}
+        for name, said in json.loads(path.read_text(encoding="utf-8")):
+            if wanted is None or name in wanted:
+                functions[name] = self.function(name, said)
+                named.update(map(self.named, said["types"]))
+        return functions, named
+
+
+class Written:
+    """The form as the compiler writes it for a person: a file of antt for each function, with the definitions of its statements."""
+
+    TOKEN = re.compile(r"[(){},;=]|[^\s(){},;=]+")
+    DEFINITION = re.compile(r"^abbrev pub (\S+) : \S+.*\n(?:\S+) =((?:.|\n(?!\n))*)", re.M)
+    USE = re.compile(r"^use Rattle\.(\S+)\.Symbol(?: as (\S+))?$", re.M)
+
+    def term(self, tokens):
+        """An application as a list of its head and arguments, up to a bracket or a comma that is not its own."""
+        parts = []
+        while tokens and tokens[-1] not in (")", "}", ",", ";"):
+            token = tokens.pop()
+            if token == "(":
+                inside = [self.term(tokens)]
+                while tokens.pop() == ",":
+                    if tokens[-1] != ")":
+                        inside.append(self.term(tokens))
+                parts.append(["pair", *inside] if len(inside) > 1 else inside[0])
+            elif token == "{":
+                fields = ["record"]
+                while tokens[-1] != "}":
+                    field = tokens.pop()
+                    tokens.pop()
+                    fields.append([field, self.term(tokens)])
+                    tokens.pop()
+                tokens.pop()
+                parts = [fields]
+            else:
+                parts.append(token.removeprefix("Syntax.").removeprefix("Table."))
+        return parts[0] if len(parts) == 1 else parts
+
+    def members(self, chain):
+        """The members of a list, whatever the list is of."""
+        while isinstance(chain, list):
+            _, member, chain = chain
+            yield member
+
+    def name(self, chain):
+        return "".join(chr(int(code)) for code in self.members(chain))
+
+    def kind(self, said):
+        match said:
+            case "ty_bool" | "ty_unit" | "ty_ptr":
+                return f"ty{said[3:].capitalize()}"
+            case ["ty_int", width]:
+                return ["tyInt", width[1:]]
+            case ["ty_param", n]:
+                return ["tyParam", n]
+            case ["ty_ref", _, "imm" | "mut" as how, element]:
+                return ["tyRef", "", how, self.kind(element)]
+            case ["ty_array", element, length]:
+                return ["tyArray", self.kind(element), ["lit", length]]
+            case ["ty_struct", name, fields]:
+                return ["tyStruct", self.name(name), [self.kind(field) for field in self.members(fields)]]
+            case ["ty_named", ["pair", name, _], "tnil"]:
+                return ["tyNamed", self.name(name)]
+        sys.exit(f"mir: the type {said} is not understood")
+
+    def named(self, said):
+        match said:
+            case ["pair", name, _, ["fields", fields]]:
+                return self.name(name), [self.kind(field) for field in self.members(fields)]
+            case ["pair", name, _, ["variants", variants]]:
+                kinds = [self.kind(field) for fields in self.members(variants) for field in self.members(fields)]
+                return self.name(name), [VARIANT, *kinds]
+        sys.exit(f"mir: the type {said} is not understood")
+
+    def place(self, said):
+        _, local, path = said
+        return ["place", int(local), [["deref"] if any(within(step, "deref")) else ["step"] for step in self.members(path)]]
+
+    def value(self, said):
+        match said:
+            case ["place", _, _]:
+                return self.place(said)
+            case ["addr_of", place]:
+                return ["addrOf", self.place(place)]
+            case list():
+                return ["of", *map(self.value, said)]
+        return []
+
+    def statements(self, body):
+        """The statements of a body that do something."""
+        left = [body]
+        while left:
+            match left.pop():
+                case ["assign" | "call" | "lend_static", *_] as statement:
+                    yield statement
+                case ["seq" | "loop" | "block" | "default", *parts] | ["cond" | "switch" | "arm", _, *parts]:
+                    left += parts
+                case "skip" | "return" | "no_default" | "unreachable" | ["exit", _]:
+                    pass
+                case str() as name if name.startswith("by_name-"):
+                    pass
+                case other:
+                    sys.exit(f"mir: the statement {other} is not understood")
+
+    def function(self, name, said):
+        """A function and the types with a name that its file has."""
+        symbols = {short or "Symbol": path.replace(".proofs.", ".", 1).replace(".", "::") for path, short in self.USE.findall(said)}
+        calls, stored, known = [], [], {}
+        for defined, body in self.DEFINITION.findall(said):
+            if defined == "table" or defined.startswith("by_name"):
+                known[defined] = self.term(list(reversed(self.TOKEN.findall(body))))
+        for defined, body in known.items():
+            if not re.fullmatch(r"by_name-(?:s|t|turn)-\d+", defined):
+                continue
+            for statement in self.statements(body):
+                match statement:
+                    case ["assign", place, value] | ["lend_static", place, _, value]:
+                        stored.append((self.place(place), self.value(value)))
+                    case ["call", callee, values, place]:
+                        calls.append(self.called(name, callee, symbols))
+                        stored.append((self.place(place), self.value(values)))
+                    case _:
+                        sys.exit(f"mir: {name} has a statement that is not understood: {statement}")
+        fields = dict(known["by_name"][1:])
+        locals_ = [(self.kind(kind), home == "memory_slot") for _, kind, home in self.members(known["by_name-locals"])]
+        return function(name, int(fields["params"]), locals_, calls, stored), dict(map(self.named, self.members(known["table"])))
+
+    def called(self, name, callee, symbols):
+        words = [callee] if isinstance(callee, str) else callee
+        found = re.fullmatch(r"(\S+)\.name", words[0]) if isinstance(words[0], str) else None
+        if not found or found[1] not in symbols:
+            sys.exit(f"mir: {name} has a call that is not understood: {callee}")
+        return symbols[found[1]]
+
+    def read(self, folder):
+        """The functions of a folder that the compiler wrote, and the types with a name."""
+        functions, named = {}, {}
+        for path in sorted(folder.glob("Rattle-*-proofs/**/Code/Mir.antt")):
+            crate, *inside = path.relative_to(folder).parts[:-2]
+            if crate == "Rattle-empty-proofs":
+                continue
+            name = "::".join([crate.removeprefix("Rattle-").removesuffix("-proofs"), *inside])
+            functions[name], of_file = self.function(name, path.read_text(encoding="utf-8"))
+            named.update(of_file)
+        return functions, named
+
+
+def uses():
+    """The libraries of the repository, each with those that it uses, and the archives."""
+    found, archives = {}, []
+    for line in read("crates.txt").splitlines():
+        head, colon, used = line.split("#")[0].partition(":")
+        match head.split(), colon:
+            case [name], ":" if (ROOT / "crates" / name / "src" / "lib.rt").is_file():
+                found[name] = used.split()
+            case [name, "staticlib"], ":":
+                archives.append(name)
+    return found, archives
+
+
+def more_than_handed(name):
+    """Whether an archive's calls are anything else than those of a library's functions of the same names."""
+    parameter = r"\s*(\w+): [^,()]+,?"
+    for source in texts(ROOT / "crates" / name).values():
+        code = NO_CODE.sub("", without_contracts(source))
+        left = re.sub(r"^mod \w+;", "", code, flags=re.M)
+        for call in re.finditer(rf'#\[unsafe\(no_mangle\)\]\s*pub extern "C" fn (\w+)\(((?:{parameter})*)\s*\) -> u64\s*\{{\s*\w+::(\w+)\(([^()]*)\)\s*\}}', code):
+            given = [found[1] for found in re.finditer(parameter, call[2])]
+            handed = [word.strip() for word in call[5].split(",") if word.strip()]
+            if call[1] == call[4] and given == handed:
+                left = left.replace(call[0], "")
+        if left.strip():
+            return True
+    return False
+
+
+def texts(crate):
+    """The texts of a crate's source, by their paths in src/."""
+    return {path.relative_to(crate / "src"): path.read_text(encoding="utf-8") for path in sorted(crate.glob("src/**/*.rt"))}
+
+
+def has_functions(name):
+    return any(re.search(r"\bfn\b", NO_CODE.sub("", source)) for source in texts(ROOT / "crates" / name).values())
+
+
+@functools.cache
+def kit():
     guide = subprocess.run(["rt", "doc"], capture_output=True, encoding="utf-8", check=True).stdout.strip()
-    kit = pathlib.Path(guide).parent.parent / "on" / platform.machine()
-    printer = kit / "bin" / "rattle-print-mir"
-    if not printer.is_file():
-        sys.exit(f"mir: this kit has no {printer}")
-    roots = {name: ROOT / "crates" / name / "src" / "lib.rt" for name in crates()}
+    return pathlib.Path(guide).parent
+
+
+@functools.cache
+def rtlib():
+    """The kit's own module on crates. It sums a crate's files once for each way that leads to it: here once."""
+    loader = importlib.machinery.SourceFileLoader("rtlib", str(kit() / "bin" / "rtlib.py"))
+    sys.dont_write_bytecode = True
+    sys.modules["rtlib"] = made = importlib.util.module_from_spec(importlib.util.spec_from_loader("rtlib", loader))
+    loader.exec_module(made)
+    sums, sum_of = {}, made.Crate.stamp
+    made.Crate.stamp = lambda crate: sums.get(crate.folder) or sums.setdefault(crate.folder, sum_of(crate))
+    return made
+
+
+def library(name):
+    """What rt built of a crate, if it is of the source as it stands. What rt ci leaves has no stamp, and is newer than its source."""
+    crate = ROOT / "crates" / name
+    built = (crate / "out").resolve() / "rlib" / f"{name}.rlib"
+    home = built.parent.parent.parent
+    if not (built / "toolchain" / "mir.json").is_file() or texts(home) != texts(crate):
+        return None
+    if (built.parent / "stamp").is_file():
+        is_new = rtlib().Crate(str(home), str(home.parent.parent), {}).is_built()
+    else:
+        is_new = max(path.stat().st_mtime for path in home.glob("src/**/*.rt")) <= built.stat().st_mtime
+    return built if is_new else None
+
+
+def without_contracts(source):
+    """The text without its contracts."""
+    masked = NO_CODE.sub(lambda part: re.sub(r"[^\n]", " ", part[0]), source)
+    cut = [found.span() for found in GHOST.finditer(masked)]
+    at = 0
+    while clause := CLAUSE.search(masked, at):
+        depth, at = 0, clause.end()
+        while depth or at == clause.end():
+            depth += (masked[at] == "{") - (masked[at] == "}")
+            at += 1
+        cut.append((clause.start(), at))
+    for start, end in sorted(cut, reverse=True):
+        source = source[:start] + re.sub(r"[^\n]", " ", source[start:end]) + source[end:]
+    return source
+
+
+def written(built, used):
+    """What the compiler writes of the libraries that are not built, and of those between them."""
+    below = {}
+    for name in used:
+        below[name] = set(used[name]).union(*(below.get(other, set()) for other in used[name]))
+    changed = {name for name in used if not built[name] and has_functions(name)}
+    between = {name for name in used if below[name] & changed and any(name in below[other] for other in changed)}
+    unbuilt = {name for other in changed | between for name in below[other] if not built[name]}
+    anew = [name for name in used if name in changed | between | unbuilt]
+    command = [kit() / "bin" / "rattle", "check", "--crate-name", "empty", "src/lib.rt", "--jobs", "1"]
+    command += ["--antt-project", kit() / "rattle/logic/antt-project.json", "--logic-built", kit() / "logic_built", "-L", f"dependency={kit()}/rlibs"]
+    command += [word for name in ("core", "std") for word in ("--extern", f"{name}={kit()}/rlibs/{name}.rlib")]
+    for name in set().union(*(below[other] for other in anew)) - set(anew):
+        command += ["--extern", f"{name}={built[name]}"]
     with tempfile.TemporaryDirectory() as folder:
-        program = pathlib.Path(folder, "main.rt")
-        program.write_text("fn main() {}\n", encoding="utf-8")
-        command = [printer, program, "--crate-name", "empty", "--extern", f"std={kit / 'rlib' / 'std.rlib'}"]
-        for name, path in roots.items():
-            command += ["--lib", f"{name}={path}"] if path.is_file() else []
-        done = subprocess.run(command, capture_output=True, encoding="utf-8")
-    if done.returncode:
-        sys.exit(f"mir: the source is rejected:\n{done.stderr}")
-    return done.stdout
+        for name in anew:
+            for path, source in texts(ROOT / "crates" / name).items():
+                copy = pathlib.Path(folder, name, "src", path)
+                copy.parent.mkdir(parents=True, exist_ok=True)
+                copy.write_text(without_contracts(source), encoding="utf-8")
+            command += ["--lib", f"{name}:{','.join(['core', 'std', *used[name]])}={folder}/{name}/src/lib.rt"]
+        root = pathlib.Path(folder, "empty", "src", "lib.rt")
+        root.parent.mkdir(parents=True)
+        root.write_text("pub fn nothing() {}\n", encoding="utf-8")
+        done = subprocess.run([*command, "--generated", f"{folder}/made"], cwd=root.parent.parent, capture_output=True, encoding="utf-8")
+        if not re.search(r"^generated=\d+$", done.stdout + done.stderr, re.M):
+            sys.exit(f"mir: the source is rejected:\n{done.stdout[-3000:]}{done.stderr[-3000:]}")
+        functions, named = Written().read(pathlib.Path(folder, "made"))
+    return functions, named
+
+
+def handed_on(used):
+    """The names under which modules hand on what other crates have, with the names there: what the compiler writes has the former."""
+    found = {}
+    for crate in used:
+        for path, source in texts(ROOT / "crates" / crate).items():
+            module = [crate, *path.with_suffix("").parts]
+            module = module[:-1] if module[-1] == "lib" else module
+            for place, one, several in re.findall(r"^pub use ([\w:]+)::(?:(\w+)|\{([^}]*)\});$", source, re.M):
+                home = place if place.split("::")[0] in used else f"{crate}::{place}"
+                for name in filter(None, map(str.strip, (one or several).split(","))):
+                    found["::".join([*module, name])] = f"{home}::{name}"
+    return found
 
 
 def functions():
-    """Every function of every library by its name, and the types."""
-    program = term(printed())
-    found = [function(definition) for definition in within(program, "fn-def")]
-    return {f.name: f for f in found}, Types(program)
+    """Every function of every library by its name, those of the kit that they call, and the types."""
+    used, archives = uses()
+    for name in filter(more_than_handed, archives):
+        sys.exit(f"mir: {name} does more than to hand its calls on to functions of the same names")
+    built = {name: library(name) for name in used}
+    found, named = {}, {}
+    for name in used:
+        if built[name]:
+            of_crate, of_types = Kept().read(built[name] / "toolchain" / "mir.json")
+            found |= of_crate
+            named |= of_types
+    if any(not built[name] and has_functions(name) for name in used):
+        of_crates, of_types = written(built, used)
+        again = {name.split("::")[0] for name in of_crates}
+        found = {name: f for name, f in found.items() if name.split("::")[0] not in again} | of_crates
+        named |= of_types
+        handed = handed_on(used)
+        for f in of_crates.values():
+            f.calls = {handed.get(name, name) for name in f.calls}
+    while missing := {called for f in found.values() for called in f.calls} - found.keys():
+        crate = min(missing).split("::")[0]
+        path = kit() / "rlibs" / f"{crate}.rlib" / "toolchain" / "mir.json"
+        wanted = {name for name in missing if name.split("::")[0] == crate}
+        of_kit, of_types = Kept().read(path, wanted) if path.is_file() else ({}, {})
+        if wanted - of_kit.keys():
+            sys.exit(f"mir: {min(wanted - of_kit.keys())} is called, and is no function of a library")
+        found |= of_kit
+        named |= of_types
+    return found, Types(named)

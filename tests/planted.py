@@ -200,7 +200,7 @@ FAULTS = {
         ("text::planted is to take every input", function("text", 'extern "C" fn planted()', ASKS, "ensures { Unit }")),
         ("page_reading::read is to take every input", before(READING, "    ensures value { result ≡ completion_of (ground", f"    {ASKS}\n")),
         ("refusals::planted is to take every input", function("refusals", "pub fn planted()", ASKS, "ensures { Unit }")),
-        ("BEHIND has grounds::judge_sizes, which", change("tests/contracts.py", r"(?<=grounds::)judge_page", "judge_sizes")),
+        ("BEHIND has refusals::judge_sizes, which", change("tests/contracts.py", r"(?<=refusals::)judge_page", "judge_sizes")),
         ("hands on page_reading::planted, which", append("crates/page/src/reading.rt", "pub use page_reading::planted;\n")),
         ("hands on page_reading::planted, which", append("crates/page/src/reading.rt", "pub use page_reading::{\n    read, planted,\n};\n")),
         ("both sides of ≡", function("page", "pub fn planted(n: u32) -> u32", "ensures { result ≡ result }")),

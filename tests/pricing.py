@@ -40,7 +40,7 @@ KEPT = {
     ("block::price_put", "[u8; 1]"): (1, "the number of a page"),
     ("cells::weight", "[u8; 3]"): (1, "a step"),
     ("codes::Code::generators", "[codes::CodeRow; 2]"): (2, "a code"),  # the table stands in each arm
-    ("grounds::free_step", "[u8; 3]"): (1, "a step"),
+    ("refusals::free_step", "[u8; 3]"): (1, "a step"),
     ("page::writing::price", "[u8; 3]"): (1, "a step"),
     ("page_band::price_value", "[u8; 2]"): (1, "a byte of a value"),
     ("page_rewriting::price_strips", "[u32; 256]"): (1, "a word of a row"),
