@@ -1,9 +1,9 @@
 -- A PUT, as the program makes it.
---   directory-offer, page-offer   the prices of its two writes are their offers
---   no-directory, both-offered    so what a put to the page costs is told by them
+--   directory-offer, page-offer            the prices of its two writes are their offers
+--   no-directory, both-offered             so what a put to the page costs is told by them
 --   tried_pages, page-tried, pages-tried   the loop over the pages
---   chosen-there                  the page chosen is one of the block
---   both-written                  the page is stored, and then its number, which finds the directory as it was
+--   chosen-there                           the page chosen is one of the block
+--   both-written                           the page is stored, and then its number, which finds the directory as it was
 use mathlib.Core.Path.{◌≡◌, refl, sym, ◌∙◌, ap}
 use mathlib.Core.List.{List, [], ◌∷◌, ◌++◌}
 use mathlib.Core.Option.{Option, none, some}

@@ -1,14 +1,14 @@
 -- WHAT A PUT PROMISES IS KEPT, on every input.
 --   directory-plain, page-plain   the two writes of a put are plain writes
---   TwoWrites, two-writes     so a put is two plain writes, and no other two cost less
---   put-kept, put-wrote       the computed answer and block keep the promise; those of this release
---   put-spent                 spent exactly when no block could be for any page
---   put-done-get              after an accepted put a get reads the data
---   put-rises                 a put keeps the block's length and lowers no cell, whatever its answer
---   erased-live                an erased block has live page 0
---   put-largest               it costs at most 1,835,456
+--   TwoWrites, two-writes         so a put is two plain writes, and no other two cost less
+--   put-kept, put-wrote           the computed answer and block keep the promise; those of this release
+--   put-spent                     spent exactly when no block could be for any page
+--   put-done-get                  after an accepted put a get reads the data
+--   put-rises                     a put keeps the block's length and lowers no cell, whatever its answer
+--   erased-live                   an erased block has live page 0
+--   put-largest                   it costs at most 1,835,456
 --   in-order-put, refused-put a put without a ground answers by its choice; one that is refused changes nothing
---   put-call-kept             what answers so and leaves this block keeps promise and bound
+--   put-call-kept   what answers so and leaves this block keeps promise and bound
 use mathlib.Core.Path.{◌≡◌, refl, sym, ◌∙◌, ap}
 use mathlib.Core.List.{List, [], ◌∷◌}
 use mathlib.Core.Logic.{◌↔◌}

@@ -1,9 +1,9 @@
 -- A PUT TO PAGE i: its two writes, the blocks that could be for it, what they cost, and the block with both written.
---   split-cost                          what a block costs: its directory, its page i, and the pages before and behind
---   offer-both, put-offered             an offer is of both writes, and the least cost of all blocks that could be
+--   split-cost                what a block costs: its directory, its page i, and the pages before and behind
+--   offer-both, put-offered   an offer is of both writes, and the least cost of all blocks that could be
 --   after-long, directory-after, page-after, others-after   the parts of the block with both written
---   could-after, paid-after             it could be, and costs what both cost
---   lower-after                         of those that cost the same it has the lower level at the first cell that differs
+--   could-after, paid-after   it could be, and costs what both cost
+--   lower-after               of those that cost the same it has the lower level at the first cell that differs
 use mathlib.Core.Path.{◌≡◌, refl, sym, ◌∙◌, ap, ap₂, subst}
 use mathlib.Core.Bool.{Bool, true, false, false≢true}
 use mathlib.Core.List.{List}

@@ -1,20 +1,20 @@
 -- A BLOCK OF PAGES (document 02, K9): a directory of 6 bytes, and then P pages of 6·L·S bytes each.
---   directory_of, page_in         the directory, and page i
+--   directory_of, page_in          the directory, and page i
 --   page_cell_count, block_cells   the cells of a page, and of the block; directory_cells, of its directory
---   read_directory               what the directory reads as
---   live_of                      the number of the live page
---   with_part a new x            a list with a part stored from place a on
---   directory_job, page_job       the two writes of a put to page i
---   together                    the cost of both, where both are done
---   put_offer, put_choice         what a put to page i would cost, and the choice among the pages
---   put_block                    the block with both written
+--   read_directory                 what the directory reads as
+--   live_of                        the number of the live page
+--   with_part a new x              a list with a part stored from place a on
+--   directory_job, page_job        the two writes of a put to page i
+--   together                       the cost of both, where both are done
+--   put_offer, put_choice          what a put to page i would cost, and the choice among the pages
+--   put_block                      the block with both written
 --   put_answer_by, chosen_block    the answer and the block after it, by the ground of a refusal and what is chosen
 --   ground_of_put, put_answer      the ground of a put, and its answer
---   block_by, block_after         the block after it, by any order of the raises, and by this release's
---   CouldPut, block_cost         a block whose directory names page i, which reads as the data, with no cell lowered; what it costs
---   PutCheapest                 what a put picks among ALL such blocks, of any page
---   PutPromised, WrotePut       what it promises, on every input; of this release
---   largest_put_cost              it costs at most this
+--   block_by, block_after          the block after it, by any order of the raises, and by this release's
+--   CouldPut, block_cost           a block whose directory names page i, which reads as the data, with no cell lowered; what it costs
+--   PutCheapest                    what a put picks among ALL such blocks, of any page
+--   PutPromised, WrotePut          what it promises, on every input; of this release
+--   largest_put_cost               it costs at most this
 --   ground_of_get, live_page       the ground of a get, and what it reads
 use Rattle.std.specs.Prelude.{◌≡◌, List, [], ◌∷◌, ◌++◌, ℕ, ◌+◌, ◌*◌, ◌<◌, ◌≤◌, length, take, drop, get_or}
 use Rattle.std.proofs.Math.Option.{Option, none, some}

@@ -20,7 +20,7 @@ fn live_page(block: &[u8]) -> u32
     cells::byte(&number, 0)
 }
 
-// Fills a buffer of L.S bytes with what the live page reads as.
+// Fills a buffer of L·S bytes with what the live page reads as.
 pub fn get(
     code: u32,
     bytes: u32,

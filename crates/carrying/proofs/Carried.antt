@@ -1,5 +1,5 @@
 -- CARRYING THE DIGITS OUT: the bits of a block whose cells show what is wanted, and the strip after one block more.
---   carried_below                the levels to reach where the cells before cell m are carried out
+--   carried_below               the levels to reach where the cells before cell m are carried out
 --   carried_none                before the first cell the strip is as it was
 --   left-bits                   before block q is carried out, its bits are as they were
 --   carried-block               one block more is carried out where its cells show what is wanted of them

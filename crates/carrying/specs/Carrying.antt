@@ -1,14 +1,14 @@
 -- What the program does from the first stage to the last: it raises the cells that the digits want raised, eight stages at a time.
---   digit_in digits t            the digit of stage t: eight a byte, the first worth most
+--   digit_in digits t             the digit of stage t: eight a byte, the first worth most
 --   wanted_first, wanted_second   the bits that the digits want of a stage's cells
---   carried_to                   the level of each cell after the digits are carried out
---   shown_cell                   the bits of a cell that is to show a given bit
---   CellBits word               a word with one bit for each cell
---   wanted_bits                  the bits that are wanted of the cells of a block, as such a word
---   Onward                      marks on bits of cells, each moved to the next bit
---   BlockShown                  the word of a block whose cells show what is wanted
---   with_bits                    a strip with these bits in a block
---   CarryRequires                  what carrying out asks
+--   carried_to                    the level of each cell after the digits are carried out
+--   shown_cell                    the bits of a cell that is to show a given bit
+--   CellBits word                 a word with one bit for each cell
+--   wanted_bits                   the bits that are wanted of the cells of a block, as such a word
+--   Onward                        marks on bits of cells, each moved to the next bit
+--   BlockShown                    the word of a block whose cells show what is wanted
+--   with_bits                     a strip with these bits in a block
+--   CarryRequires                 what carrying out asks
 use Rattle.std.specs.Prelude.{◌≡◌, List, [], ◌∷◌, ℕ, suc, ◌+◌, ◌-◌, ◌*◌, ◌/◌, ◌%◌, ◌^◌, ◌<◌, ◌≤◌, length, get_or, set}
 use Rattle.cells.specs.Places.{from_bits}
 use Rattle.cells.specs.Levels.{level}

@@ -1,17 +1,17 @@
 -- Bits of bytes, the bytes of bits, and a bit that is 0, set.
---   one-octet        a byte alone
---   bit-bound        a bit is 0 or 1
---   number_bit       the bits of the number of some bits are these
---   cases8           a statement of each number below 8 holds of a number below 8
+--   one-octet         a byte alone
+--   bit-bound         a bit is 0 or 1
+--   number_bit        the bits of the number of some bits are these
+--   cases8            a statement of each number below 8 holds of a number below 8
 --   length-bytes_of   bytes_of n f has n numbers, which are bytes (octets-bytes_of)
 --   bytes_of-bit      the bits of the bytes of some bits are these
 --   bytes_of-same     bytes are known by their bits
---   byte-bits        a byte is the number of its bits, and bytes are the bytes of theirs (bytes_bits)
---   word-bit         the bits of two bytes that follow each other, as one number
---   part-bit         the bits of a part of the bytes
---   bit-same         a bit that is set is 1
---   bit-other        every other bit is as it was
---   byte_fits        a byte in which a bit that is 0 is set is still a byte
+--   byte-bits         a byte is the number of its bits, and bytes are the bytes of theirs (bytes_bits)
+--   word-bit          the bits of two bytes that follow each other, as one number
+--   part-bit          the bits of a part of the bytes
+--   bit-same          a bit that is set is 1
+--   bit-other         every other bit is as it was
+--   byte_fits         a byte in which a bit that is 0 is set is still a byte
 --   length-with_bit   as many bytes as before, which are still bytes (octets-with_bit)
 use mathlib.Core.Path.{◌≡◌, sym, ◌∙◌, ap, ap₂, subst}
 use mathlib.Core.List.{List, [], ◌∷◌}

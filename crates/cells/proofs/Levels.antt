@@ -1,10 +1,10 @@
 -- Levels of cells.
---   level-bound     a level is at most 3
---   level-same      the same three bits, the same level
+--   level-bound      a level is at most 3
+--   level-same       the same three bits, the same level
 --   raises_of-more   the levels of one cell more, added up
---   bit_past        past the end a bit is 0, and so is a level (level-past)
---   levels-at       pages with the same levels: each level, also past the end; both ways round (levels-sym); a page itself (levels-self)
---   three-bits      three bits in a row are the ones of three digits of two bytes
+--   bit_past         past the end a bit is 0, and so is a level (level-past)
+--   levels-at        pages with the same levels: each level, also past the end; both ways round (levels-sym); a page itself (levels-self)
+--   three-bits       three bits in a row are the ones of three digits of two bytes
 use mathlib.Core.Path.{◌≡◌, refl, sym, ◌∙◌, ap}
 use mathlib.Core.Bool.{Bool, true, false}
 use mathlib.Core.List.{List}

@@ -1,18 +1,18 @@
 -- Marked cells, and a page emptied but for them.
---   zeros-bit         bytes of zeros have no bit
---   zero-map          a map of zeros marks no cell, and nor does an empty one (no-map)
---   emptied-length    a page emptied is as long as before
---   emptied-bit       a marked cell has its bits, every other has zeros
---   emptied-level     and so its levels, past the end as well
---   emptied-marked    a marked cell keeps its three bits, and its level (emptied-kept)
---   emptied-other     every other cell is at level 0
---   emptied-raises    the sum of the levels is that of the marked cells
---   emptied-none      with no cell marked every byte is 0
---   emptied-same      it depends on the marks of the page's own cells alone
---   emptied-levels    pages with the same levels, emptied, have the same levels
---   kept_bit-bound     a bit kept is a bit: that of a marked cell (-marked), and 0 for another (-other)
---   kept_byte-none     a byte none of whose cells is marked is 0
---   emptied-byte      a byte of the page emptied is the byte kept
+--   zeros-bit        bytes of zeros have no bit
+--   zero-map         a map of zeros marks no cell, and nor does an empty one (no-map)
+--   emptied-length   a page emptied is as long as before
+--   emptied-bit      a marked cell has its bits, every other has zeros
+--   emptied-level    and so its levels, past the end as well
+--   emptied-marked   a marked cell keeps its three bits, and its level (emptied-kept)
+--   emptied-other    every other cell is at level 0
+--   emptied-raises   the sum of the levels is that of the marked cells
+--   emptied-none     with no cell marked every byte is 0
+--   emptied-same     it depends on the marks of the page's own cells alone
+--   emptied-levels   pages with the same levels, emptied, have the same levels
+--   kept_bit-bound   a bit kept is a bit: that of a marked cell (-marked), and 0 for another (-other)
+--   kept_byte-none   a byte none of whose cells is marked is 0
+--   emptied-byte     a byte of the page emptied is the byte kept
 use mathlib.Core.Path.{◌≡◌, refl, sym, ◌∙◌, ap, fun_ext}
 use mathlib.Core.Bool.{Bool, true, false, cond}
 use mathlib.Core.List.{List, [], ◌∷◌}

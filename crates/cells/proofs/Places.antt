@@ -1,20 +1,20 @@
 -- Lists, sums and numbers, made place by place.
 --   length-list_of   list_of n f has n places, and f i at place i (list_of-at)
 --   list_of-same     a list, a sum (sum_of-same) and a number (number_same) depend on their places alone
---   list_of-get_or     a list is the list of its places
+--   list_of-get_or   a list is the list of its places
 --   sum_of-more      a sum by its last place; of zeros (-zero); of more places (-append); by parts (-parts); of two sums (-add)
 --   sum_of-le        a sum of n numbers that are at most k each
---   number_more     a number by its last bit, and as the code adds them up (-next)
---   number-less     n bits make a number below 2 ^ n, which fits n bits and more (-fits)
---   one_shl         what 1 << i is
---   half-power      halving drops bit 0
---   store-more      what a loop that stores place by place has stored
---   same?           two numbers are the same, or not
---   each_first      what holds of every element holds of the first, and of the rest (each-rest); of a part (each_take, each-drop)
+--   number_more      a number by its last bit, and as the code adds them up (-next)
+--   number-less      n bits make a number below 2 ^ n, which fits n bits and more (-fits)
+--   one_shl          what 1 << i is
+--   half-power       halving drops bit 0
+--   store-more       what a loop that stores place by place has stored
+--   same?            two numbers are the same, or not
+--   each_first       what holds of every element holds of the first, and of the rest (each-rest); of a part (each_take, each-drop)
 --   each-list_of     it holds of a list where it holds of every place
---   and_both        both of two tests hold
+--   and_both         both of two tests hold
 --   same_list-eq     lists that are found the same are the same
---   zeros-at        a list of zeros, read anywhere
+--   zeros-at         a list of zeros, read anywhere
 use mathlib.Core.Path.{◌≡◌, refl, sym, ◌∙◌, ap, ap₂}
 use mathlib.Core.Bool.{Bool, true, false, ◌&&◌}
 use mathlib.Core.List.{List, [], ◌∷◌}

@@ -1,7 +1,7 @@
 -- Raising to given levels is exact, wherever the raises of a cell start, and to raise one cell is to set its first zero from there on.
---   triple-bit        bit i of a cell's three bits
+--   triple-bit         bit i of a cell's three bits
 --   zero_from-first    the first zero of three bits from bit s on: s itself, or the next (-second), or the one after (-third)
---   raised-bit        three bits that are raised are bits
+--   raised-bit         three bits that are raised are bits
 --   raised_to-length   a page raised is as long as before
 --   raised_to-bit      bit i of cell c, and no other list of bytes has these bits (-only)
 --   raised_to-level    the levels after it are the given ones
@@ -10,8 +10,8 @@
 --   raised_to-none     to raise each cell to its own level changes nothing
 --   can_rise-yes       which cells can rise, and which cannot (-outside, -full)
 --   with_bit-raises    to set the first zero of a cell, which is there (zero_from-unset), is to raise the cell
---   start-in-strip    the start of a cell of a page is that of its number in its strip
---   worn-evenly       neighbouring cells raised once each wear the three bits evenly
+--   start-in-strip     the start of a cell of a page is that of its number in its strip
+--   worn-evenly        neighbouring cells raised once each wear the three bits evenly
 use mathlib.Core.Path.{◌≡◌, refl, sym, ◌∙◌, ap, ap₂}
 use mathlib.Core.Logic.{⊎_elim}
 use mathlib.Core.Bool.{Bool, true, false, ◌&&◌, and-false}

@@ -1,8 +1,8 @@
 -- Bits of a list of bytes.
 --   bit_of bytes k     bit k
 --   bytes_of n f       the n bytes whose bit k is f k
---   Octets bytes      each number of the list is a byte
---   Unset bytes k     bit k lies in the list, and is 0
+--   Octets bytes       each number of the list is a byte
+--   Unset bytes k      bit k lies in the list, and is 0
 --   with_bit bytes k   the list with that bit set
 use Rattle.std.specs.Prelude.{◌≡◌, List, ℕ, ◌+◌, ◌*◌, ◌/◌, ◌%◌, ◌^◌, ◌<◌, get_or, length, set}
 use Rattle.cells.specs.Places.{list_of, from_bits}

@@ -1,8 +1,8 @@
 -- What a climb costs, for any weights of the steps.
---   climb weight from to           the cost of one cell's climb
+--   climb weight from to            the cost of one cell's climb
 --   cost_of weight n before after   the cost of a change of n cells
 --   house, weight_of                16, 20, 28, and three weights as a function of the level
---   Weights                        three weights of a byte each
+--   Weights                         three weights of a byte each
 use Rattle.std.specs.Prelude.{◌≡◌, List, [], ◌∷◌, ℕ, ◌+◌, ◌-◌, ◌≤◌, length, get_or}
 use Rattle.cells.specs.Places.{sum_of}
 use Rattle.cells.specs.Levels.{level}

@@ -1,7 +1,7 @@
 -- The level of a cell, and the sum of the levels.
---   level bytes c      the level of cell c
+--   level bytes c       the level of cell c
 --   raises_of n bytes   the sum of the levels of the first n cells
---   SameLevels x y     two pages of one length with equal levels
+--   SameLevels x y      two pages of one length with equal levels
 use Rattle.std.specs.Prelude.{◌≡◌, List, ℕ, ◌+◌, ◌*◌, ◌<◌, length}
 use Rattle.cells.specs.Places.{sum_of}
 use Rattle.cells.specs.Bytes.{bit_of}

@@ -1,7 +1,7 @@
 -- Cells that no longer move: a map of them, and what an erase leaves.
 --   marks_in bits c       whether cell c is marked
---   emptied marks page   the page with every cell emptied that is not marked
---   kept_bit, kept_byte    a byte of it, by the byte of the page and that of the map
+--   emptied marks page    the page with every cell emptied that is not marked
+--   kept_bit, kept_byte   a byte of it, by the byte of the page and that of the map
 use Rattle.std.specs.Prelude.{Bool, cond, List, ℕ, ◌+◌, ◌*◌, ◌/◌, ◌%◌, ◌^◌, eqb, length}
 use Rattle.cells.specs.Places.{from_bits}
 use Rattle.cells.specs.Bytes.{bit_of, bytes_of}

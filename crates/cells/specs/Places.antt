@@ -2,10 +2,10 @@
 --   list_of n f   the list f 0, f 1, .. f (n - 1)
 --   sum_of n f    their sum
 --   from_bits n f the number whose bit i is f i
---   Each P l     every element of a list has the property P
---   same_list     whether two lists are the same
---   Untouched    a buffer whose places from the n-th on are as they were
---   Free         a buffer of which nothing but the length is said
+--   Each P l    every element of a list has the property P
+--   same_list   whether two lists are the same
+--   Untouched   a buffer whose places from the n-th on are as they were
+--   Free        a buffer of which nothing but the length is said
 use Rattle.std.specs.Prelude.{◌≡◌, Bool, true, false, ◌&&◌, List, [], ◌∷◌, ℕ, zero, suc, ◌+◌, ◌*◌, ◌≤◌, eqb, length, get_or}
 
 -- f 0, f 1, .. f (n - 1)

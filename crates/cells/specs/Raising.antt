@@ -3,9 +3,9 @@
 --   older_start c              the same in the releases before request K7
 --   start_in start n c         the same for cell c of a page whose strips have n cells each, by any such order of its cells
 --   zero_from s bits           the place of the first zero from bit s on, going round the three
---   raise s bits              the bits of a cell raised by one
+--   raise s bits               the bits of a cell raised by one
 --   raised_times s n bits      raised n times
---   triple page c             the three bits of cell c
+--   triple page c              the three bits of cell c
 --   raised_to start page to    the page with each cell c raised to the level to c, byte for byte; its raises start at bit start c
 --   one_higher page c          the levels of the page, with cell c one higher
 --   raised_cell start page c   the page with cell c raised by one

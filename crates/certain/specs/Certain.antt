@@ -1,12 +1,12 @@
 -- HOW MANY WRITES ARE CERTAIN after an erase, whatever the data, with one bit a cell (document 02, K8).
 --   Permitted W code L S   'any permitted code and size', and weights
---   DataFor L S content    data of L-as-S bytes
+--   DataFor L S content    data of L·S bytes
 --   Low L S k page         a page every cell of which is below level k
 --   dearest k W            'the greatest of the first k weights'
---   certain_most L S k W    8·L·S times that
+--   certain_most L S k W   8·L·S times that
 --   Sure most r            an answer that is done, and costs at most so much
---   written_page            the page after the first n of writes in turn
---   certain_writes          three
+--   written_page           the page after the first n of writes in turn
+--   certain_writes         three
 --   Certain most code n    the first n writes after an erase are done, each within its bound
 use Rattle.std.specs.Prelude.{◌≡◌, List, ℕ, zero, suc, ◌<◌, ◌≤◌, ◌*◌, max, length}
 use Rattle.std.proofs.Math.Option.{none}
@@ -25,7 +25,7 @@ pub record Permitted (W : List ℕ) (code L S : ℕ) : Type 0 where
   pub not_free : weights_ground W ≡ none
   pub weights : Weights W
 
--- data of L-as-S bytes
+-- data of L·S bytes
 pub record DataFor (L S : ℕ) (content : List ℕ) : Type 0 where
   pub size : length content ≡ L * S
   pub octets : Octets content

@@ -1,7 +1,7 @@
 -- HOW OFTEN DATA BIT 0 OF A STRIP CHANGES between erases, which no code and no weights can help.
---   bit_zero        data bit 0 of strip k, as the page reads
+--   bit_zero       data bit 0 of strip k, as the page reads
 --   changes        how often a bit that a page shows has changed since the page was last erased
---   most_changes    six
+--   most_changes   six
 --   Turn           a write with a map, weights and a code of its own; turn_call, turn_answer
 --   ChangesIt      a write in order that changes the bit
 --   OneSpent       one of some answers says that the page is spent

@@ -1,6 +1,6 @@
 -- HOW MANY PUTS INTO A BLOCK ARE CERTAIN after its erase, whatever the data (document 02, K9).
---   certain_puts    four
---   block_puts      the block after the first n of puts in turn
+--   certain_puts   four
+--   block_puts     the block after the first n of puts in turn
 --   CertainPuts    the first n puts after an erase are done
 use Rattle.std.specs.Prelude.{◌≡◌, List, ℕ, zero, suc, ◌<◌, replicate}
 use Rattle.std.proofs.Math.Option.{none}

@@ -1,10 +1,10 @@
 -- Laws of the layouts: a data bit is a bit that depends on the cells of its stages alone, and what one bit a cell comes to.
---   code_bit-same, data_bit-same                  the code bits of s stages, and their data bits, depend on the cells of these stages
---   data_bit-bound                               a data bit is 0 or 1
---   one_bit-first, one_bit-second                 one bit a cell: the code bits are those of the two cells
---   one_bit-data                                 and data bit t is the paper's sum of stage t
+--   code_bit-same, data_bit-same    the code bits of s stages, and their data bits, depend on the cells of these stages
+--   data_bit-bound                  a data bit is 0 or 1
+--   one_bit-first, one_bit-second   one bit a cell: the code bits are those of the two cells
+--   one_bit-data                    and data bit t is the paper's sum of stage t
 --   one_bit-stages, one_bit-cells, one_bit-bytes   8·L stages, 16·L cells and 6·L bytes
---   one_bit-map                                  and 2·L bytes of a map of the cells
+--   one_bit-map                     and 2·L bytes of a map of the cells
 use mathlib.Core.Path.{◌≡◌, ap}
 use mathlib.Core.List.{List}
 use Prim.Native.Nat.{ℕ, ◌<◌, ◌+◌, ◌*◌, ◌/◌, ◌%◌}

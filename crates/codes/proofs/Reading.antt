@@ -2,9 +2,9 @@
 --   ago-now, ago-at       what a sequence was: now, from stage 0 on
 --   ago-before, ago-suc   before stage 0, a stage later
 --   conv-sum              a convolution is the sum of digit i times what the sequence was i stages ago
---   sum_bit-bound          the sum of a stage is 0 or 1
---   sum_bit-conv           it is g times the bits a plus G1 times the bits b
---   sum_bit-same           it depends on the bits up to its stage
+--   sum_bit-bound         the sum of a stage is 0 or 1
+--   sum_bit-conv          it is g times the bits a plus G1 times the bits b
+--   sum_bit-same          it depends on the bits up to its stage
 use mathlib.Core.Path.{◌≡◌, refl, sym, ◌∙◌, ap, ap₂}
 use mathlib.Core.Bool.{Bool, cond}
 use Prim.Native.Nat.compare

@@ -1,12 +1,12 @@
 -- Eight stages at a time: the last eight of a sequence of bits as one number, the newest worth 1 (`window_of 8`), and what a generator makes
 -- of them.
---   tapped_of taps step w n         the window w, shifted by each of the first n taps, added up without carries
---   lifted_of taps m step w n       the same the other way, from tap m back, of eight bits
+--   tapped_of taps step w n          the window w, shifted by each of the first n taps, added up without carries
+--   lifted_of taps m step w n        the same the other way, from tap m back, of eight bits
 --   untapped_of, unlifted_of         what undoes each of them, of eight bits
---   divided_of taps before d        the eight bits that give the data d, after the eight before them
+--   divided_of taps before d         the eight bits that give the data d, after the eight before them
 --   divided_back_of taps m after d   the eight bits that give the data d, before the eight after them
---   Gives taps w d from            eight bits of d, from bit `from` on, are what the taps make of the window w
---   label_at                        the labels of the data: the data divided by G1
+--   Gives taps w d from              eight bits of d, from bit `from` on, are what the taps make of the window w
+--   label_at                         the labels of the data: the data divided by G1
 use Rattle.std.specs.Prelude.{◌≡◌, List, ℕ, zero, suc, ◌+◌, ◌*◌, ◌-◌, ◌/◌, ◌%◌, ◌^◌, ◌<◌}
 use Rattle.std.specs.Int.Bits.{bit_xor}
 use Rattle.cells.specs.Bytes.{bit_of}

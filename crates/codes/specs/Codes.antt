@@ -1,7 +1,7 @@
 -- A code by its name.
 --   named n                   the memory and the generators of a code's name
---   generators_of c            and of a code
---   next_of m s d              the state that follows
+--   generators_of c           and of a code
+--   next_of m s d             the state that follows
 --   TableRow c r              the program's row r holds the code c
 --   WindowsBefore strip q w   the program's windows w hold the cell bits before byte q of the data
 use Rattle.std.specs.Prelude.{◌≡◌, List, ℕ, ◌+◌, ◌*◌, ◌%◌, ◌^◌, ◌≤◌}

@@ -1,7 +1,7 @@
 -- Code words that read as the data, and the words that input digits write.
 --   column j W          bit j of each word of a list of words
 --   Reads E d n W       n words read as the data d
---   code_word E d u t    the word of stage t that the digits u write for the data d
+--   code_word E d u t   the word of stage t that the digits u write for the data d
 --   rest                the bits of that word after the first
 --   Written E d u n W   n words are those that the digits u write
 --   BitsEach k n W      each of n words has k bits

@@ -1,9 +1,9 @@
 -- An encoder of any memory with any number of generators, its digits as bits: what the laws are about.
---   Encoder         the memory and the digits of G_1, .. G_n
---   InMemory E      no generator reaches back more than the memory
+--   Encoder          the memory and the digits of G_1, .. G_n
+--   InMemory E       no generator reaches back more than the memory
 --   digit_bits m g   the m + 1 digits of a generator, as bits
 --   encoder_of G     the encoder of the paper's numbers
---   Proper G        the memory is not 0, and G1's first digit is 1
+--   Proper G         the memory is not 0, and G1's first digit is 1
 use Rattle.std.specs.Prelude.{◌≡◌, Bool, List, map, ℕ, suc, ◌<◌, ◌≤◌, length}
 use Rattle.cells.specs.Places.{list_of, Each}
 use Rattle.codes.specs.Generators.{Generators, digit}

@@ -1,8 +1,8 @@
 -- How the cells of a strip carry its data.
---   Layout                             the cells and the data bits of a stage, and the code bits that its cells' levels show
---   one_bit                             two cells a stage, one bit a cell
+--   Layout                                the cells and the data bits of a stage, and the code bits that its cells' levels show
+--   one_bit                               two cells a stage, one bit a cell
 --   stage_count, cell_count, byte_count   the stages, the cells and the bytes of a strip that takes L bytes of data
---   map_count                           the bytes of its part of a map with one bit for each cell
+--   map_count                             the bytes of its part of a map with one bit for each cell
 use Rattle.std.specs.Prelude.{List, map, ℕ, ◌*◌, ◌/◌, ◌%◌}
 
 -- a stage has so many cells and so many data bits; by the levels of its cells, in their order, it shows one code bit for each generator

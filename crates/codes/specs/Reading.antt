@@ -1,5 +1,5 @@
 -- Reading a strip: the paper's sums.
---   ago x t i                 what x was i stages before stage t
+--   ago x t i                  what x was i stages before stage t
 --   sum_bit m g1 g a b t       the sum of stage t by the generators g and g1, of the code bits a and b
 --   code_bit lay v j t         code bit j of stage t, by the levels v of a strip's cells
 --   data_bit lay G v n         bit n of the data

@@ -1,10 +1,10 @@
 -- What the code computes with: a generator's digits as the bits of one number, and windows of the last bits, the newest bit worth 1.
---   taps_of m g            the generator's digits, digit i worth 2 ^ i
---   parity_of taps w       the sum mod 2 of digit i times bit i of the window w
---   word_of G w            a branch's two output bits, by the window of its last input digits
---   window_of n x t        the last n of the bits x 0 .. x (t − 1)
+--   taps_of m g             the generator's digits, digit i worth 2 ^ i
+--   parity_of taps w        the sum mod 2 of digit i times bit i of the window w
+--   word_of G w             a branch's two output bits, by the window of its last input digits
+--   window_of n x t         the last n of the bits x 0 .. x (t − 1)
 --   first_bit, second_bit   the bits of a stage's two cells, by the levels
---   tapped_bit g1 g2 v t   data bit t by the taps g1 and g2 and such windows of the cells' bits
+--   tapped_bit g1 g2 v t    data bit t by the taps g1 and g2 and such windows of the cells' bits
 use Rattle.std.specs.Prelude.{ℕ, zero, suc, ◌+◌, ◌*◌, ◌%◌, ◌^◌}
 use Rattle.std.specs.Int.Bits.{bit_and}
 use Rattle.std.specs.Int.Count.{ones}

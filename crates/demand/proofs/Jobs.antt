@@ -6,7 +6,7 @@
 --   part-marks                 the marks of strip k by its part of the map
 --   part-level                 cell c of strip k is cell n·k + c of the page
 --   part-raised                strip k of a page raised is strip k raised
---   one_bit-whole               every L goes with one bit a cell
+--   one_bit-whole              every L goes with one bit a cell
 use mathlib.Core.Path.{◌≡◌, sym, ◌∙◌, ap, ap₂}
 use mathlib.Core.List.{List, [], ◌∷◌}
 use Prim.Native.Nat.{ℕ, ◌<◌, ◌≤◌, ◌+◌, ◌*◌, ◌-◌, ◌/◌, ◌%◌}

@@ -1,6 +1,6 @@
 -- The levels of a page: what the strips' problems admit, one after the other, is what reads as the data with no level lowered and marked
 -- cells kept, by the page's places.
---   strip_problem    the writes of strip k
+--   strip_problem   the writes of strip k
 --   PageLevels      levels of all cells of a page that could be
 --   problem-width   every write of a strip has a level for each cell
 --   levels-all      levels that the page admits are valid for all strips, at the sum of their climbs

@@ -2,7 +2,7 @@
 -- the levels that it leaves, and the strip at which it is spent. So it is the same wherever the raises of a cell start, in whatever order
 -- the releases set the bits. For any layout, code, weights and marks.
 --   read-levels       what a page reads as
---   on_page            a job with another page
+--   on_page           a job with another page
 --   not-both          two pages cannot each be the lower one
 --   could-levels      which pages could be
 --   cheapest-levels   the cost and the levels of the cheapest page

@@ -1,9 +1,9 @@
 -- A page reads as the data just where the data bits of each strip are those of its part.
---   cells_same                 a data bit of a strip depends on the strip's cells alone
+--   cells_same                  a data bit of a strip depends on the strip's cells alone
 --   read_by-bit                 bit t of strip j of what a page reads as
---   reads_of, reads_only       where the data bits are those of the data, and only there
+--   reads_of, reads_only        where the data bits are those of the data, and only there
 --   read_by-length, part-read   what strip k reads as is part k of what the page reads as
---   parts-read                 bytes whose parts are those are what the page reads as
+--   parts-read                  bytes whose parts are those are what the page reads as
 use mathlib.Core.Path.{◌≡◌, sym, ◌∙◌, ap, ap₂}
 use mathlib.Core.List.{List}
 use Prim.Native.Nat.{ℕ, ◌<◌, ◌+◌, ◌*◌, ◌/◌, ◌%◌}
@@ -57,7 +57,7 @@ module _ (lay : Layout) (G : Generators) (L S : ℕ) (page : List ℕ) where
         → (j : ℕ) → j < S → (t : ℕ) → t < 8 * L → data_bit lay G (strip_levels (cell_count lay L) page j) t ≡ bit_of content (8 * L * j + t)
     reads_only e j h t l = sym (read_by-bit j h t l) ∙ ap (λ (x : List ℕ). bit_of x (8 * L * j + t)) e
 
-  -- STRIP BY STRIP. A page reads as L-as-S bytes
+  -- STRIP BY STRIP. A page reads as L·S bytes
   read_by-length : length (read_by lay G L S page) ≡ L * S
   unfolding read_by
   read_by-length = length-bytes_of (L * S) _
@@ -80,7 +80,7 @@ module _ (lay : Layout) (G : Generators) (L S : ℕ) (page : List ℕ) where
             part-data L k (read_by lay G L S page) t m ∙ read_by-bit k h t m
             ∙ cells_same lay G L F _ _ t m (λ c n. sym (part-level (cell_count lay L) (byte_count lay L) F.cells_fill k page c n))
 
-    -- and L-as-S bytes whose parts are those are what the page reads as
+    -- and L·S bytes whose parts are those are what the page reads as
     pub parts-read : (content : List ℕ) → length content ≡ L * S
         → ((k : ℕ) → k < S → part L k content ≡ read_strip lay G L (part (byte_count lay L) k page)) → content ≡ read_by lay G L S page
     parts-read content e f = parts_same L S content _ e read_by-length (λ k h. f k h ∙ sym (part-read k h))

@@ -1,16 +1,16 @@
 -- What a write is asked: a page, its data, and how the cells carry it.
---   part n k bytes     part k of parts of n bytes
---   Job                layout, code, weights, marked cells, L, S, the page before and the data
+--   part n k bytes      part k of parts of n bytes
+--   Job                 layout, code, weights, marked cells, L, S, the page before and the data
 --   width, page_cells   the cells of a strip of the job, and of its page
 --   strip_job J k       strip k of a job, as a job of one strip
---   Whole, InOrder     sizes that fit, and a job whose input is in order
+--   Whole, InOrder      sizes that fit, and a job whose input is in order
 use Rattle.std.specs.Prelude.{◌≡◌, Bool, List, ℕ, ◌+◌, ◌*◌, length, take, drop}
 use Rattle.cells.specs.Bytes.{Octets}
 use Rattle.codes.specs.Generators.{Generators}
 use Rattle.codes.specs.Layouts.{Layout, stage_count, cell_count, byte_count}
 use Rattle.search.specs.Layouts.{Sound}
 
--- 'A page has S strips .. one after another'; 'Its data has L-as-S bytes, strip 0 first': part k of parts of n bytes
+-- 'A page has S strips .. one after another'; 'Its data has L·S bytes, strip 0 first': part k of parts of n bytes
 unfoldable pub part : ℕ → ℕ → List ℕ → List ℕ
 part n k bytes = take n (drop (n * k) bytes)
 

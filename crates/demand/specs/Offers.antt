@@ -1,11 +1,11 @@
 -- A CHOICE AMONG OFFERS, numbered from 0: each is a cost, or none.
---   Offer               an offer that is taken: its number, its rank and its cost
---   outdoes, with_offer  whether one more is better than what is taken so far, and the better of the two
---   choose rank f n     THE CHOICE among the offers f 0 .. f (n − 1)
---   Ahead rank i j      i is preferred to j, or is j: lower in rank, or as high and with the lower number
---   Chosen              the cheapest offer, and the preferred one among the cheapest
---   Offered             an offer is the least price of all that could be, and none where nothing could
---   LeastOf, NoneFor    what it is to be the choice over everything that could be for any member of a family, and that nothing could
+--   Offer                 an offer that is taken: its number, its rank and its cost
+--   outdoes, with_offer   whether one more is better than what is taken so far, and the better of the two
+--   choose rank f n       THE CHOICE among the offers f 0 .. f (n − 1)
+--   Ahead rank i j        i is preferred to j, or is j: lower in rank, or as high and with the lower number
+--   Chosen                the cheapest offer, and the preferred one among the cheapest
+--   Offered               an offer is the least price of all that could be, and none where nothing could
+--   LeastOf, NoneFor      what it is to be the choice over everything that could be for any member of a family, and that nothing could
 use Rattle.std.specs.Prelude.{◌≡◌, Bool, cond, ◌&&◌, ◌||◌, List, ℕ, zero, suc, ◌<◌, ◌≤◌, ltb, eqb}
 use Rattle.std.proofs.Math.Option.{Option, none, some}
 

@@ -20,7 +20,7 @@ ghost use Rattle.words.specs.Words.{answer_word, completion_word, list_word, Fie
 
 use words::{answer_word, completion_word, list_word};
 
-// Fills a buffer of L.S bytes with what the page reads as.
+// Fills a buffer of L·S bytes with what the page reads as.
 pub fn segrunov_read(code: u32, bytes: u32, strips: u32, page: &[u8], data: &mut [u8]) -> u64
     ensures value { result ≡ completion_word (completion_of (ground code bytes strips (length page.now)
         (length «data».old))) }
@@ -251,7 +251,7 @@ pub fn segrunov_block_put(
     answer_word(block::put(code, bytes, strips, pages, block, data))
 }
 
-// Fills a buffer of L.S bytes with what the live page of the block reads as.
+// Fills a buffer of L·S bytes with what the live page of the block reads as.
 pub fn segrunov_block_get(
     code: u32,
     bytes: u32,

@@ -18,7 +18,7 @@ ghost use Rattle.page_promises.specs.Band.{band_answer, band_page, WroteBand, la
 ghost use Rattle.block_promises.specs.Block.{put_answer, block_after, WrotePut, largest_put_cost, ground_of_get, live_page};
 ghost use Rattle.words.specs.Words.{answer_word, completion_word, list_word, Fields};
 
-// Fills a buffer of L.S bytes with what the page reads as.
+// Fills a buffer of L·S bytes with what the page reads as.
 #[unsafe(no_mangle)]
 pub extern "C" fn segrunov_read(
     code: u32,
@@ -271,7 +271,7 @@ pub extern "C" fn segrunov_block_put(
     firmware::segrunov_block_put(code, bytes, strips, pages, block, data)
 }
 
-// Fills a buffer of L.S bytes with what the live page of the block reads as.
+// Fills a buffer of L·S bytes with what the live page of the block reads as.
 #[unsafe(no_mangle)]
 pub extern "C" fn segrunov_block_get(
     code: u32,

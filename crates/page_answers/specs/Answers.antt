@@ -1,9 +1,9 @@
 -- The paper's number and values for each case of an answer.
 --   number_of, value_of       an answer's number and value in the paper
---   answer_cost, offered     an answer's cost; the cost of an answer that is done
+--   answer_cost, offered      an answer's cost; the cost of an answer that is done
 --   end_number, list_number   the paper's number of an end, and of a list's answer
 --   end_strip, list_strip     the strip that is spent
---   plain_answer             the answer of a write in a band, as a write's
+--   plain_answer              the answer of a write in a band, as a write's
 use Rattle.std.proofs.Math.Option.{Option, none, some}
 use Rattle.std.specs.Prelude.{ℕ}
 use Rattle.refusals.specs.Refusals.{refusal_number}

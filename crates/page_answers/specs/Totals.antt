@@ -1,5 +1,5 @@
 -- The running total of a page: it is handed a strip's outcome and comes back with it added.
---   added t o         the total with an outcome added; once spent it stays
+--   added t o          the total with an outcome added; once spent it stays
 --   total_from t f n   with the outcomes f 0 .. f (n − 1) added, one after the other
 --   answer_for t       what a total answers
 use Rattle.std.specs.Prelude.{ℕ, zero, suc, ◌+◌, ◌%◌, ◌^◌, Bool, true, false}

@@ -1,6 +1,6 @@
 -- The census of a page: how many cells of each strip are at each level.
 --   count_of n v l   how many of the first n levels v are l
---   row_of, row_at    a strip's row; row k of a page of S strips
+--   row_of, row_at   a strip's row; row k of a page of S strips
 --   census_of        the census on every input
 use Rattle.std.specs.Prelude.{cond, List, [], ◌∷◌, ℕ, eqb, ltb, length}
 use Rattle.std.proofs.Math.Option.{Option, none, some}

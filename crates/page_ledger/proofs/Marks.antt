@@ -1,16 +1,16 @@
 -- WHAT A MAP DOES to the calls. For any L, S and weights, and both codes.
---   unmarked-write           with a map that marks no cell of the page a write is the one without a map
---   unmarked-list            and so is a list
---   unmarked-erase           and an erase empties every cell
---   zero_map, zero-map-write  so it is with a map of zeros, and so are a list and an erase (zero-map-list, zero-map-erase)
---   more-marks-cost          to mark more cells never makes a write cheaper
---   more-marks-spent         nor lets a spent page take the data
---   marked-bits              a write leaves the three bits of a marked cell, whatever its answer, and so does a list (list-marked-bits)
---   stays-free               a write of what the page reads as costs nothing and leaves it as it is, whatever is marked
---   all-marked-done          with every cell marked a page takes only what it reads as
---   all-marked-spent         and is spent for everything else
---   erased-reads             an erased page reads as zeros
---   all-marked-erased        so with every cell marked at level 0 it takes only zeros
+--   unmarked-write             with a map that marks no cell of the page a write is the one without a map
+--   unmarked-list              and so is a list
+--   unmarked-erase             and an erase empties every cell
+--   zero_map, zero-map-write   so it is with a map of zeros, and so are a list and an erase (zero-map-list, zero-map-erase)
+--   more-marks-cost            to mark more cells never makes a write cheaper
+--   more-marks-spent           nor lets a spent page take the data
+--   marked-bits                a write leaves the three bits of a marked cell, whatever its answer, and so does a list (list-marked-bits)
+--   stays-free                 a write of what the page reads as costs nothing and leaves it as it is, whatever is marked
+--   all-marked-done            with every cell marked a page takes only what it reads as
+--   all-marked-spent           and is spent for everything else
+--   erased-reads               an erased page reads as zeros
+--   all-marked-erased          so with every cell marked at level 0 it takes only zeros
 use mathlib.Core.Path.{◌≡◌, refl, sym, ◌∙◌, ap, ap₂, fun_ext}
 use mathlib.Core.Bool.{Bool, true, false, cond}
 use mathlib.Core.List.{List}

@@ -2,15 +2,15 @@
 -- The ledger of a block of pages is the same, of puts: the bytes of the block are the page.
 --   cells_on              every cell of a page of so many bytes
 --   raises_made           the steps that the cells climb from one page to another
---   Event, Fair          what can happen to a page, and what is asked of it
+--   Event, Fair           what can happen to a page, and what is asked of it
 --   page_after, counted   the page after an event, and the raises since the page was last erased
 --   Call, event_of        a call on the page, and what it does
---   Marking              a call under these marks
+--   Marking               a call under these marks
 --   marked_levels         the sum of the levels of the marked cells
 --   Reply, answer_to      what a write answers, in a band or not, or a list, or a put
---   played               the page after a sequence of calls
---   tally, tallied       a count after it, and that of the raises
---   answered             what its writes, lists and puts answer
+--   played                the page after a sequence of calls
+--   tally, tallied        a count after it, and that of the raises
+--   answered              what its writes, lists and puts answer
 --   writes_of             the first datas of a list as single writes
 use Rattle.std.specs.Prelude.{◌≡◌, Bool, cond, List, [], ◌∷◌, ◌++◌, ℕ, suc, ◌+◌, ◌*◌, ◌-◌, ◌/◌, ◌<◌, ◌≤◌, ℤ, length, replicate}
 use Rattle.std.proofs.Math.Option.{Option, none}

@@ -1,9 +1,9 @@
 -- A strip within the page: which strips lie in a page, and parts that are stored one by one.
---   part-ends                               where a part of a list ends
---   part_cut                                a part whose ends are cut off
+--   part-ends                           where a part of a list ends
+--   part_cut                            a part whose ends are cut off
 --   outside, beyond, strip-none, strip-inside, strip-there   which strips lie in a page
 --   lent, lent_length, stored-length, part-more   parts that a loop lends and stores
---   sized-by, listed_by, datas-length             a page and data in order, or a list of datas
+--   sized-by, listed_by, datas-length   a page and data in order, or a list of datas
 use mathlib.Core.Path.{◌≡◌, refl, sym, ◌∙◌, ap, subst⁻¹}
 use mathlib.Core.Bool.{Bool, true, false}
 use mathlib.Core.List.{List, [], ◌++◌}
@@ -157,6 +157,6 @@ pub listed_by : (L S count : ℕ) (page content : List ℕ) → one_to_64 count 
 listed_by L S count page content n m =
     record { bytes_in = m.bytes_in; strips_in = m.strips_in; page_is = m.page_is; count_in = n; datas_are = m.data_is }
 
--- the datas of a list are so many parts of L-as-S bytes
+-- the datas of a list are so many parts of L·S bytes
 pub datas-length : (count L S : ℕ) {size : ℕ} → size ≡ count * (L * S) → size ≡ L * S * count
 datas-length count L S e = e ∙ mul_comm count (L * S)

@@ -1,11 +1,11 @@
 -- The shape of a page: its limits, its strips, and input in order.
---   in_page    whether a strip lies in the page
---   strip_of   the strip, or the empty part where it does not
---   Lies      where the strip's part lies in the page's memory
---   Found     where the program finds the strip
+--   in_page                whether a strip lies in the page
+--   strip_of               the strip, or the empty part where it does not
+--   Lies                   where the strip's part lies in the page's memory
+--   Found                  where the program finds the strip
 --   map_part, strip_part   a strip's part of a map, and of a page
---   Sized     a page and data of S strips of L bytes
---   Listed    a page and a list of datas for it
+--   Sized                  a page and data of S strips of L bytes
+--   Listed                 a page and a list of datas for it
 use Rattle.std.specs.Prelude.{◌≡◌, Bool, true, cond, ◌&&◌, List, [], ℕ, suc, ◌+◌, ◌*◌, ◌-◌, ◌≤◌, leb, length, take, drop}
 use Rattle.codes.specs.Layouts.{Layout, one_bit, byte_count, map_count}
 use Rattle.demand.specs.Jobs.{part}

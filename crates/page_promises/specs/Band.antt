@@ -1,16 +1,16 @@
 -- A TEMPERATURE NEED NOT BE EXACT (document 02, K6): a write that may store any value of a band.
---   value_bytes w                the data of a value
---   value_job                    the plain write of a value
---   InBand v M w                the values of the band
---   away v w                    how far a value is from the one given
+--   value_bytes w                 the data of a value
+--   value_job                     the plain write of a value
+--   InBand v M w                  the values of the band
+--   away v w                      how far a value is from the one given
 --   lowest_value, value_count     the values of the band from the lowest on, and how many they are; value_at, the one at a place
---   band_choice                  the choice among them
---   band_answer_by, chosen_page    the answer and the page after it, by the ground of a refusal and what is chosen
---   band_answer                  the answer
---   band_page_by, band_page        the page after it, by any order of the raises, and by this release's
---   band_cells                   the cells of the page
---   Behind, BandCheapest        what it picks among ALL pages that read as any value of the band
---   BandPromised, WroteBand     what it promises, on every input; of this release
+--   band_choice                   the choice among them
+--   band_answer_by, chosen_page   the answer and the page after it, by the ground of a refusal and what is chosen
+--   band_answer                   the answer
+--   band_page_by, band_page       the page after it, by any order of the raises, and by this release's
+--   band_cells                    the cells of the page
+--   Behind, BandCheapest          what it picks among ALL pages that read as any value of the band
+--   BandPromised, WroteBand       what it promises, on every input; of this release
 --   largest_band_cost             it costs at most this
 use Rattle.std.specs.Prelude.{◌≡◌, List, [], ◌∷◌, ℕ, ◌+◌, ◌-◌, ◌*◌, ◌/◌, ◌%◌, ◌<◌, ◌≤◌, min, length}
 use Rattle.std.proofs.Math.Option.{Option, none, some}

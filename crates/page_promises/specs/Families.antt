@@ -1,5 +1,5 @@
 -- A FAMILY OF JOBS, of which one is carried out.
---   job_offer     what a job costs, or none where its page is spent
+--   job_offer    what a job costs, or none where its page is spent
 --   CheapestOf   the cheapest page over everything that could be for any of the jobs
 use Rattle.std.specs.Prelude.{List, ℕ}
 use Rattle.std.proofs.Math.Option.{Option, none}

@@ -1,15 +1,15 @@
 -- A LIST OF WRITES in one call: single writes in turn, as far as the page takes them.
---   data_of                   data number n of a list
+--   data_of                    data number n of a list
 --   with_write, refused_list   an answer with one more single write; that of a refused list
---   Course, course_after      the page and the answer after single writes in turn, whatever a single write does
---   job_course                those of jobs in order
+--   Course, course_after       the page and the answer after single writes in turn, whatever a single write does
+--   job_course                 those of jobs in order
 --   list_course, list_with     the page and the answer of a list, with a map or without one, by any order of the raises
 --   list_answer, list_page     those of this release
---   list_most                 a list costs at most this, by its size and weights
+--   list_most                  a list costs at most this, by its size and weights
 --   largest_list_cost          and this, whatever they are
---   ListBounds               how large the fields of its answer are
---   InTurn, ListPromised     what a list promises: the promise of each single write
---   WroteList                the same of a call
+--   ListBounds                 how large the fields of its answer are
+--   InTurn, ListPromised       what a list promises: the promise of each single write
+--   WroteList                  the same of a call
 use Rattle.std.specs.Prelude.{◌≡◌, Bool, true, false, cond, List, ℕ, zero, suc, ◌+◌, ◌*◌, ◌<◌, ◌≤◌, length}
 use Rattle.std.proofs.Math.Option.{Option, none, some}
 use Rattle.cells.specs.Raising.{start_of}

@@ -26,7 +26,7 @@ pub fn read_strips(code: Code, bytes: usize, strips: usize, page: &[u8], data: &
     }
 }
 
-// Fills a buffer of L.S bytes with what the page reads as.
+// Fills a buffer of L·S bytes with what the page reads as.
 pub fn read(code: u32, bytes: u32, strips: u32, page: &[u8], data: &mut [u8]) -> Completion
     ensures value { result ≡ completion_of (ground code bytes strips (length page.now) (length «data».old)) }
     ensures data_after { «data».new ≡ kept (ground code bytes strips (length page.now) (length «data».old))

@@ -1,10 +1,10 @@
 -- THE PRICES of one bit a cell, two cells a stage: what the four words of a stage cost. The KIND of a cell is its level, and 4 more where
 -- it is marked.
---   step_list W                     the weights W of the three steps, and closed for every other kind of cell
---   price_for steps kind v          what it costs that a cell of a kind shows the bit v
---   row_price steps k               the price at place k of the table: word k mod 4 of row k div 4
---   Table W rows                   the table of the weights W, in 256ths
---   Priced W rows                  the same, of three weights of a byte each, none of them free
+--   step_list W              the weights W of the three steps, and closed for every other kind of cell
+--   price_for steps kind v   what it costs that a cell of a kind shows the bit v
+--   row_price steps k        the price at place k of the table: word k mod 4 of row k div 4
+--   Table W rows             the table of the weights W, in 256ths
+--   Priced W rows            the same, of three weights of a byte each, none of them free
 use Rattle.std.specs.Prelude.{◌≡◌, cond, List, ◌++◌, ℕ, ◌+◌, ◌*◌, ◌/◌, ◌%◌, ◌<◌, ◌≤◌, min, eqb, get_or, replicate}
 use Rattle.cells.specs.Climbs.{Weights}
 use Rattle.search.specs.Strip.{Dear, steps_of}

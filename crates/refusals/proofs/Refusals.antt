@@ -1,27 +1,27 @@
 -- The grounds of a refusal: what holds of a call that has none, and what an answer tells of the ground.
 --   one-to-64, limits-in, limits-below, limits-above   the limits
 --   limits-in-order, limits-most, sizes-limits   L and S where the limits have no ground
---   page-most                                    a page then has at most 24,576 bytes
---   shape-limits, shape-in-order, in_order       a call without a ground: its shape (InShape), and its lengths (Measured)
---   read_fits                                    a read of the right sizes and lengths has no ground
---   weights-dear                                 no step is free where the weights have no ground
---   NoGround, no-grounds, none-applies           a price or write, of one data or a list, without a ground
---   same-weights, permitted-ground               with weights that are permitted it is refused as a read is
---   house-ground                                 with the house's weights it is refused as a read is
---   weighted-in-order, map-in-order              a price or write without a ground, with a map or without
---   count-in-order, single-ground                a list without a ground: its count, and each of its writes
---   code-ground, value-ground                    a write in a permitted band is refused as the plain write of the same page is
---   band-limit, band-permitted, value-band       a band without a ground is at most 8, and the other way round
---   pages-limits                                 the number of pages of a block
---   PutFits, put-in-order, put-permitted         a put without a ground: the number of pages, and both lengths; the other way round
---   live-there, live-permitted                   a live page that has no ground is there, and the other way round
---   erasing-shape, block-erased                  an erase without a ground: its shape; that of a block: its length
---   same-ground, same-erasing                    a map that has no ground refuses nothing more
---   sizes-number                                 the code, L and S are refused by 1 to 3
---   done_none, refused-some                      an answer tells its ground
---   refused-first, done_next                     grounds tested one after the other
---   numbered-code                                the code of a number
---   product-most                                 L-as-S is at most 4,096
+--   page-most                              a page then has at most 24,576 bytes
+--   shape-limits, shape-in-order, in_order   a call without a ground: its shape (InShape), and its lengths (Measured)
+--   read_fits                              a read of the right sizes and lengths has no ground
+--   weights-dear                           no step is free where the weights have no ground
+--   NoGround, no-grounds, none-applies     a price or write, of one data or a list, without a ground
+--   same-weights, permitted-ground         with weights that are permitted it is refused as a read is
+--   house-ground                           with the house's weights it is refused as a read is
+--   weighted-in-order, map-in-order        a price or write without a ground, with a map or without
+--   count-in-order, single-ground          a list without a ground: its count, and each of its writes
+--   code-ground, value-ground              a write in a permitted band is refused as the plain write of the same page is
+--   band-limit, band-permitted, value-band   a band without a ground is at most 8, and the other way round
+--   pages-limits                           the number of pages of a block
+--   PutFits, put-in-order, put-permitted   a put without a ground: the number of pages, and both lengths; the other way round
+--   live-there, live-permitted             a live page that has no ground is there, and the other way round
+--   erasing-shape, block-erased            an erase without a ground: its shape; that of a block: its length
+--   same-ground, same-erasing              a map that has no ground refuses nothing more
+--   sizes-number                           the code, L and S are refused by 1 to 3
+--   done_none, refused-some                an answer tells its ground
+--   refused-first, done_next               grounds tested one after the other
+--   numbered-code                          the code of a number
+--   product-most                           L·S is at most 4,096
 use mathlib.Core.Path.{◌≡◌, refl, sym, ◌∙◌}
 use mathlib.Core.Bool.{Bool, true, false, cond, ◌&&◌, ◌||◌}
 use mathlib.Core.List.{List}
@@ -95,7 +95,7 @@ limits-in-order L S e =
 pub limits-most : (L S : ℕ) → limits_ground L S ≡ none → (L ≤ 64) × (S ≤ 64)
 limits-most L S e = let l = limits-in-order L S e in ((one-to-64 L l.0).1, (one-to-64 S l.1).1)
 
--- L-as-S is at most 4,096
+-- L·S is at most 4,096
 pub product-most : (L S : ℕ) → one_to_64 L ≡ true → one_to_64 S ≡ true → L * S ≤ 4096
 product-most L S l s = mul-le-mul {n₁ = L} {m₁ = S} {n₂ = 64} {m₂ = 64} (one-to-64 L l).1 (one-to-64 S s).1
 
@@ -248,7 +248,7 @@ pub count-in-order : (count : ℕ) (map : Option ℕ) (W : List ℕ) (code L S p
 count-in-order count map W code L S page content e =
     no_ground (one_to_64 count) _ (no-grounds (some count) map W code L S page content e).counted
 
--- and each of its writes has none, on a page of the same length with L-as-S bytes of data
+-- and each of its writes has none, on a page of the same length with L·S bytes of data
 pub single-ground : (count : ℕ) (map : Option ℕ) (W : List ℕ) (code L S page content : ℕ)
     → list_ground (some count) map W code L S page content ≡ none → call_ground map W code L S page (L * S) ≡ none
 unfolding list_ground lengths_ground datas_ground

@@ -1,32 +1,32 @@
 -- When a call is refused, and by which number.
 --   one_to_64, is_code             the limits of L and of S; the codes' numbers
---   first_of                    of two grounds, the one that is tested first
---   limits_ground, sizes_ground   the grounds of L and S; of the code, L and S
---   free_step, weights_ground     whether a weight is 0, and the ground of that
---   band_ground                  the ground of a band
---   shape_ground, lengths_ground  the grounds of erase and census; of the lengths
---   count_given, map_given        the count and the length of the map that a call has, or none
---   map_ground                   the ground of a map's length, where there is a map
---   count_ground                 the ground of a list's count, where there is a list
---   data_count                   the bytes of data: of one write, or of a list of so many
---   ground                      the grounds of read
---   list_ground                  the grounds of price and write, of one data or a list, with a map or without
---   call_ground, write_ground     those of one data; and without a map
---   band_bytes, band_strips       L and S of a page that holds a value in a band
---   value_ground                 the grounds of a write in a band
+--   first_of                       of two grounds, the one that is tested first
+--   limits_ground, sizes_ground    the grounds of L and S; of the code, L and S
+--   free_step, weights_ground      whether a weight is 0, and the ground of that
+--   band_ground                    the ground of a band
+--   shape_ground, lengths_ground   the grounds of erase and census; of the lengths
+--   count_given, map_given         the count and the length of the map that a call has, or none
+--   map_ground                     the ground of a map's length, where there is a map
+--   count_ground                   the ground of a list's count, where there is a list
+--   data_count                     the bytes of data: of one write, or of a list of so many
+--   ground                         the grounds of read
+--   list_ground                    the grounds of price and write, of one data or a list, with a map or without
+--   call_ground, write_ground      those of one data; and without a map
+--   band_bytes, band_strips        L and S of a page that holds a value in a band
+--   value_ground                   the grounds of a write in a band
 --   directory_code, directory_bytes, directory_strips, directory_size   a block's directory: its code, its L and S, its bytes
 --   page_bytes, block_size         the bytes of a page, and of a block of pages
---   pages_ground, block_ground    the grounds of the number of pages, and of a block's length
---   put_ground                   the grounds of a put, and from the input those of a get
---   live_ground                  from the state: a get whose directory names a page that is not there
---   too_cold, too_warm            an erase outside 50 to 400
---   erase_ground                 from the state: such an erase
---   erasing_ground               the grounds of erase, with a map or without
---   block_erasing                the grounds of the erase of a block
---   refusal_number               the paper's number of a refusal
---   text_number                  the number of the refusal that no call has
---   completion_of                done, or the refusal; completion_number, the paper's number of it
---   kept                        what a refusal leaves as it was
+--   pages_ground, block_ground     the grounds of the number of pages, and of a block's length
+--   put_ground                     the grounds of a put, and from the input those of a get
+--   live_ground                    from the state: a get whose directory names a page that is not there
+--   too_cold, too_warm             an erase outside 50 to 400
+--   erase_ground                   from the state: such an erase
+--   erasing_ground                 the grounds of erase, with a map or without
+--   block_erasing                  the grounds of the erase of a block
+--   refusal_number                 the paper's number of a refusal
+--   text_number                    the number of the refusal that no call has
+--   completion_of                  done, or the refusal; completion_number, the paper's number of it
+--   kept                           what a refusal leaves as it was
 use Rattle.std.specs.Prelude.{Bool, cond, ◌&&◌, ◌||◌, List, ℕ, ◌+◌, ◌*◌, eqb, leb, ltb, ℤ, pos}
 use Rattle.std.proofs.Math.Option.{Option, none, some}
 use Rattle.std.specs.Int.Signed.{lt_z}
@@ -93,12 +93,12 @@ abbrev pub count_ground : Option ℕ → Option Refusal
 count_ground none = none
 count_ground (some count) = cond (one_to_64 count) none (some CountOutside)
 
--- the data of a single write has L-as-S bytes; of a list 'its length must be the count times L·S'
+-- the data of a single write has L·S bytes; of a list 'its length must be the count times L·S'
 abbrev pub data_count : Option ℕ → ℕ → ℕ → ℕ
 data_count none L S = L * S
 data_count (some count) L S = count * (L * S)
 
--- '5: the data, or the buffer for it, is not L-as-S bytes long'; for a list, not the count times that
+-- '5: the data, or the buffer for it, is not L·S bytes long'; for a list, not the count times that
 unfoldable pub datas_ground : Option ℕ → ℕ → ℕ → ℕ → Option Refusal
 datas_ground count L S size = cond (eqb size (data_count count L S)) none (some DataLength)
 

@@ -1,10 +1,10 @@
 -- THE ROWS of one bit a cell, two cells a stage: the row of prices that a stage picks. The KIND of a cell is its level, and 4 more where
 -- it is marked.
---   cell_in word j                  cell j of a word, three bits a cell
---   cell_kind bits marks j          cell j of a block in a row
---   stage_row bits marks labels i   the row of stage i of a block
---   bits_at strip q, marks_at map q  the 48 bits of block q, and its 16 marks
---   packed_of w f n                 n digits of w bits each as one number
+--   cell_in word j                    cell j of a word, three bits a cell
+--   cell_kind bits marks j            cell j of a block in a row
+--   stage_row bits marks labels i     the row of stage i of a block
+--   bits_at strip q, marks_at map q   the 48 bits of block q, and its 16 marks
+--   packed_of w f n                   n digits of w bits each as one number
 use Rattle.std.specs.Prelude.{List, ℕ, zero, suc, ◌+◌, ◌-◌, ◌*◌, ◌/◌, ◌%◌, ◌^◌, get_or}
 use Rattle.stages.specs.Stage.{pick}
 

@@ -1,6 +1,6 @@
 -- The stages of a strip in the plain search, and their prices.
 --   encoder_for, label_for, cell_for   the encoder, the label of a stage, and a cell of a strip
---   stage_for, quote_for              a stage of a strip, and the prices of its words
+--   stage_for, quote_for               a stage of a strip, and the prices of its words
 use Rattle.std.specs.Prelude.{Bool, List, [], ◌∷◌, ℕ, ◌+◌, ◌*◌}
 use Rattle.cells.specs.Levels.{level}
 use Rattle.codes.specs.Generators.{Generators}

@@ -1,10 +1,10 @@
 -- The run's position in the program's values and buffers.
---   kept_bytes             the room for a line
---   position_of            the position that the values and buffers stand for
---   Ready, Blank          values and buffers that are in order; buffers before the first byte
---   LineEnd               where a line ends within bytes
---   KeptPart              the bytes of a line so far, in their buffer
---   Stepped               what a step of the program gives
+--   kept_bytes     the room for a line
+--   position_of    the position that the values and buffers stand for
+--   Ready, Blank   values and buffers that are in order; buffers before the first byte
+--   LineEnd        where a line ends within bytes
+--   KeptPart       the bytes of a line so far, in their buffer
+--   Stepped        what a step of the program gives
 use Rattle.std.specs.Prelude.{◌≡◌, List, ℕ, ◌<◌, ◌≤◌, length, take, drop, get_or, replicate}
 use Rattle.turns.specs.Turns.{at_line}
 use Rattle.turns.specs.declared.Run.{Run}

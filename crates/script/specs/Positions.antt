@@ -1,8 +1,8 @@
 -- A run between two bytes of its input, and bytes of the input that are taken.
---   Position, start   how far the run is, the bytes of the line so far, and whether it goes on; the first one
---   prints_from        WHAT THE RUN PRINTS from a position on the rest of the input
---   Takes, Leads      bytes of the input lead from a position to another, and print a text; or some text
---   InParts, whole_of  an input that comes in parts, and what is printed of it; the whole of it
+--   Position, start     how far the run is, the bytes of the line so far, and whether it goes on; the first one
+--   prints_from         WHAT THE RUN PRINTS from a position on the rest of the input
+--   Takes, Leads        bytes of the input lead from a position to another, and print a text; or some text
+--   InParts, whole_of   an input that comes in parts, and what is printed of it; the whole of it
 use Rattle.std.specs.Prelude.{◌≡◌, Bool, true, false, cond, List, [], ◌∷◌, ◌++◌, ℕ}
 use Rattle.text.specs.Lines.{no_values}
 use Rattle.turns.specs.Turns.{Progress, at_line}

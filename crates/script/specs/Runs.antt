@@ -1,8 +1,8 @@
 -- The whole run, from the input's bytes to the output's.
---   lines_of   the input's lines
---   onward    what is printed from a turn on
---   run_from   what is printed from a line on
---   run_of     THE RUN
+--   lines_of           the input's lines
+--   onward             what is printed from a turn on
+--   run_from           what is printed from a line on
+--   run_of             THE RUN
 --   RowsFrom, Output   the form of what is printed: rows, and the whole
 use Rattle.std.specs.Prelude.{cond, List, [], ◌∷◌, ◌++◌, ◌⊎◌, ◌≡◌, ℕ, ◌+◌, ◌≤◌, ltb, eqb}
 use Rattle.std.proofs.Math.Option.{Option, none, some}

@@ -1,12 +1,12 @@
 -- Laws of best solutions: the better of two solves either of two problems, and two one after the other solve the product.
---   no-worse-refl                                 a solution is no worse than itself
+--   no-worse-refl                     a solution is no worse than itself
 --   solves-either, solves-product, solves-empty   what solves two problems solves either of them, their product, and nothing at all is free
---   best-strict, settles-solves                   the strictly cheapest is the best, so what settles a problem solves it
---   settles-product, -empty, -iff                 the product, the empty problem and a problem in other words, strictly
---   none-valid, the-best, some-none               none says that nothing is valid, some that it is the best, and they differ
---   cost-least, levels-first   no valid levels cost less, and of those as cheap none is lower at the first cell that differs
---   solves-iff, solves-unique                     a problem in other words has the same solution, and it has one only
---   Joined, joined-both                           where two one after the other are open, both are
+--   best-strict, settles-solves       the strictly cheapest is the best, so what settles a problem solves it
+--   settles-product, -empty, -iff     the product, the empty problem and a problem in other words, strictly
+--   none-valid, the-best, some-none   none says that nothing is valid, some that it is the best, and they differ
+--   cost-least, levels-first          no valid levels cost less, and of those as cheap none is lower at the first cell that differs
+--   solves-iff, solves-unique         a problem in other words has the same solution, and it has one only
+--   Joined, joined-both               where two one after the other are open, both are
 use mathlib.Core.Path.{◌≡◌, refl, sym, ◌∙◌, ap, ap₂, subst}
 use mathlib.Core.Bool.{Bool, true, false, cond, ◌&&◌, ◌||◌, true≢false, false≢true}
 use mathlib.Core.List.{List, [], ◌∷◌, ◌++◌}

@@ -1,9 +1,9 @@
 -- The write of a strip in a layout: the search solves it, and its words read as the data just where the paper's sums give the data.
---   rewrite-marks                  the write of a strip depends on the marks of its own cells alone
---   words-code                     the bits of a stage's word are the code bits that its levels show
---   could-rewrite, rewrite-could   what could be, in the paper's words, is what the search looks for
---   strip-solves, strip-width      the write of a strip is the best of what could be, and as wide as the strip has cells
---   one_bit-parity, one_bit-sound    one bit a cell: a cell's bit is its level's parity
+--   rewrite-marks                   the write of a strip depends on the marks of its own cells alone
+--   words-code                      the bits of a stage's word are the code bits that its levels show
+--   could-rewrite, rewrite-could    what could be, in the paper's words, is what the search looks for
+--   strip-solves, strip-width       the write of a strip is the best of what could be, and as wide as the strip has cells
+--   one_bit-parity, one_bit-sound   one bit a cell: a cell's bit is its level's parity
 --   one_bit-write                   and each cell is kept or raised by one, with room in the states for more digits
 use mathlib.Core.Path.{◌≡◌, refl, sym, ◌∙◌, ap}
 use mathlib.Core.Bool.{Bool, false}

@@ -62,14 +62,14 @@ groups-at k (suc n) l (suc t) h =
     groups-at k n (drop k l) t (omega arith) ∙ ap (take k) (drop-drop (t * k) k l) ∙ ap (λ (i : ℕ). take k (drop i l)) e
 
 -- an element of a mapped list, with any default
-get_d_map : {A B : Type 0} (f : A → B) (l : List A) (j : ℕ) (d : A) (e : B) → j < length l → get_or (map f l) j e ≡ f (get_or l j d)
-get_d_map f [] j d e h = absurd (not-suc-le-zero h)
-get_d_map f (x ∷ l) zero d e h = refl
-get_d_map f (x ∷ l) (suc j) d e h = get_d_map f l j d e (omega arith)
+get_or_map : {A B : Type 0} (f : A → B) (l : List A) (j : ℕ) (d : A) (e : B) → j < length l → get_or (map f l) j e ≡ f (get_or l j d)
+get_or_map f [] j d e h = absurd (not-suc-le-zero h)
+get_or_map f (x ∷ l) zero d e h = refl
+get_or_map f (x ∷ l) (suc j) d e h = get_or_map f l j d e (omega arith)
 
 -- the word of stage t
 pub words-at : (M : Meaning) (n : ℕ) (y : List ℕ) (t : ℕ) → t < n
     → get_or (words M n y) t [] ≡ M.means (take M.cells (drop (t * M.cells) y))
 unfolding words
-words-at M n y t h = get_d_map M.means (groups M.cells n y) t [] [] (omega (arith, length-groups M.cells n y))
+words-at M n y t h = get_or_map M.means (groups M.cells n y) t [] [] (omega (arith, length-groups M.cells n y))
     ∙ ap M.means (groups-at M.cells n y t h)

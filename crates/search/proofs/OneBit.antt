@@ -1,6 +1,6 @@
 -- THE TWO FACTS about one bit a cell: the prices of a stage are the least costs of its words, and the bit that the first cell shows decides
 -- ties.
---   Pair            a stage of two cells and one label
+--   Pair             a stage of two cells and one label
 --   one_bit-wants    the word that a window wants at such a stage
 --   one_bit-held     the levels of an open branch
 --   one_bit-quotes   the two facts

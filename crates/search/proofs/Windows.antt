@@ -1,5 +1,5 @@
 -- The bits that a window of the last digits gives, on numbers.
---   first_of, second_of         the bit of a window by the first generator, and by the second
+--   first_of, second_of       the bit of a window by the first generator, and by the second
 --   parity-flip               the two newest digits give two bits
 --   word_first, word-second   the bits of a window's word
 --   word-flip                 the words of the two newest digits have no bit in common

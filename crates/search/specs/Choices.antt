@@ -1,7 +1,7 @@
 -- The best levels of a stage's cells for a wanted word, for any meaning of levels: every level of every cell is tried.
---   least n f      the best of f 0 .. f (n − 1)
+--   least n f       the best of f 0 .. f (n − 1)
 --   to_level        one cell raised to a level, where it may be
---   tried          the best of all levels of the cells that pass a test
+--   tried           the best of all levels of the cells that pass a test
 --   same_word       whether two words are the same
 --   choice_of S M   the choice: the best levels that mean the wanted word
 use Rattle.std.specs.Prelude.{Bool, true, false, cond, not, ◌&&◌, ◌||◌, List, [], ◌∷◌, ℕ, zero, suc, leb, eqb}

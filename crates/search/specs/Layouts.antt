@@ -1,10 +1,10 @@
 -- THE WRITE of a strip of bytes, in a layout.
 --   meaning_of lay   the code word that the levels of a stage mean
 --   data_bits        the data of a strip as bits, a sequence for each generator after the first
---   unmarked        no cell is marked
+--   unmarked         no cell is marked
 --   stages_of        the stages of a strip
 --   rewrite_of       the write: the new levels and their cost, or none
---   Sound lay G     what a layout and a code ask of each other
+--   Sound lay G      what a layout and a code ask of each other
 use Rattle.std.specs.Prelude.{◌≡◌, Bool, false, List, map, ℕ, suc, ◌+◌, ◌*◌, length}
 use Rattle.std.proofs.Math.Option.{Option}
 use Rattle.cells.specs.Bytes.{bit_of}

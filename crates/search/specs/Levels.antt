@@ -1,7 +1,7 @@
 -- The write of a strip by the levels of its cells, in the paper's words: no state, no digit, no trellis.
 --   cell_at, level_at   a cell of a list, and a level of a list, by its place
---   CouldBe           levels that read as the data, with no level lowered and marked cells kept
---   pays              what the change costs
+--   CouldBe             levels that read as the data, with no level lowered and marked cells kept
+--   pays                what the change costs
 use Rattle.std.specs.Prelude.{◌≡◌, false, List, ℕ, ◌*◌, ◌<◌, length, get_or}
 use Rattle.cells.specs.Places.{sum_of}
 use Rattle.cells.specs.Climbs.{climb}

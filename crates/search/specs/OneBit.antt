@@ -1,5 +1,5 @@
 -- ONE BIT A CELL, two cells a stage: what the four words of a stage cost, and which first code bit wins a tie.
---   bit_price S x b     what it costs that the cell x shows the bit b
+--   bit_price S x b      what it costs that the cell x shows the bit b
 --   one_bit_prices S g   the prices of the stage g
 use Rattle.std.specs.Prelude.{Bool, false, ℕ, ◌/◌, get_or}
 use Rattle.std.proofs.Math.Option.{Option}

@@ -1,9 +1,9 @@
 -- THE PLAIN SEARCH, on numbers: states, four words, and what each word costs at a stage. It is what a program of the search computes,
 -- however it holds its costs; above it everything is proved once, from two facts about a layout (`Quotes`).
---   Prices                   the prices of the four words at a stage, and the bit that wins a tie
---   branch_word words s u     the word that the state s wants with the digit u
+--   Prices                     the prices of the four words at a stage, and the bit that wins a tie
+--   branch_word words s u      the word that the state s wants with the digit u
 --   branch_price, branch_tie   a branch's price, and whether the digit 1 wins a tie
---   Quotes                   the two facts: the prices are the least costs of the words, and the bit decides ties
+--   Quotes                     the two facts: the prices are the least costs of the words, and the bit decides ties
 use Rattle.std.specs.Prelude.{◌≡◌, Bool, true, false, cond, ℕ, ◌-◌}
 use Rattle.std.specs.Bool.{beq}
 use Rattle.std.proofs.Math.Option.{Option, some}

@@ -2,7 +2,7 @@
 --   Choice, Chooses       the cheapest levels of a stage for a wanted word, and what makes a choice that
 --   labels, wanted        the data divided by G_1, and the word that a branch wants
 --   Stage, branch, next   a stage of the trellis, its branches and its next states
---   with_memory m E        the encoder with room for m digits in its states
+--   with_memory m E       the encoder with room for m digits in its states
 --   write                 the write of a strip: the best over its stages from state zero
 use Rattle.std.specs.Prelude.{◌≡◌, Bool, true, false, List, [], ◌∷◌, ℕ, zero, suc, take, replicate, length, drop}
 use Rattle.std.proofs.Math.Option.{Option}

@@ -1,8 +1,8 @@
 -- WHAT A WRITE OF A STRIP IS, for any weights, marks, meaning of levels and encoder: cells are raised to levels whose code words read as
 -- the data. No state and no search.
 --   Steps, Dear      the weight of each step, and the highest level; no step below it is free
---   steps_of          levels 0 to 3 with three weights
---   Cell, cells_of    a cell before the write: its level, and whether it must stay
+--   steps_of         levels 0 to 3 with three weights
+--   Cell, cells_of   a cell before the write: its level, and whether it must stay
 --   Rise, Raised     what a cell may become; cells raised to given levels, at a cost
 --   Meaning, words   the code word that a stage's levels mean; the words of n stages
 --   Rewrite          a write: the cells raised to levels that read as the data

@@ -1,11 +1,11 @@
 -- A BLOCK is eight stages. Costs are held in 256ths, and a word whose first code bit is not the row's costs a little more, at a bit of
 -- the low byte that is the stage's own: so ties fall as they must, and the low byte of a state's number says how it came to the end of
 -- the block.
---   pick_at picks i       the row of stage i of the block: a byte of picks
---   flag_of low j         1 where the first code bit of the word j is not `low`
---   marked_of rows r k    the price of each word of the row r, marked at the bit k
---   block_of              the numbers of the states before the last k stages of a block
---   settled_of            a number with its low byte cleared, and cut off at `ceiling`
+--   pick_at picks i                   the row of stage i of the block: a byte of picks
+--   flag_of low j                     1 where the first code bit of the word j is not `low`
+--   marked_of rows r k                the price of each word of the row r, marked at the bit k
+--   block_of                          the numbers of the states before the last k stages of a block
+--   settled_of                        a number with its low byte cleared, and cut off at `ceiling`
 --   RunRequires, Ran, Settled, Kept   what the functions of a block ask and give
 use Rattle.std.specs.Prelude.{ℕ, zero, suc, ◌+◌, ◌-◌, ◌*◌, ◌/◌, ◌%◌, ◌^◌, ◌≤◌, ◌<◌, min, List, ◌≡◌, length, get_or}
 use Rattle.stages.specs.Stage.{ceiling, stage_of}

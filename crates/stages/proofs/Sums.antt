@@ -1,7 +1,7 @@
 -- Sums of the numbers that tell optional costs: closed stays closed, and no sum brings it back among the costs.
 --   decodes-add   two numbers added up tell the two costs one after the other
 --   decodes-cut   a number that is cut off at closed tells the same cost
---   Below       an optional cost that is at most m where there is one; sums and the lesser of such costs
+--   Below         an optional cost that is at most m where there is one; sums and the lesser of such costs
 use mathlib.Core.Path.{sym, subst}
 use mathlib.Core.Bool.{Bool, true, false, cond}
 use mathlib.Core.Option.{Option, none, some}

@@ -1,9 +1,9 @@
 -- One stage of the search, from the back, on numbers: what each state costs to the end, from what the states after it cost.
---   closed       from this number on there is no cost: more than any write of a strip costs
---   top          the same in 256ths
---   pick d x y   x for the digit 0, else y
---   stage_of      what each state costs a stage earlier
---   words_of G    the word that each state wants for the digit 0
+--   closed                                from this number on there is no cost: more than any write of a strip costs
+--   top                                   the same in 256ths
+--   pick d x y                            x for the digit 0, else y
+--   stage_of                              what each state costs a stage earlier
+--   words_of G                            the word that each state wants for the digit 0
 --   StageRequires, HalfRequires, Staged   what a stage of 64 states asks and gives
 use Rattle.std.specs.Prelude.{ℕ, zero, suc, ◌+◌, ◌-◌, ◌*◌, ◌%◌, ◌≤◌, ◌<◌, min, List, ◌≡◌, length, get_or}
 use Rattle.codes.specs.Generators.{Generators}

@@ -4,7 +4,7 @@
 --   miss_of       1 where the first code bit of a branch is not the stage's
 --   digit_of      the plan's digit
 --   trail_of      the misses along the plan of the first k stages, the first stage worth most
---   Quoted       WHAT A LAYOUT MUST SHOW of a row: it tells the prices of a stage, in units, and the bit that wins a tie
+--   Quoted        WHAT A LAYOUT MUST SHOW of a row: it tells the prices of a stage, in units, and the bit that wins a tie
 use Rattle.std.specs.Prelude.{◌≡◌, Bool, not, List, [], ◌∷◌, ℕ, zero, suc, ◌+◌, ◌*◌, ◌%◌, ◌^◌, ◌≤◌, get_or}
 use Rattle.std.specs.Bool.{beq}
 use Rattle.std.proofs.Math.Option.{Option}

@@ -32,7 +32,7 @@ pairs [] = []
 pairs (a ∷ []) = []
 pairs (a ∷ b ∷ rest) = (nibble a * 16 + nibble b) ∷ pairs rest
 
--- whether a line is the text of n bytes: 'a data line of another length than L-as-S bytes is at fault'
+-- whether a line is the text of n bytes: 'a data line of another length than L·S bytes is at fault'
 unfoldable pub is_data : ℕ → List ℕ → Bool
 is_data n line = eqb (length line) (2 * n) && all_hex line
 

@@ -1,8 +1,8 @@
 -- What lines 1 to 3 say, computed; the laws of proofs/Lines.antt tie it to the text.
---   same             whether two texts are the same
+--   same               whether two texts are the same
 --   step_of, scan_of   the values that stand in a line, byte by byte
---   values_of         the values of a line 2, if it is in form
---   form_of           the same as a function's answer
+--   values_of          the values of a line 2, if it is in form
+--   form_of            the same as a function's answer
 use Rattle.std.specs.Prelude.{Bool, cond, ◌&&◌, List, [], ◌∷◌, ℕ, ◌+◌, ◌*◌, ◌%◌, ltb, eqb}
 use Rattle.std.proofs.Math.Option.{Option, none, some}
 use Rattle.cells.specs.Places.{same_list}

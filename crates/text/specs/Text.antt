@@ -1,10 +1,10 @@
 -- Text, as lists of bytes.
---   decimal                a number in decimal
---   values_text             line 2
+--   decimal                  a number in decimal
+--   values_text              line 2
 --   names_text, data_text    lines 1 and 3
 --   head_text, row_text      what is printed after line 3, and for each write
 --   fault_head, fault_text   what is printed at a fault
---   Put, Tail              where a text stands in a buffer: in front of another one, and at the end; what stands before it is as it was
+--   Put, Tail                where a text stands in a buffer: in front of another one, and at the end; what stands before it is as it was
 use Rattle.std.specs.Prelude.{◌≡◌, cond, List, [], ◌∷◌, ◌++◌, ℕ, zero, suc, ◌+◌, ◌/◌, ◌%◌, ◌≤◌, ltb, take, drop}
 use Rattle.text.specs.declared.Values.{Values}
 

@@ -1,10 +1,10 @@
 -- The digits that the program follows are those of the plan, and carried out they are the write.
---   path_state, path_digit        the states and the digits of the plan from state 0
---   path-open                   along the plan of a strip that has a write every state has a cost
---   path-followed               what the history keeps and the bits of the first cells give these digits
---   carried-is                  these digits, carried out, raise the cells to the levels of the write
---   followed-plans              so the bytes of digits that are followed are a plan
---   strip-near, write-below     a write raises no cell by more than one, and costs less than closed
+--   path_state, path_digit    the states and the digits of the plan from state 0
+--   path-open                 along the plan of a strip that has a write every state has a cost
+--   path-followed             what the history keeps and the bits of the first cells give these digits
+--   carried-is                these digits, carried out, raise the cells to the levels of the write
+--   followed-plans            so the bytes of digits that are followed are a plan
+--   strip-near, write-below   a write raises no cell by more than one, and costs less than closed
 use mathlib.Core.Path.{◌≡◌, refl, sym, ◌∙◌, ap, ap₂, fun_ext}
 use mathlib.Core.Bool.{Bool, true, false, not, beq}
 use mathlib.Core.List.{List, ◌∷◌, ◌++◌}

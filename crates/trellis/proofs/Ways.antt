@@ -1,15 +1,15 @@
 -- The stages of a strip in the plain search, and what the numbers of the states tell over blocks of them, from the last block to the first.
---   Suits, suits, suits-sound                     what the program asks of a code and its weights, and that every code has it
+--   Suits, suits, suits-sound   what the program asks of a code and its weights, and that every code has it
 --   words_le, state-inside, next-zero, next_one   the words and the next states of a code
---   label-bit                                    the label of a stage
---   stages-pairs, stages-are                      the stages of a strip are those of the search
---   BlocksDecoded                                    what the loop over the blocks holds
---   blocks_last, block-decoded, blocks_more          at its start, and through a turn
---   blocks-first                                  at its end: the number of state 0 tells the strip's outcome
---   block-quoted                                  the rows of a block tell the prices of its stages
---   TracedFrom, traced-more                       the history of the blocks from q on
---   block-lows                                    the bits that the first cells of a block show
---   store-back                                    a loop that stores from the last place back
+--   label-bit                   the label of a stage
+--   stages-pairs, stages-are    the stages of a strip are those of the search
+--   BlocksDecoded               what the loop over the blocks holds
+--   blocks_last, block-decoded, blocks_more   at its start, and through a turn
+--   blocks-first                at its end: the number of state 0 tells the strip's outcome
+--   block-quoted                the rows of a block tell the prices of its stages
+--   TracedFrom, traced-more     the history of the blocks from q on
+--   block-lows                  the bits that the first cells of a block show
+--   store-back                  a loop that stores from the last place back
 use mathlib.Core.Path.{◌≡◌, refl, sym, ◌∙◌, ap, fun_ext, subst}
 use mathlib.Core.Bool.{Bool, true, false}
 use mathlib.Core.Logic.{⊎_elim}

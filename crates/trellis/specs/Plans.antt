@@ -1,6 +1,6 @@
 -- A plan: the digits of a strip's write, a bit a stage.
 --   write_of   the write of a strip of bytes, one bit a cell
---   Plans     digits that lead to the levels of the write
+--   Plans      digits that lead to the levels of the write
 use Rattle.std.specs.Prelude.{◌≡◌, Bool, List, ℕ, ◌<◌, length}
 use Rattle.std.proofs.Math.Option.{Option, some}
 use Rattle.codes.specs.Generators.{Generators}

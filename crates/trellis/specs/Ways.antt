@@ -1,10 +1,10 @@
 -- The stages of a strip in the plain search, and what the program keeps of the ways through them.
---   next_for                       the next state
---   stages_for, costs_for           k stages from stage t on, and what they cost from each state
---   Shaped                        what the search of a strip asks
---   Traced                        the history has the trail of each state that has a cost, eight stages a byte
---   Lows                          the bits that the first cells show, eight stages a byte
---   Followed                      digits that the history and these bits give
+--   next_for                the next state
+--   stages_for, costs_for   k stages from stage t on, and what they cost from each state
+--   Shaped                  what the search of a strip asks
+--   Traced                  the history has the trail of each state that has a cost, eight stages a byte
+--   Lows                    the bits that the first cells show, eight stages a byte
+--   Followed                digits that the history and these bits give
 use Rattle.std.specs.Prelude.{◌≡◌, Bool, List, ℕ, ◌+◌, ◌-◌, ◌*◌, ◌^◌, ◌<◌, ◌≤◌, get_or, length}
 use Rattle.std.proofs.Math.Option.{Option, none}
 use Rattle.std.specs.Int.Bits.{bit_xor}

@@ -1,6 +1,6 @@
 -- The size of a page's data, and the row of a write from its parts.
---   size-given, size-refused, size-bound   the size is L-as-S, or 0 where the values are refused, and at most 4096
---   in-limits                              L-as-S where the values are given
+--   size-given, size-refused, size-bound   the size is L·S, or 0 where the values are refused, and at most 4096
+--   in-limits                              L·S where the values are given
 --   row_is                                 the row's four numbers are those of the answer and of the page after the write
 use mathlib.Core.Path.{◌≡◌, refl}
 use mathlib.Core.List.{List}
@@ -19,7 +19,7 @@ use Rattle.text.specs.Text.{row_text}
 use Rattle.turn_rows.specs.Rows.{size_of, values_answer, values_page, row_after, write_row}
 
 module _ (v : Values) where
-  -- L-as-S is at most 4096
+  -- L·S is at most 4096
   pub in-limits : sizes_ground v.code v.bytes v.strips ≡ none → v.bytes * v.strips ≤ 4096
   in-limits e = limits-size v.bytes v.strips (sizes-limits v.code v.bytes v.strips e)
 

@@ -1,7 +1,7 @@
 -- The row of a write.
---   size_of                     the bytes of a page's data
+--   size_of                      the bytes of a page's data
 --   values_answer, values_page   a write's answer and the page after it, by the values of line 2
---   write_row                   the row
+--   write_row                    the row
 use Rattle.std.specs.Prelude.{List, ℕ, ◌*◌}
 use Rattle.cells.specs.Levels.{raises_of}
 use Rattle.cells.specs.Climbs.{house}
@@ -13,7 +13,7 @@ use Rattle.page_answers.specs.Answers.{number_of, answer_cost}
 use Rattle.text.specs.declared.Values.{Values}
 use Rattle.text.specs.Text.{row_text}
 
--- 'Its data has L-as-S bytes'; 0 where the values are refused
+-- 'Its data has L·S bytes'; 0 where the values are refused
 unfoldable pub size_of : Values → ℕ
 size_of v = kept (sizes_ground v.code v.bytes v.strips) (v.bytes * v.strips) 0
 

@@ -9,7 +9,7 @@ ghost use Rattle.turn_rows.specs.Rows.{size_of, values_page, write_row};
 use page::{Answer, Completion, answers, writing};
 use text::{Values, printing};
 
-// The bytes of a page's data, L.S; 0 where the values are refused.
+// The bytes of a page's data, L·S; 0 where the values are refused.
 pub fn size(v: Values) -> usize
     ensures { (result ≤ 4096) × (result ≡ size_of v) }
 {

@@ -1,8 +1,8 @@
 -- The page in its buffer, and the turn of a line that the buffer is lent to.
---   page-none                            there is no page before line 4
+--   page-none                               there is no page before line 4
 --   holds-zeros, holds-none, holds-erased   a buffer of zeros holds no page, or an erased one
---   names-told, values-told, data-told   lines 1 to 3 by their numbers, and the buffer after them
---   write-told, write-holds              a data line, and the buffer after it
+--   names-told, values-told, data-told      lines 1 to 3 by their numbers, and the buffer after them
+--   write-told, write-holds                 a data line, and the buffer after it
 use mathlib.Core.Path.{◌≡◌, refl, sym, ◌∙◌}
 use mathlib.Core.Bool.{Bool, true, false, cond, ◌&&◌}
 use mathlib.Core.List.{List, [], ◌++◌}

@@ -1,7 +1,7 @@
 -- The page in the program's buffer, and what a whole line asks.
---   most_page              the room for a page
---   page_size, Holds       the bytes of the page, and the buffer that holds it
---   LineRequires             what a line asks
+--   most_page          the room for a page
+--   page_size, Holds   the bytes of the page, and the buffer that holds it
+--   LineRequires       what a line asks
 use Rattle.std.specs.Prelude.{◌≡◌, cond, List, ℕ, ◌-◌, ◌<◌, ltb, length, take, drop, replicate}
 use Rattle.codes.specs.Layouts.{one_bit, byte_count}
 use Rattle.text.specs.declared.Values.{Values}

@@ -1,10 +1,10 @@
 -- What each line does.
---   Progress                                     how far the run is: the number of the next line, the values of line 2, the page
---   Turned                                       what is printed, how far the run is then, and whether it goes on
+--   Progress         how far the run is: the number of the next line, the values of line 2, the page
+--   Turned           what is printed, how far the run is then, and whether it goes on
 --   names_turn, values_turn, data_turn, write_turn   lines 1, 2 and 3, and a data line
---   line_turn                                     THE TURN of a line, by its number
---   run_after                                     where the run is after a turn, as the program has it
---   Told, ToldPage                               a function's answer and its buffer tell of a turn, and its page too
+--   line_turn        THE TURN of a line, by its number
+--   run_after        where the run is after a turn, as the program has it
+--   Told, ToldPage   a function's answer and its buffer tell of a turn, and its page too
 use Rattle.std.specs.Prelude.{◌≡◌, Bool, true, false, cond, ◌&&◌, List, [], ℕ, ◌+◌, ◌-◌, ltb, leb, eqb, replicate}
 use Rattle.std.proofs.Math.Option.{Option, none, some}
 use Rattle.codes.specs.Layouts.{one_bit, byte_count}
@@ -61,7 +61,7 @@ unfoldable pub data_turn : Progress → List ℕ → Turned
 data_turn p line =
     cond (same_list line data_text) (goes p head_text p.values (replicate (byte_count one_bit (size_of p.values)) 0)) (halt text_number p)
 
--- a data line, of which n bytes are wanted; write 1 is line 4: 'a data line of another length than L-as-S bytes is at fault by 6,
+-- a data line, of which n bytes are wanted; write 1 is line 4: 'a data line of another length than L·S bytes is at fault by 6,
 -- and so is a 1,001st data line'
 unfoldable pub write_turn : ℕ → Progress → List ℕ → Turned
 write_turn n p line =

@@ -1,7 +1,7 @@
 -- The one number that an answer is to C.
 --   answer_word, completion_word
---   list_word                     that of a list's answer
---   Fields                       the fields of that number
+--   list_word   that of a list's answer
+--   Fields      the fields of that number
 use Rattle.std.specs.Prelude.{◌≡◌, ℕ, ◌+◌, ◌*◌, ◌/◌, ◌%◌, ◌^◌}
 use Rattle.page_answers.specs.Answers.{number_of, value_of, list_number, list_strip}
 use Rattle.refusals.specs.Refusals.{completion_number}

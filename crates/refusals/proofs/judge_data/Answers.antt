@@ -1,4 +1,4 @@
--- The tests are those of the ground; L-as-S fits, as L and S are within their limits, and so does the count times that, a number of 32 bits.
+-- The tests are those of the ground; L·S fits, as L and S are within their limits, and so does the count times that, a number of 32 bits.
 use Prim.Native.Nat.{◌*◌}
 use native.Mathlib.Omega.{arith}
 use native.Mathlib.Nat.{mul-le-mul}
