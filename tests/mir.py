@@ -300,7 +300,7 @@ class Written:
                     left += parts
                 case "skip" | "return" | "no_default" | "unreachable" | ["exit", _]:
                     pass
-                case str() as name if name.startswith("by_name-"):
+                case str() as name if re.fullmatch(r"(?:by_name-)?(?:s|t|turn)-\d+", name):
                     pass
                 case other:
                     sys.exit(f"mir: the statement {other} is not understood")
@@ -310,10 +310,12 @@ class Written:
         symbols = {short or "Symbol": path.replace(".proofs.", ".", 1).replace(".", "::") for path, short in self.USE.findall(said)}
         calls, stored, known = [], [], {}
         for defined, body in self.DEFINITION.findall(said):
-            if defined == "table" or defined.startswith("by_name"):
+            if re.fullmatch(r"table|function|(?:by_name-)?(?:locals|(?:s|t|turn)-\d+)|by_name", defined):
                 known[defined] = self.term(list(reversed(self.TOKEN.findall(body))))
+        # where no local has a name, there is one form alone
+        form = "by_name-" if "by_name" in known else ""
         for defined, body in known.items():
-            if not re.fullmatch(r"by_name-(?:s|t|turn)-\d+", defined):
+            if not re.fullmatch(rf"{form}(?:s|t|turn)-\d+", defined):
                 continue
             for statement in self.statements(body):
                 match statement:
@@ -324,9 +326,9 @@ class Written:
                         stored.append((self.place(place), self.value(values)))
                     case _:
                         sys.exit(f"mir: {name} has a statement that is not understood: {statement}")
-        fields = dict(known["by_name"][1:])
-        locals_ = [(self.kind(kind), home == "memory_slot") for _, kind, home in self.members(known["by_name-locals"])]
-        return function(name, int(fields["params"]), locals_, calls, stored), dict(map(self.named, self.members(known["table"])))
+        fields = dict(known[form.removesuffix("-") or "function"][1:])
+        locals_ = [(self.kind(kind), home == "memory_slot") for _, kind, home in self.members(known[f"{form}locals"])]
+        return function(name, int(fields["params"]), locals_, calls, stored), dict(map(self.named, self.members(known.get("table"))))
 
     def called(self, name, callee, symbols):
         words = [callee] if isinstance(callee, str) else callee
