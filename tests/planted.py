@@ -136,7 +136,7 @@ def each(count, text):
 
 def struct(name, count, kind, value):
     """A struct with so many fields of a type, and a value of it by the value of a field."""
-    return f"pub struct {name} {{ {each(count, f'pub a#: {kind},')} }}", f"rows::{name} {{ {each(count, f'a#: {value},')} }}"
+    return f"#[derive(Clone, Copy)]\npub struct {name} {{ {each(count, f'pub a#: {kind},')} }}", f"rows::{name} {{ {each(count, f'a#: {value},')} }}"
 
 
 def in_strip_mut(line, item=""):
@@ -174,7 +174,7 @@ BY_A_LIMIT = " (only by a limit of the prover, which gave no verdict, so this sa
 BY_A_NAME = " (only because a proof file names what the edit took away, so this says little of the contract: change a value and keep the names)"
 ASKS = "requires { Unit }"
 STORE = "if page.len() > 0 { page[0] = 0; }"
-FLAG = "pub enum Flag { No, Yes }"
+FLAG = "#[derive(Clone, Copy)]\npub enum Flag { No, Yes }"
 FIELDS, FIELDS_VALUE = struct("Fields", 64, "u32", "0")
 BITS, BITS_VALUE = struct("Bits", 8, "u64", "0")  # a bit for each stage
 OUTER, OUTER_VALUE = struct("Outer", 8, "Bits", BITS_VALUE)
@@ -362,11 +362,11 @@ FAULTS = {
         ("quotes what stands in no crate: pub extern", change("docs/changes/K4.md", r"result % 4294967296", "result % 4294967295")),
     ],
     "pricing.py": [
-        ("segrunov_price is lent", change(FIRMWARE, r"(?<=_price\(\n    code: u32,\n    bytes: u32,\n    strips: u32,\n    page: &)", "mut ")),
-        ("segrunov2_price is lent", append(FIRMWARE, '\n#[no_mangle]\npub extern "C" fn segrunov2_price(page: &mut [u8]) {}\n')),
+        ("segrunov_price is lent", change(FIRMWARE, r"(?<=_price\(code: u32, bytes: u32, strips: u32, page: &)", "mut ")),
+        ("segrunov2_price is lent", append(FIRMWARE, "\npub fn segrunov2_price(page: &mut [u8]) {}\n")),
         (
             "price_planted is lent",
-            append(WRITING, "\npub struct Lent<'a> {\n    pub kept: &'a mut [u8],\n}\n\npub fn price_planted(lent: Lent) {}\n"),
+            append(WRITING, "\n#[derive(Drop)]\npub struct Lent<'a> {\n    pub kept: &'a mut [u8],\n}\n\npub fn price_planted(lent: Lent) {}\n"),
         ),
         ("price_planted calls itself", append(WRITING, "\npub fn price_planted(n: u32) {\n    price_planted(n / 2);\n}\n")),
         (
@@ -398,7 +398,7 @@ FAULTS = {
         ),
         (
             "price_strip has rows::Kept, the type of nothing that is named",
-            in_price_strip(f"let kept = rows::Kept::Some({each(8, '0,')});", f"pub enum Kept {{ None, Some({each(8, 'u64,')}) }}"),
+            in_price_strip(f"let kept = rows::Kept::Some({each(8, '0,')});", f"#[derive(Clone, Copy)]\npub enum Kept {{ None, Some({each(8, 'u64,')}) }}"),
         ),
         (
             "price_strip keeps rows::Bits 1 times, and 0 are named",
@@ -609,6 +609,9 @@ def main():
         shutil.copytree(ROOT, copy, ignore=shutil.ignore_patterns("target", "out", ".git", "__pycache__"))
         for path, text in STAND_INS.items():
             put(copy / path, text)
+        # the forms of the libraries that no fault is planted in are those of this checkout (tests/mir.py)
+        for built in ROOT.glob("crates/*/out"):
+            (copy / built.relative_to(ROOT)).symlink_to(built.resolve())
         for path in "bin/rt", "cross/build":
             (copy / path).chmod(0o755)
         for check, faults in wanted.items():
