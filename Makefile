@@ -51,7 +51,7 @@ $(LIB)/segrunov.h: include/segrunov.h
 
 # For another processor: made again where the archive for x86-64 is another one, or the compiler or its flags are others than the last time.
 ifdef TARGET
-$(LIB)/libsegrunov.a: $(OWN)/libsegrunov.a target/cross/$(TARGET).flags cross/lib cross/build cross/compile
+$(LIB)/libsegrunov.a: $(OWN)/libsegrunov.a target/cross/$(TARGET).flags cross/lib cross/build cross/high_first cross/compile
 	@$(HAVE_RT)
 	@CLANG="$(CLANG)" cross/lib $(TARGET) $(FLAGS)
 
