@@ -2638,6 +2638,7 @@ void *memcpy(void *to, const void *from, size_t n);
 void *memset(void *to, int value, size_t n);
 #ifdef BARE_ARM
 void __aeabi_memcpy(void *to, const void *from, size_t n);
+void __aeabi_memcpy4(void *to, const void *from, size_t n);
 void __aeabi_memclr(void *to, size_t n);
 void __aeabi_memclr4(void *to, size_t n);
 #endif
@@ -2667,6 +2668,11 @@ void *memset(void *to, int value, size_t n)
 
 #ifdef BARE_ARM
 void __aeabi_memcpy(void *to, const void *from, size_t n)
+{
+    (void)memcpy(to, from, n);
+}
+
+void __aeabi_memcpy4(void *to, const void *from, size_t n)
 {
     (void)memcpy(to, from, n);
 }

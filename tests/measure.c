@@ -14,7 +14,7 @@
 #include "segrunov.h"
 
 #ifndef PRICE_STACK
-#define PRICE_STACK 2048 /* x86-64's; other processors have their own (tests/processors) */
+#define PRICE_STACK 2816 /* x86-64's; other processors have their own (tests/processors) */
 #endif
 
 enum { MOST = 64, LISTED = 2, LARGEST = 2, STACK = 1 << 16 };

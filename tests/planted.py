@@ -440,11 +440,11 @@ FAULTS = {
     ],
     "measured": [
         ("price needs another stack for L = 1 than for L = 64", used("price", "done(8 * bytes)")),
-        ("price needs more stack than its limit", used("price", "done(2048)")),
+        ("price needs more stack than its limit", used("price", "done(2816)")),
         ("write needs more stack than its limit", used("write", "done(12288)")),
         ("price_weighted needs another stack for L = 1 than for L = 64", used("price_weighted", "done(8 * bytes)")),
         ("price_mapped needs another stack for L = 1 than for L = 64", used("price_mapped", "done(8 * bytes)")),
-        ("price_mapped needs more stack than its limit", used("price_mapped", "done(2048)")),
+        ("price_mapped needs more stack than its limit", used("price_mapped", "done(2816)")),
         ("write_mapped needs more stack than its limit", used("write_mapped", "done(12288)")),
         ("write_list needs more stack than its limit", used("write_list", "done(12288)")),
         ("write_list_mapped needs more stack than its limit", used("write_list_mapped", "done(12288)")),
