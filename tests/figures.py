@@ -2,6 +2,9 @@
 """Prints each crate's lines of code, definitions, laws and function proofs, without blank lines and comments, and its must-fail edits."""
 from repository import ROOT, crates
 
+# The files that are of one function each, in a folder of its name.
+OF_FUNCTION = ("Answers.antt", "Invariants.antt", "Proof.antt")
+
 
 def lines(paths, comment):
     return sum(
@@ -19,11 +22,11 @@ def main():
     for name in crates():
         crate = ROOT / "crates" / name
         proofs = list(crate.glob("proofs/**/*.antt"))
-        of_functions = [p for p in proofs if p.name == "Proof.antt"]
+        of_functions = [p for p in proofs if p.name in OF_FUNCTION and p.parent != crate / "proofs"]
         row = [
             lines(crate.glob("src/**/*.rt"), "//"),
             lines(crate.glob("specs/**/*.antt"), "--"),
-            lines([p for p in proofs if p.name != "Proof.antt"], "--"),
+            lines([p for p in proofs if p not in of_functions], "--"),
             lines(of_functions, "--"),
             len(list(crate.glob("must-fail/*.edit"))),
         ]
