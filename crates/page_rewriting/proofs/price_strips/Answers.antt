@@ -37,7 +37,7 @@ slice_bounds-price_strip-end c =
 
 pub price_strip-price-requires : goal.price_strip-price-requires
 price_strip-price-requires c =
-    turn-shaped c.args.map.now c.requires.sized c.loop-k-test.true c.strip.ensures.result_value c.map_part.ensures
+    turn-shaped _ c.requires.sized c.loop-k-test.true c.strip.ensures.result_value c.map_part.ensures
     c.rows_of-rows.ensures
 
 pub returns-then-total : goal.returns-then-total

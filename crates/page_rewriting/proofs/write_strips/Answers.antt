@@ -46,7 +46,7 @@ returns-in-Refused c =
       three = c.well_formed.1.0.1.0.1;
       bytes = λ i. let h = (elem_Fits w8 w8 c.args.weights _ i c.well_formed.1.0.1.1 tt).fits in omega arith;
     }) in
-    absurd (not-refused suited c.requires.dear c.args.map.now c.requires.sized c.plan_strips-answer.ensures.value c.in-Refused.is)
+    absurd (not-refused suited c.requires.dear _ c.requires.sized c.plan_strips-answer.ensures.value c.in-Refused.is)
 
 pub returns-in-Done : goal.returns-in-Done
 returns-in-Done c =
