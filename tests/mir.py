@@ -213,7 +213,7 @@ class Written:
 
     TOKEN = re.compile(r"[(){},;=]|[^\s(){},;=]+")
     DEFINITION = re.compile(r"^abbrev pub (\S+) : \S+.*\n(?:\S+) =((?:.|\n(?!\n))*)", re.M)
-    USE = re.compile(r"^use Rattle\.(\S+)\.Symbol(?: as (\S+))?$", re.M)
+    USE = re.compile(r"^use Rattle\.(\S+)\.(Symbol|Key)(?: as (\S+))?$", re.M)
 
     def term(self, tokens):
         """An application as a list of its head and arguments, up to a bracket or a comma that is not its own."""
@@ -307,7 +307,8 @@ class Written:
 
     def function(self, name, said):
         """A function and the types with a name that its file has."""
-        symbols = {short or "Symbol": path.replace(".proofs.", ".", 1).replace(".", "::") for path, short in self.USE.findall(said)}
+        names = {short or kind: re.sub(r"\.(?:proofs|specs\.contracts)\.", ".", path, count=1) for path, kind, short in self.USE.findall(said)}
+        symbols = {short: path.replace(".", "::") for short, path in names.items()}
         calls, stored, known = [], [], {}
         for defined, body in self.DEFINITION.findall(said):
             if re.fullmatch(r"table|function|(?:by_name-)?(?:locals|(?:s|t|turn)-\d+)|by_name", defined):
@@ -340,8 +341,11 @@ class Written:
     def read(self, folder):
         """The functions of a folder that the compiler wrote, and the types with a name."""
         functions, named = {}, {}
-        for path in sorted(folder.glob("Rattle-*-proofs/**/Code/Mir.antt")):
+        for path in sorted([*folder.glob("Rattle-*-proofs/**/Code/Mir.antt"), *folder.glob("Rattle-*-proofs/**/+*/Code/+*.antt")]):
             crate, *inside = path.relative_to(folder).parts[:-2]
+            if path.stem.startswith("+"):
+                # of functions that call one another: in the folder of all of them
+                inside[-1] = path.stem.removeprefix("+")
             if crate == "Rattle-empty-proofs":
                 continue
             name = "::".join([crate.removeprefix("Rattle-").removesuffix("-proofs"), *inside])
