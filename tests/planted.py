@@ -118,7 +118,8 @@ def named_line(crate, name):
     if not report and place in FUNCTIONS:
         function = FUNCTIONS[place]
         clauses = function.names["ensures"]
-        goal = f"{statement}-clause-{clauses[-1]}" if statement.startswith("returns") and "-clause-" not in statement and len(clauses) > 1 else statement
+        whole = statement.startswith("returns") and "-clause-" not in statement and len(clauses) > 1
+        goal = f"{statement}-clause-{clauses[-1]}" if whole else statement
         file = function.where.rpartition(":")[0].removeprefix(f"crates/{crate}/")
         report = f"note: {file}:{function.lines[-1]}:5: it is not proved that what the function ensures holds when it returns (`{goal}`)"
     return said_of(crate, name, f"refused, as it must be: {(report or '')[:CUT]}")
