@@ -466,6 +466,10 @@ FAULTS = {
         ("its comment has no line `# first:", change(EDIT, r"^# first: .*\n", "")),
         ("has no returns of", change(EDIT, r"^# first: .*", f"# first: returns of {CRATE}::planted")),
         ("has no planted of", change(EDIT, r"^# first: .*", f"# first: planted of {CRATE}/proofs/Lib")),
+        *(
+            (f"has no {goal} of", change(EDIT, r"^# first: \S+", f"# first: {goal}"))
+            for goal in ("planted", "returns-clause-planted", "loop-planted-preserved", "loop-k-init", "planted-requires")
+        ),
         ("its comment does not say what must hold", change(EDIT, r"\A(?:# (?!first: ).*\n)+", "")),
         ("it is not comment lines, then", append(EDIT, "# planted\n")),
     ],
