@@ -182,7 +182,7 @@ def is_named(found, named):
     """Whether what failed is the statement that is named, or within it, as far as its name is shown. Where all clauses are named, each of them is."""
     names, place = found
     for name in names:
-        if name.endswith("…") and named.startswith(name[:-1]) and named.endswith(f" of {place}"):
+        if name.endswith("…") and len(name) > 1 and named.startswith(name[:-1]) and named.endswith(f" of {place}"):
             return True
         if named in (f"{name} of {place}", f"{name.partition('-clause-')[0]} of {place}"):
             return True
