@@ -46,8 +46,7 @@ use Rattle.refusals.specs.Refusals.{page_bytes, block_size, pages_ground, block_
 use Rattle.refusals.specs.Refusals.{numbered}
 use Rattle.refusals.specs.declared.Refusal.{Refusal}
 use Rattle.refusals.specs.declared.Refusal.TheVariants.{CodeUnknown, BytesOutside, StripsOutside, WeightZero}
-use Rattle.refusals.specs.declared.Completion.{Completion}
-use Rattle.refusals.specs.declared.Completion.TheVariants.{Done, Refused}
+use Rattle.std.specs.Prelude.{Result, Ok, Err, ⊤}
 
 -- THE LIMITS. What a number from 1 to 64 is
 pub one-to-64 : (n : ℕ) → one_to_64 n ≡ true → (1 ≤ n) × (n ≤ 64)
@@ -392,23 +391,23 @@ unfolding sizes_ground limits_ground code_ground bytes_ground strips_ground
 sizes-number code L S e = three-tests (is_code code) (one_to_64 L) (one_to_64 S) e
 
 -- an answer that is done has no ground
-pub done_none : (g : Option Refusal) → completion_of g ≡ Done → g ≡ none
+pub done_none : (g : Option Refusal) → completion_of g ≡ Ok tt → g ≡ none
 done_none none e = refl
 done_none (some r) e = let z : ◌≡◌ {A = ℕ} 0 1 = cc in absurd (omega arith)
 
 -- a refusal is its ground
-pub refused-some : (g : Option Refusal) {r : Refusal} → completion_of g ≡ Refused r → g ≡ some r
+pub refused-some : (g : Option Refusal) {r : Refusal} → completion_of g ≡ Err r → g ≡ some r
 refused-some none e = let z : ◌≡◌ {A = ℕ} 0 1 = cc in absurd (omega arith)
 refused-some (some s) e = cc
 
 -- and it is that of whatever is tested after it
-pub refused-first : (g h : Option Refusal) (c : Completion) {r : Refusal} → c ≡ completion_of g → c ≡ Refused r
+pub refused-first : (g h : Option Refusal) (c : Result ⊤ Refusal) {r : Refusal} → c ≡ completion_of g → c ≡ Err r
     → c ≡ completion_of (first_of g h)
 refused-first none h c e f = let z : ◌≡◌ {A = ℕ} 0 1 = cc in absurd (omega arith)
 refused-first (some s) h c e f = e
 
 -- where the first ground does not apply, what is tested after it decides
-pub done_next : (g h : Option Refusal) {c d : Completion} → c ≡ completion_of g → c ≡ Done → d ≡ completion_of h
+pub done_next : (g h : Option Refusal) {c d : Result ⊤ Refusal} → c ≡ completion_of g → c ≡ Ok tt → d ≡ completion_of h
     → d ≡ completion_of (first_of g h)
 done_next g h e f k = rw (done_none g (sym e ∙ f)) k
 

@@ -37,12 +37,9 @@ use Rattle.refusals.specs.declared.Refusal.{Refusal}
 use Rattle.refusals.specs.declared.Refusal.TheVariants.{CodeUnknown, BandOutside, BytesOutside, StripsOutside, PagesOutside}
 use Rattle.refusals.specs.declared.Refusal.TheVariants.{WeightZero, CountOutside, PageLength, MapLength, DataLength}
 use Rattle.refusals.specs.declared.Refusal.TheVariants.{EraseTemperature, PageMissing}
-use Rattle.refusals.specs.declared.Count.{Count}
-use Rattle.refusals.specs.declared.Count.TheVariants as N
-use Rattle.refusals.specs.declared.Map.{Map}
-use Rattle.refusals.specs.declared.Map.TheVariants as M
-use Rattle.refusals.specs.declared.Completion.{Completion}
-use Rattle.refusals.specs.declared.Completion.TheVariants as C
+use Rattle.std.specs.declared.option.Option as Program
+use Rattle.std.specs.declared.option.Option.TheVariants as Given
+use Rattle.std.specs.Prelude.{Result, Ok, Err, ⊤}
 
 -- 'L from 1 to 64'
 unfoldable pub one_to_64 : ℕ → Bool
@@ -74,14 +71,14 @@ unfoldable pub page_ground : Layout → ℕ → ℕ → ℕ → Option Refusal
 page_ground lay L S size = cond (eqb size (byte_count lay L * S)) none (some PageLength)
 
 -- a call's count, where it writes a list
-abbrev pub count_given : Count → Option ℕ
-count_given N.One = none
-count_given (N.List n) = some n
+abbrev pub count_given : Program.Option ℕ → Option ℕ
+count_given Given.None = none
+count_given (Given.Some n) = some n
 
 -- the length of a call's map, where it has one
-abbrev pub map_given : Map → Option ℕ
-map_given M.Nothing = none
-map_given (M.Length n) = some n
+abbrev pub map_given : Program.Option ℕ → Option ℕ
+map_given Given.None = none
+map_given (Given.Some n) = some n
 
 -- '11, the map has another length, tested after 4 and before 5'; 'calls without one mean a map with no cell marked'
 abbrev pub map_ground : Layout → ℕ → ℕ → Option ℕ → Option Refusal
@@ -244,14 +241,14 @@ unfoldable pub numbered : ℕ → Generators
 numbered code = cond (eqb code 3) short long
 
 -- 'Read, erase and census answer done or the refusal.'
-abbrev pub completion_of : Option Refusal → Completion
-completion_of none = C.Done
-completion_of (some r) = C.Refused r
+abbrev pub completion_of : Option Refusal → Result ⊤ Refusal
+completion_of none = Ok tt
+completion_of (some r) = Err r
 
 -- the number of a completion
-abbrev pub completion_number : Completion → ℕ
-completion_number C.Done = 0
-completion_number (C.Refused r) = refusal_number r
+abbrev pub completion_number : Result ⊤ Refusal → ℕ
+completion_number (Ok done) = 0
+completion_number (Err r) = refusal_number r
 
 -- 'Page, data and buffers are unchanged' with any refusal
 abbrev pub kept : {A : Type 0} → Option Refusal → A → A → A

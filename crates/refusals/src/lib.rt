@@ -27,37 +27,13 @@ pub enum Refusal {
 }
 
 // The answer of a call that is done or refused.
-#[derive(Drop)]
-#[derive(Clone, Copy)]
-pub enum Completion {
-    Done,
-    Refused(Refusal),
-}
-
-// How many datas a call writes: one, or a list of so many.
-#[derive(Drop)]
-#[derive(Clone, Copy)]
-pub enum Count {
-    One,
-    List(u32),
-}
-
-// The map that a call has: none, or one of so many bytes.
-#[derive(Drop)]
-#[derive(Clone, Copy)]
-pub enum Map {
-    Nothing,
-    Length(usize),
-}
+pub type Completion = Result<(), Refusal>;
 
 // Whether n is from 1 to 64.
 fn one_to_64(n: u32) -> bool
     ensures { result ≡ one_to_64 n }
 {
-    if n < 1 {
-        return false;
-    }
-    n <= 64
+    1 <= n && n <= 64
 }
 
 // Judges L and S, in this order.
@@ -65,22 +41,19 @@ pub fn judge_limits(bytes: u32, strips: u32) -> Completion
     ensures { result ≡ completion_of (limits_ground bytes strips) }
 {
     if !one_to_64(bytes) {
-        return Completion::Refused(Refusal::BytesOutside);
+        return Err(Refusal::BytesOutside);
     }
     if !one_to_64(strips) {
-        return Completion::Refused(Refusal::StripsOutside);
+        return Err(Refusal::StripsOutside);
     }
-    Completion::Done
+    Ok(())
 }
 
 // Whether n is the number of a code.
 fn is_code(n: u32) -> bool
     ensures { result ≡ is_code n }
 {
-    if n == 3 {
-        return true;
-    }
-    n == 7
+    n == 3 || n == 7
 }
 
 // Judges the code, then L and S.
@@ -88,7 +61,7 @@ pub fn judge_sizes(code: u32, bytes: u32, strips: u32) -> Completion
     ensures { result ≡ completion_of (sizes_ground code bytes strips) }
 {
     if !is_code(code) {
-        return Completion::Refused(Refusal::CodeUnknown);
+        return Err(Refusal::CodeUnknown);
     }
     judge_limits(bytes, strips)
 }
@@ -98,22 +71,17 @@ pub fn judge_band(band: u32) -> Completion
     ensures { result ≡ completion_of (band_ground band) }
 {
     if band > 8 {
-        return Completion::Refused(Refusal::BandOutside);
+        return Err(Refusal::BandOutside);
     }
-    Completion::Done
+    Ok(())
 }
 
 // Whether one of the weights is 0.
 fn free_step(weights: [u8; 3]) -> bool
     ensures { result ≡ free_step weights }
 {
-    if weights[0] == 0 {
-        return true;
-    }
-    if weights[1] == 0 {
-        return true;
-    }
-    weights[2] == 0
+    let [w1, w2, w3] = weights;
+    w1 == 0 || w2 == 0 || w3 == 0
 }
 
 // Judges the weights.
@@ -121,24 +89,21 @@ pub fn judge_weights(weights: [u8; 3]) -> Completion
     ensures { result ≡ completion_of (weights_ground weights) }
 {
     if free_step(weights) {
-        return Completion::Refused(Refusal::WeightZero);
+        return Err(Refusal::WeightZero);
     }
-    Completion::Done
+    Ok(())
 }
 
-// Judges the count of a list.
-pub fn judge_count(count: Count) -> Completion
+// Judges the count of a list; a single write has none.
+pub fn judge_count(count: Option<u32>) -> Completion
     ensures { result ≡ completion_of (count_ground (count_given count)) }
 {
-    match count {
-        Count::One => Completion::Done,
-        Count::List(n) => {
-            if !one_to_64(n) {
-                return Completion::Refused(Refusal::CountOutside);
-            }
-            Completion::Done
+    if let Some(n) = count {
+        if !one_to_64(n) {
+            return Err(Refusal::CountOutside);
         }
     }
+    Ok(())
 }
 
 // Judges the page's length, where L and S are within their limits.
@@ -147,47 +112,43 @@ pub fn judge_page(bytes: u32, strips: u32, page: usize) -> Completion
     ensures { result ≡ completion_of (page_ground one_bit bytes strips page) }
 {
     if page != codes::STRIP_BYTES * (bytes as usize) * (strips as usize) {
-        return Completion::Refused(Refusal::PageLength);
+        return Err(Refusal::PageLength);
     }
-    Completion::Done
+    Ok(())
 }
 
 // Judges the map's length, where there is a map.
-pub fn judge_map(bytes: u32, strips: u32, map: Map) -> Completion
+pub fn judge_map(bytes: u32, strips: u32, map: Option<usize>) -> Completion
     requires { limits_ground bytes strips ≡ none }
     ensures { result ≡ completion_of (map_ground one_bit bytes strips (map_given map)) }
 {
-    match map {
-        Map::Nothing => Completion::Done,
-        Map::Length(size) => {
-            if size != codes::MAP_BYTES * (bytes as usize) * (strips as usize) {
-                return Completion::Refused(Refusal::MapLength);
-            }
-            Completion::Done
+    if let Some(size) = map {
+        if size != codes::MAP_BYTES * (bytes as usize) * (strips as usize) {
+            return Err(Refusal::MapLength);
         }
     }
+    Ok(())
 }
 
 // Judges the length of the data, or of the buffer for it; of a list, that of all its datas.
-pub fn judge_data(bytes: u32, strips: u32, count: Count, data: usize) -> Completion
+pub fn judge_data(bytes: u32, strips: u32, count: Option<u32>, data: usize) -> Completion
     requires { limits_ground bytes strips ≡ none }
     ensures { result ≡ completion_of (datas_ground (count_given count) bytes strips «data») }
 {
     let one = (bytes as usize) * (strips as usize);
     match count {
-        Count::One => {
+        None => {
             if data != one {
-                return Completion::Refused(Refusal::DataLength);
+                return Err(Refusal::DataLength);
             }
-            Completion::Done
         }
-        Count::List(n) => {
+        Some(n) => {
             if data != (n as usize) * one {
-                return Completion::Refused(Refusal::DataLength);
+                return Err(Refusal::DataLength);
             }
-            Completion::Done
         }
     }
+    Ok(())
 }
 
 // Whether it is too cold for an erase, in tenths of a degree Celsius.
@@ -208,23 +169,10 @@ fn too_warm(tenths: i16) -> bool
 pub fn judge_tenths(tenths: i16) -> Completion
     ensures { result ≡ completion_of (erase_ground tenths) }
 {
-    if too_cold(tenths) {
-        return Completion::Refused(Refusal::EraseTemperature);
+    if too_cold(tenths) || too_warm(tenths) {
+        return Err(Refusal::EraseTemperature);
     }
-    if too_warm(tenths) {
-        return Completion::Refused(Refusal::EraseTemperature);
-    }
-    Completion::Done
-}
-
-// Of two that were judged, the first where it is refused, else the later one.
-pub fn earlier(first: Completion, later: Completion) -> Completion
-    ensures { (g h : Option Refusal) → first ≡ completion_of g → later ≡ completion_of h → result ≡ completion_of (first_of g h) }
-{
-    match first {
-        Completion::Done => later,
-        Completion::Refused(_) => first,
-    }
+    Ok(())
 }
 
 // The number of a refusal.
@@ -252,7 +200,7 @@ pub fn completion_number(completion: Completion) -> u32
     ensures { result ≡ completion_number completion }
 {
     match completion {
-        Completion::Done => 0,
-        Completion::Refused(refusal) => refusal_number(refusal),
+        Ok(()) => 0,
+        Err(refusal) => refusal_number(refusal),
     }
 }

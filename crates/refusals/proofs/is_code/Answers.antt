@@ -1,12 +1,12 @@
--- The two numbers, one after the other.
-use borrow.Author.Tests.{eq-eqb, ne_eqb}
+-- The two tests are those of the definition.
+use borrow.Author.Tests.{ne_eqb}
 use Rattle.refusals.specs.Refusals.{is_code}
 use Rattle.refusals.proofs.is_code.Goals as goal
 
 pub returns-then-n-eq3 : goal.returns-then-n-eq3
 unfolding is_code
-returns-then-n-eq3 c = simp (eq-eqb _ 3 c.if-n-eq3.true)
+returns-then-n-eq3 c = rw c.if-n-eq3.true
 
-pub returns : goal.returns
+pub returns-else-n-eq3 : goal.returns-else-n-eq3
 unfolding is_code
-returns c = simp (ne_eqb _ 3 c.if-n-eq3.false)
+returns-else-n-eq3 c = simp (ne_eqb c.args.n 3 c.if-n-eq3.false)
