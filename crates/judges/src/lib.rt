@@ -9,18 +9,15 @@ ghost use Rattle.refusals.specs.Refusals.{value_ground, erasing_ground, numbered
 
 use codes::Code;
 use refusals::{
-    Completion, Count, Map, earlier, judge_band, judge_count, judge_data, judge_limits, judge_map,
-    judge_page, judge_sizes, judge_tenths, judge_weights,
+    Completion, judge_band, judge_count, judge_data, judge_limits, judge_map, judge_page,
+    judge_sizes, judge_tenths, judge_weights,
 };
 
 // Judges L, S and the page's length, in this order.
 pub fn judge_shape(bytes: u32, strips: u32, page: usize) -> Completion
     ensures { result ≡ completion_of (shape_ground bytes strips page) }
 {
-    let judged = judge_limits(bytes, strips);
-    let Completion::Done = judged else {
-        return judged;
-    };
+    judge_limits(bytes, strips)?;
     judge_page(bytes, strips, page)
 }
 
@@ -28,29 +25,25 @@ pub fn judge_shape(bytes: u32, strips: u32, page: usize) -> Completion
 fn judge_lengths(
     bytes: u32,
     strips: u32,
-    count: Count,
+    count: Option<u32>,
     page: usize,
-    map: Map,
+    map: Option<usize>,
     data: usize,
 ) -> Completion
     requires { limits_ground bytes strips ≡ none }
     ensures { result ≡ completion_of (lengths_ground (count_given count) (map_given map) bytes strips page «data») }
 {
-    let of_page = judge_page(bytes, strips, page);
-    let of_map = judge_map(bytes, strips, map);
-    let of_data = judge_data(bytes, strips, count, data);
-    earlier(of_page, earlier(of_map, of_data))
+    judge_page(bytes, strips, page)?;
+    judge_map(bytes, strips, map)?;
+    judge_data(bytes, strips, count, data)
 }
 
 // Judges what a read is given: the code, L and S, then both lengths.
 pub fn judge_read(code: u32, bytes: u32, strips: u32, page: usize, data: usize) -> Completion
     ensures { result ≡ completion_of (ground code bytes strips page «data») }
 {
-    let sizes = judge_sizes(code, bytes, strips);
-    let Completion::Done = sizes else {
-        return sizes;
-    };
-    judge_lengths(bytes, strips, Count::One, page, Map::Nothing, data)
+    judge_sizes(code, bytes, strips)?;
+    judge_lengths(bytes, strips, None, page, None, data)
 }
 
 // Judges what a price, a write or a list of writes is given, with a map or without one: the code, L and S, then the weights, the count and
@@ -60,31 +53,26 @@ pub fn judge_write(
     bytes: u32,
     strips: u32,
     weights: [u8; 3],
-    count: Count,
+    count: Option<u32>,
     page: usize,
-    map: Map,
+    map: Option<usize>,
     data: usize,
 ) -> Completion
     ensures { result ≡ completion_of (list_ground (count_given count) (map_given map) weights code bytes strips page «data») }
 {
-    let sizes = judge_sizes(code, bytes, strips);
-    let Completion::Done = sizes else {
-        return sizes;
-    };
-    let steps = judge_weights(weights);
-    let counted = judge_count(count);
-    let lengths = judge_lengths(bytes, strips, count, page, map, data);
-    earlier(steps, earlier(counted, lengths))
+    judge_sizes(code, bytes, strips)?;
+    judge_weights(weights)?;
+    judge_count(count)?;
+    judge_lengths(bytes, strips, count, page, map, data)
 }
 
 // Judges what a write in a band is given: the code, the band, then the page's length. L and S are 2 and 1, within their limits.
 pub fn judge_value(code: u32, band: u32, page: usize) -> Completion
     ensures { result ≡ completion_of (value_ground code band page) }
 {
-    let of_code = judge_sizes(code, 2, 1);
-    let of_band = judge_band(band);
-    let of_page = judge_page(2, 1, page);
-    earlier(of_code, earlier(of_band, of_page))
+    judge_sizes(code, 2, 1)?;
+    judge_band(band)?;
+    judge_page(2, 1, page)
 }
 
 // The code of a number that is 3 or 7.
@@ -99,14 +87,16 @@ pub fn code_of(code: u32) -> Code
 }
 
 // Judges what an erase is given, with a map or without one: the shape, the map's length, then the temperature.
-pub fn judge_erase(bytes: u32, strips: u32, page: usize, map: Map, tenths: i16) -> Completion
+pub fn judge_erase(
+    bytes: u32,
+    strips: u32,
+    page: usize,
+    map: Option<usize>,
+    tenths: i16,
+) -> Completion
     ensures { result ≡ completion_of (erasing_ground (map_given map) bytes strips page tenths) }
 {
-    let judged = judge_shape(bytes, strips, page);
-    let Completion::Done = judged else {
-        return judged;
-    };
-    let of_map = judge_map(bytes, strips, map);
-    let of_tenths = judge_tenths(tenths);
-    earlier(of_map, of_tenths)
+    judge_shape(bytes, strips, page)?;
+    judge_map(bytes, strips, map)?;
+    judge_tenths(tenths)
 }

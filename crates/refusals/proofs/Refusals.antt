@@ -19,10 +19,10 @@
 --   same-ground, same-erasing              a map that has no ground refuses nothing more
 --   sizes-number                           the code, L and S are refused by 1 to 3
 --   done_none, refused-some                an answer tells its ground
---   refused-first, done_next               grounds tested one after the other
+--   refused-first, handed-on, done_next    grounds tested one after the other
 --   numbered-code                          the code of a number
 --   product-most                           L·S is at most 4,096
-use mathlib.Core.Path.{◌≡◌, refl, sym, ◌∙◌}
+use mathlib.Core.Path.{◌≡◌, refl, sym, ◌∙◌, ap}
 use mathlib.Core.Bool.{Bool, true, false, cond, ◌&&◌, ◌||◌}
 use mathlib.Core.List.{List}
 use mathlib.Core.Option.{Option, none, some}
@@ -46,7 +46,7 @@ use Rattle.refusals.specs.Refusals.{page_bytes, block_size, pages_ground, block_
 use Rattle.refusals.specs.Refusals.{numbered}
 use Rattle.refusals.specs.declared.Refusal.{Refusal}
 use Rattle.refusals.specs.declared.Refusal.TheVariants.{CodeUnknown, BytesOutside, StripsOutside, WeightZero}
-use Rattle.std.specs.Prelude.{Result, Ok, Err, ⊤}
+use Rattle.std.specs.Prelude.{Result, Ok, Err, ⊤, IsErrAnd}
 
 -- THE LIMITS. What a number from 1 to 64 is
 pub one-to-64 : (n : ℕ) → one_to_64 n ≡ true → (1 ≤ n) × (n ≤ 64)
@@ -405,6 +405,12 @@ pub refused-first : (g h : Option Refusal) (c : Result ⊤ Refusal) {r : Refusal
     → c ≡ completion_of (first_of g h)
 refused-first none h c e f = let z : ◌≡◌ {A = ℕ} 0 1 = cc in absurd (omega arith)
 refused-first (some s) h c e f = e
+
+-- and it is handed on as it is: what a `?` answers is the refusal of what was judged, whatever is tested after that
+pub handed-on : (g h : Option Refusal) (c d : Result ⊤ Refusal) {r : Refusal} → c ≡ completion_of g → c ≡ Err r → IsErrAnd d (λ e. e ≡ r)
+    → d ≡ completion_of (first_of g h)
+handed-on g h c (Ok done) e f k = absurd k
+handed-on g h c (Err s) e f k = refused-first g h (Err s) (ap Err k ∙ sym f ∙ e) (ap Err k)
 
 -- where the first ground does not apply, what is tested after it decides
 pub done_next : (g h : Option Refusal) {c d : Result ⊤ Refusal} → c ≡ completion_of g → c ≡ Ok tt → d ≡ completion_of h

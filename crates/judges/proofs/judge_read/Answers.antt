@@ -2,21 +2,21 @@
 use mathlib.Core.Path.{sym, ◌∙◌}
 use mathlib.Core.Option.{none}
 use Rattle.refusals.specs.Refusals.{ground, sizes_ground, lengths_ground}
-use Rattle.refusals.proofs.Refusals.{done_none, done_next, refused-first, sizes-limits}
+use Rattle.refusals.proofs.Refusals.{done_none, done_next, handed-on, sizes-limits}
 use Rattle.judges.proofs.judge_read.Goals as goal
 
-pub returns-in_default : goal.returns-in_default
+pub returns-in_err-judge_sizes : goal.returns-in_err-judge_sizes
 unfolding ground
-returns-in_default c =
-    refused-first (sizes_ground c.args.code c.args.bytes c.args.strips) (lengths_ground none none c.args.bytes c.args.strips c.args.page c.args.data)
-    c.judge_sizes-sizes.result c.judge_sizes-sizes.ensures c.in_default.is
+returns-in_err-judge_sizes c =
+    handed-on (sizes_ground c.args.code c.args.bytes c.args.strips) (lengths_ground none none c.args.bytes c.args.strips c.args.page c.args.data)
+    c.judge_sizes.result _ c.judge_sizes.ensures c.in_err-judge_sizes.was c.from_residual.ensures.1
 
 pub judge_lengths-requires : goal.judge_lengths-requires
 judge_lengths-requires c =
-    sizes-limits c.args.code c.args.bytes c.args.strips (done_none _ (sym c.judge_sizes-sizes.ensures ∙ c.in-Done.is))
+    sizes-limits c.args.code c.args.bytes c.args.strips (done_none _ (sym c.judge_sizes.ensures ∙ c.in_ok-judge_sizes.was))
 
 pub returns : goal.returns
 unfolding ground
 returns c =
     done_next (sizes_ground c.args.code c.args.bytes c.args.strips) (lengths_ground none none c.args.bytes c.args.strips c.args.page c.args.data)
-    c.judge_sizes-sizes.ensures c.in-Done.is c.judge_lengths.ensures
+    c.judge_sizes.ensures c.in_ok-judge_sizes.was c.judge_lengths.ensures

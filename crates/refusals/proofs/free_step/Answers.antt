@@ -10,12 +10,12 @@ pub returns-then-w2-eq0 : goal.returns-then-w2-eq0
 unfolding free_step weight_of
 returns-then-w2-eq0 c =
     elim c.if-w1-eq0.branch [
-      then-w1-eq0 w ↦ rw (w.t-13-is, eq-eqb _ 0 w.if-w1-eq0.true)
-    | else-w1-eq0 w ↦
-        elim c.if-w2-eq0.either [
-          inl e ↦ absurd (w.if-w1-eq0.false e)
-        | inr p ↦ simp (w.t-13-is, ne_eqb _ 0 w.if-w1-eq0.false, eq-eqb _ 0 p.1)
-        ]
+      | then-w1-eq0 w ↦ rw (w.t-13-is, eq-eqb _ 0 w.if-w1-eq0.true)
+      | else-w1-eq0 w ↦
+          elim c.if-w2-eq0.either [
+            | inl e ↦ absurd (w.if-w1-eq0.false e)
+            | inr p ↦ simp (w.t-13-is, ne_eqb _ 0 w.if-w1-eq0.false, eq-eqb _ 0 p.1)
+          ]
     ]
 
 pub returns-else-w2-eq0 : goal.returns-else-w2-eq0

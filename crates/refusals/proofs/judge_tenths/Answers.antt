@@ -11,9 +11,9 @@ unfolding erase_ground
 returns-then-too_cold c =
     let cold = rw (to_z-of_z w16 c.args.tenths c.ranges.tenths) at c.too_cold.ensures in
     elim c.then-too_cold.branch [
-      then-too_cold-via-then-too_cold w ↦ simp (sym cold ∙ w.if-too_cold.true)
-    | then-too_cold-via-else-too_cold+then-too_warm w ↦
-        simp (sym cold ∙ w.if-too_cold.false, sym (rw (to_z-of_z w16 c.args.tenths c.ranges.tenths) at w.too_warm.ensures) ∙ w.if-too_warm.true)
+      | then-too_cold-via-then-too_cold w ↦ simp (sym cold ∙ w.if-too_cold.true)
+      | then-too_cold-via-else-too_cold+then-too_warm w ↦
+          simp (sym cold ∙ w.if-too_cold.false, sym (rw (to_z-of_z w16 c.args.tenths c.ranges.tenths) at w.too_warm.ensures) ∙ w.if-too_warm.true)
     ]
 
 pub returns : goal.returns
