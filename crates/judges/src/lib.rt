@@ -35,7 +35,8 @@ fn judge_lengths(
 {
     judge_page(bytes, strips, page)?;
     judge_map(bytes, strips, map)?;
-    judge_data(bytes, strips, count, data)
+    judge_data(bytes, strips, count, data)?;
+    Ok(())
 }
 
 // Judges what a read is given: the code, L and S, then both lengths.
@@ -63,7 +64,8 @@ pub fn judge_write(
     judge_sizes(code, bytes, strips)?;
     judge_weights(weights)?;
     judge_count(count)?;
-    judge_lengths(bytes, strips, count, page, map, data)
+    judge_lengths(bytes, strips, count, page, map, data)?;
+    Ok(())
 }
 
 // Judges what a write in a band is given: the code, the band, then the page's length. L and S are 2 and 1, within their limits.
@@ -72,7 +74,8 @@ pub fn judge_value(code: u32, band: u32, page: usize) -> Completion
 {
     judge_sizes(code, 2, 1)?;
     judge_band(band)?;
-    judge_page(2, 1, page)
+    judge_page(2, 1, page)?;
+    Ok(())
 }
 
 // The code of a number that is 3 or 7.
@@ -98,5 +101,6 @@ pub fn judge_erase(
 {
     judge_shape(bytes, strips, page)?;
     judge_map(bytes, strips, map)?;
-    judge_tenths(tenths)
+    judge_tenths(tenths)?;
+    Ok(())
 }

@@ -18,4 +18,4 @@ pub returns : goal.returns
 unfolding shape_ground
 returns c =
     done_next (limits_ground c.args.bytes c.args.strips) (page_ground one_bit c.args.bytes c.args.strips c.args.page) c.judge_limits.ensures
-    (c.in_ok-judge_limits.was) c.judge_page.ensures
+    c.in_ok-judge_limits.was c.judge_page.ensures
