@@ -51,6 +51,22 @@ def within(whole, head):
             parts += part
 
 
+def filled(kind, given):
+    """A type with these in place of its parameters."""
+    match kind:
+        case ["tyParam", n]:
+            return given[int(n)]
+        case ["tyArray", element, length]:
+            return ["tyArray", filled(element, given), length]
+        case ["tyRef", lifetime, how, element]:
+            return ["tyRef", lifetime, how, filled(element, given)]
+        case ["tyStruct", name, fields]:
+            return ["tyStruct", name, [filled(field, given) for field in fields]]
+        case ["tyNamed", name, *own]:
+            return ["tyNamed", name, *(filled(one, given) for one in own)]
+    return kind
+
+
 class Types:
     """The types of the program, those with a name among them."""
 
@@ -66,8 +82,8 @@ class Types:
                 return [element]
             case ["tyStruct", _, fields]:
                 return fields
-            case ["tyNamed", name]:
-                return self.named[name]
+            case ["tyNamed", name, *given]:
+                return [filled(part, given) for part in self.named[name]]
         sys.exit(f"mir: the type {kind} is not understood")
 
     def held(self, kind):
@@ -101,6 +117,10 @@ def text(kind):
             return f"u{bits}"
         case ["tyNamed", name]:
             return name
+        case ["tyNamed", name, *given]:
+            return f"{name}<{', '.join(map(text, given))}>"
+        case "tyUnit":
+            return "()"
     return str(kind)
 
 
@@ -152,8 +172,8 @@ class Kept:
                 return ["tyArray", self.kind(element), ["lit", str(length)]]
             case {"Struct": [name, fields]}:
                 return ["tyStruct", name, [self.kind(field) for field in fields]]
-            case {"Named": [{"name": name}, []]}:
-                return ["tyNamed", name]
+            case {"Named": [{"name": name}, given]}:
+                return ["tyNamed", name, *map(self.kind, given)]
         sys.exit(f"mir: the type {said} is not understood")
 
     def named(self, said):
@@ -262,8 +282,8 @@ class Written:
                 return ["tyArray", self.kind(element), ["lit", length]]
             case ["ty_struct", name, fields]:
                 return ["tyStruct", self.name(name), [self.kind(field) for field in self.members(fields)]]
-            case ["ty_named", ["pair", name, _], "tnil"]:
-                return ["tyNamed", self.name(name)]
+            case ["ty_named", ["pair", name, _], given]:
+                return ["tyNamed", self.name(name), *map(self.kind, self.members(given))]
         sys.exit(f"mir: the type {said} is not understood")
 
     def named(self, said):

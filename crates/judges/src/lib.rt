@@ -33,10 +33,10 @@ fn judge_lengths(
     requires { limits_ground bytes strips ≡ none }
     ensures { result ≡ completion_of (lengths_ground (count_given count) (map_given map) bytes strips page «data») }
 {
-    judge_page(bytes, strips, page)?;
-    judge_map(bytes, strips, map)?;
-    judge_data(bytes, strips, count, data)?;
-    Ok(())
+    let of_page = judge_page(bytes, strips, page);
+    let of_map = judge_map(bytes, strips, map);
+    let of_data = judge_data(bytes, strips, count, data);
+    of_page.and(of_map.and(of_data))
 }
 
 // Judges what a read is given: the code, L and S, then both lengths.
@@ -62,20 +62,20 @@ pub fn judge_write(
     ensures { result ≡ completion_of (list_ground (count_given count) (map_given map) weights code bytes strips page «data») }
 {
     judge_sizes(code, bytes, strips)?;
-    judge_weights(weights)?;
-    judge_count(count)?;
-    judge_lengths(bytes, strips, count, page, map, data)?;
-    Ok(())
+    let steps = judge_weights(weights);
+    let counted = judge_count(count);
+    let lengths = judge_lengths(bytes, strips, count, page, map, data);
+    steps.and(counted.and(lengths))
 }
 
 // Judges what a write in a band is given: the code, the band, then the page's length. L and S are 2 and 1, within their limits.
 pub fn judge_value(code: u32, band: u32, page: usize) -> Completion
     ensures { result ≡ completion_of (value_ground code band page) }
 {
-    judge_sizes(code, 2, 1)?;
-    judge_band(band)?;
-    judge_page(2, 1, page)?;
-    Ok(())
+    let of_code = judge_sizes(code, 2, 1);
+    let of_band = judge_band(band);
+    let of_page = judge_page(2, 1, page);
+    of_code.and(of_band.and(of_page))
 }
 
 // The code of a number that is 3 or 7.
@@ -100,7 +100,7 @@ pub fn judge_erase(
     ensures { result ≡ completion_of (erasing_ground (map_given map) bytes strips page tenths) }
 {
     judge_shape(bytes, strips, page)?;
-    judge_map(bytes, strips, map)?;
-    judge_tenths(tenths)?;
-    Ok(())
+    let of_map = judge_map(bytes, strips, map);
+    let of_tenths = judge_tenths(tenths);
+    of_map.and(of_tenths)
 }

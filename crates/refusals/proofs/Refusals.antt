@@ -20,7 +20,7 @@
 --   sizes-number                           the code, L and S are refused by 1 to 3
 --   done_none, refused-some                an answer tells its ground
 --   refused-first, done_next               grounds tested one after the other
---   handed, handed-on                      what a `?` answers of them
+--   handed-on, judged-and                  what a `?` answers of them, and the `and` of two
 --   numbered-code                          the code of a number
 --   product-most                           L·S is at most 4,096
 use mathlib.Core.Path.{◌≡◌, refl, sym, ◌∙◌, ap}
@@ -48,6 +48,7 @@ use Rattle.refusals.specs.Refusals.{numbered}
 use Rattle.refusals.specs.declared.Refusal.{Refusal}
 use Rattle.refusals.specs.declared.Refusal.TheVariants.{CodeUnknown, BytesOutside, StripsOutside, WeightZero}
 use Rattle.std.specs.Prelude.{Result, Ok, Err, ⊤, IsErrAnd}
+use Rattle.std.specs.Result.{result_and}
 
 -- THE LIMITS. What a number from 1 to 64 is
 pub one-to-64 : (n : ℕ) → one_to_64 n ≡ true → (1 ≤ n) × (n ≤ 64)
@@ -407,13 +408,7 @@ pub refused-first : (g h : Option Refusal) (c : Result ⊤ Refusal) {r : Refusal
 refused-first none h c e f = let z : ◌≡◌ {A = ℕ} 0 1 = cc in absurd (omega arith)
 refused-first (some s) h c e f = e
 
--- what a `?` answers is the refusal of what was judged
-pub handed : (g : Option Refusal) (c d : Result ⊤ Refusal) {r : Refusal} → c ≡ completion_of g → c ≡ Err r → IsErrAnd d (λ e. e ≡ r)
-    → d ≡ completion_of g
-handed g c (Ok done) e f k = absurd k
-handed g c (Err s) e f k = ap Err k ∙ sym f ∙ e
-
--- whatever is tested after it
+-- it is what a `?` answers, whatever is tested after it
 pub handed-on : (g h : Option Refusal) (c d : Result ⊤ Refusal) {r : Refusal} → c ≡ completion_of g → c ≡ Err r → IsErrAnd d (λ e. e ≡ r)
     → d ≡ completion_of (first_of g h)
 handed-on g h c (Ok done) e f k = absurd k
@@ -423,6 +418,12 @@ handed-on g h c (Err s) e f k = refused-first g h (Err s) (ap Err k ∙ sym f �
 pub done_next : (g h : Option Refusal) {c d : Result ⊤ Refusal} → c ≡ completion_of g → c ≡ Ok tt → d ≡ completion_of h
     → d ≡ completion_of (first_of g h)
 done_next g h e f k = rw (done_none g (sym e ∙ f)) k
+
+-- of two that were judged, the first where it is refused, else the later one
+pub judged-and : (g h : Option Refusal) {c d : Result ⊤ Refusal} → c ≡ completion_of g → d ≡ completion_of h
+    → result_and c d ≡ completion_of (first_of g h)
+judged-and none h e f = rw e f
+judged-and (some r) h e f = rw e refl
 
 -- THE CODE of a number: its generators are those of a code
 pub numbered-code : (code : ℕ) → Coded (numbered code)
