@@ -15,22 +15,22 @@ told bytes cell i h e = triple-bit bytes cell i h ∙ sym e
 
 pub returns-then-bit-eq0 : goal.returns-then-bit-eq0
 returns-then-bit-eq0 c =
-    let first : get_or ((triple c.args.bytes.now c.args.cell)) (c.args.start % 3) 0 ≡ c.bit.result = let m : c.args.start % 3 ≡ c.args.start = omega arith in
+    let first : get_or (triple c.args.bytes.now c.args.cell) (c.args.start % 3) 0 ≡ c.bit.result = let m : c.args.start % 3 ≡ c.args.start = omega arith in
     rw m (told c.args.bytes.now c.args.cell c.args.start (omega arith) c.bit.ensures) in
-    omega (arith, zero_from-first c.args.start ((triple c.args.bytes.now c.args.cell)) (first ∙ c.if-bit-eq0.true))
+    omega (arith, zero_from-first c.args.start (triple c.args.bytes.now c.args.cell) (first ∙ c.if-bit-eq0.true))
 
 pub returns-then-bit-eq0-2 : goal.returns-then-bit-eq0-2
 returns-then-bit-eq0-2 c =
-    let first : get_or ((triple c.args.bytes.now c.args.cell)) (c.args.start % 3) 0 ≡ c.bit.result = let m : c.args.start % 3 ≡ c.args.start = omega arith in
+    let first : get_or (triple c.args.bytes.now c.args.cell) (c.args.start % 3) 0 ≡ c.bit.result = let m : c.args.start % 3 ≡ c.args.start = omega arith in
     rw m (told c.args.bytes.now c.args.cell c.args.start (omega arith) c.bit.ensures) in
-    let not_first : get_or ((triple c.args.bytes.now c.args.cell)) (c.args.start % 3) 0 ≡ 0 → ⊥ = λ e. c.if-bit-eq0.false (sym first ∙ e) in
-    let second = told c.args.bytes.now c.args.cell ((c.args.start + 1) % 3) (omega arith) c.bit-2.ensures in
-    omega (arith, zero_from-second c.args.start ((triple c.args.bytes.now c.args.cell)) not_first (second ∙ c.if-bit-eq0-2.true))
+    let not_first : get_or (triple c.args.bytes.now c.args.cell) (c.args.start % 3) 0 ≡ 0 → ⊥ = λ e. c.if-bit-eq0.false (sym first ∙ e) in
+    let second = told c.args.bytes.now c.args.cell ((c.args.start + 1) % 3) (omega arith) c.bit-else-bit-eq0.ensures in
+    omega (arith, zero_from-second c.args.start (triple c.args.bytes.now c.args.cell) not_first (second ∙ c.if-bit-eq0-2.true))
 
-pub returns : goal.returns
-returns c =
-    let first : get_or ((triple c.args.bytes.now c.args.cell)) (c.args.start % 3) 0 ≡ c.bit.result = let m : c.args.start % 3 ≡ c.args.start = omega arith in
+pub returns-else-bit-eq0-2 : goal.returns-else-bit-eq0-2
+returns-else-bit-eq0-2 c =
+    let first : get_or (triple c.args.bytes.now c.args.cell) (c.args.start % 3) 0 ≡ c.bit.result = let m : c.args.start % 3 ≡ c.args.start = omega arith in
     rw m (told c.args.bytes.now c.args.cell c.args.start (omega arith) c.bit.ensures) in
-    let not_first : get_or ((triple c.args.bytes.now c.args.cell)) (c.args.start % 3) 0 ≡ 0 → ⊥ = λ e. c.if-bit-eq0.false (sym first ∙ e) in
-    let second = told c.args.bytes.now c.args.cell ((c.args.start + 1) % 3) (omega arith) c.bit-2.ensures in
-    omega (arith, zero_from-third c.args.start ((triple c.args.bytes.now c.args.cell)) not_first (λ e. c.if-bit-eq0-2.false (sym second ∙ e)))
+    let not_first : get_or (triple c.args.bytes.now c.args.cell) (c.args.start % 3) 0 ≡ 0 → ⊥ = λ e. c.if-bit-eq0.false (sym first ∙ e) in
+    let second = told c.args.bytes.now c.args.cell ((c.args.start + 1) % 3) (omega arith) c.bit-else-bit-eq0.ensures in
+    omega (arith, zero_from-third c.args.start (triple c.args.bytes.now c.args.cell) not_first (λ e. c.if-bit-eq0-2.false (sym second ∙ e)))
