@@ -13,7 +13,7 @@ ghost use Rattle.cells.specs.Climbs.{house, weight_of, climb};
 // The cost of the step from level 0 to 1, from 1 to 2 and from 2 to 3.
 const HOUSE_WEIGHTS: [u8; 3] = [16, 20, 28];
 
-// Byte i, and 0 past the end.
+// Byte i, and 0 past the end. By a test of the length: `get`, `copied` and `unwrap_or` in a row are no plainer, and prices come here too.
 pub fn byte(bytes: &[u8], i: usize) -> u32
     ensures { (result ≡ get_or bytes.now i 0) × (result < 256) }
 {
@@ -107,7 +107,7 @@ pub fn climb(weights: [u8; 3], from: u8, to: u8) -> u32
     sum
 }
 
-// The weights of this house.
+// The weights of this house. A function, since no clause can name a constant that is an array.
 pub fn house_weights() -> [u8; 3]
     ensures { result ≡ house }
 {
