@@ -13,7 +13,7 @@ ghost use Rattle.cells.specs.Climbs.{house, weight_of, climb};
 // The cost of the step from level 0 to 1, from 1 to 2 and from 2 to 3.
 const HOUSE_WEIGHTS: [u8; 3] = [16, 20, 28];
 
-// Byte i, and 0 past the end.
+// Byte i, and 0 past the end. By a test of the length: `get`, `copied` and `unwrap_or` in a row are no plainer, and prices come here too.
 pub fn byte(bytes: &[u8], i: usize) -> u32
     ensures { (result ≡ get_or bytes.now i 0) × (result < 256) }
 {
@@ -35,18 +35,16 @@ pub fn level(bytes: &[u8], cell: u32) -> u8
     let k = 3 * (cell as usize);
     let i = k / 8;
     let x = byte(bytes, i) + byte(bytes, i + 1) * 256;
-    u32::count_ones((x >> (k % 8)) & 7) as u8
+    ((x >> (k % 8)) & 7).count_ones() as u8
 }
 
 // The sum of the levels of the first cells: the raises that were made since all were at level 0.
 pub fn raises(bytes: &[u8], cells: u32) -> u64
     ensures { result ≡ raises_of cells bytes.now }
 {
-    let mut sum: u64 = 0;
-    let mut c: u32 = 0;
-    while c < cells {
+    let mut sum = 0;
+    for c in 0..cells {
         sum += level(bytes, c) as u64;
-        c += 1;
     }
     sum
 }
@@ -56,8 +54,7 @@ fn set_bit(bytes: &mut [u8], k: usize)
     requires { Unset bytes.old k }
     ensures { bytes.new ≡ with_bit bytes.old k }
 {
-    let i = k / 8;
-    bytes[i] = bytes[i] + (1u8 << (k % 8));
+    bytes[k / 8] += 1 << (k % 8);
 }
 
 // The first of a cell's three bits that is 0, from the bit `start` on and going round the three, by its number in the slice.
@@ -67,14 +64,14 @@ fn zero_from(bytes: &[u8], cell: u32, start: u32) -> usize
 {
     let k = 3 * (cell as usize);
     let first = start as usize;
-    if bit(bytes, k + first) == 0 {
-        return k + first;
-    }
     let second = (first + 1) % 3;
-    if bit(bytes, k + second) == 0 {
-        return k + second;
+    if bit(bytes, k + first) == 0 {
+        k + first
+    } else if bit(bytes, k + second) == 0 {
+        k + second
+    } else {
+        k + (first + 2) % 3
     }
-    k + (first + 2) % 3
 }
 
 // Raises a cell of a strip by one: of its three bits the first zero from bit `cell` mod 3 on, going round, becomes one. A cell at level 3,
@@ -84,10 +81,7 @@ pub fn raise(bytes: &mut [u8], cell: u32) -> bool
     ensures bytes_after { bytes.new ≡ cond result (raised_cell start_of bytes.old cell) bytes.old }
 {
     let k = 3 * (cell as usize);
-    if bytes.len() <= (k + 2) / 8 {
-        return false;
-    }
-    if level(bytes, cell) == 3 {
+    if bytes.len() <= (k + 2) / 8 || level(bytes, cell) == 3 {
         return false;
     }
     let z = zero_from(bytes, cell, cell % 3);
@@ -99,24 +93,21 @@ pub fn raise(bytes: &mut [u8], cell: u32) -> bool
 pub fn weight(weights: [u8; 3], from: u8) -> u32
     ensures { (result ≡ weight_of weights from) × (result < 256) }
 {
-    let i = from as usize;
-    if i < 3 { weights[i] as u32 } else { 0 }
+    byte(&weights, from as usize)
 }
 
 // The cost of a climb: the sum of its steps.
 pub fn climb(weights: [u8; 3], from: u8, to: u8) -> u32
     ensures { result ≡ climb (weight_of weights) from to }
 {
-    let mut sum: u32 = 0;
-    let mut l = from;
-    while l < to {
+    let mut sum = 0;
+    for l in from..to {
         sum += weight(weights, l);
-        l += 1;
     }
     sum
 }
 
-// The weights of this house.
+// The weights of this house. A function, since no clause can name a constant that is an array.
 pub fn house_weights() -> [u8; 3]
     ensures { result ≡ house }
 {

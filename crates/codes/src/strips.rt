@@ -11,16 +11,14 @@ use crate::parities::parity;
 use crate::{Code, MAP_BYTES, STRIP_BYTES, STRIP_CELLS};
 
 // What a reading carries from one byte of data to the next: the last bits of the first cells and of the second, the newest worth 1.
-#[derive(Drop)]
-#[derive(Clone, Copy)]
+#[derive(Clone, Copy, Drop)]
 struct Windows {
     first: u32,
     second: u32,
 }
 
 // A byte of data, and the windows after it.
-#[derive(Drop)]
-#[derive(Clone, Copy)]
+#[derive(Clone, Copy, Drop)]
 struct ByteRead {
     byte: u8,
     windows: Windows,
@@ -34,15 +32,13 @@ fn read_byte(g1: u32, g2: u32, strip: &[u8], q: usize, windows: Windows) -> Byte
 {
     let mut a = windows.first;
     let mut b = windows.second;
-    let mut byte: u32 = 0;
-    let mut i: u32 = 0;
-    while i < 8 {
+    let mut byte = 0;
+    for i in 0..8 {
         let cell = 16 * (q as u32) + 2 * i;
         a = (2 * a + cells::level(strip, cell) as u32 % 2) % (2 << Code::MAX_MEMORY);
         b = (2 * b + cells::level(strip, cell + 1) as u32 % 2) % (2 << Code::MAX_MEMORY);
         let d = (parity(g2, a) + parity(g1, b)) % 2;
         byte += d << i;
-        i += 1;
     }
     ByteRead {
         byte: byte as u8,
@@ -67,12 +63,10 @@ impl Code {
             first: 0,
             second: 0,
         };
-        let mut q: usize = 0;
-        while q < data.len() {
+        for (q, byte) in data.iter_mut().enumerate() {
             let r = read_byte(g1, g2, strip, q, windows);
-            data[q] = r.byte;
+            *byte = r.byte;
             windows = r.windows;
-            q += 1;
         }
     }
 }

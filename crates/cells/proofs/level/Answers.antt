@@ -1,17 +1,11 @@
 -- The two bytes, the second shifted past the first, hold the three bits in a row, and the mask leaves these three.
 use Prim.Native.Nat.{◌+◌, ◌*◌, ◌/◌, ◌%◌, ◌^◌}
-use native.Mathlib.Omega.{arith}
 use native.Mathlib.Nat.{mod-lt, zero-lt-suc}
 use lib.Bits.{and_mask}
 use lib.Count.{ones-le}
 use Rattle.cells.specs.Levels.{level}
 use Rattle.cells.proofs.Levels.{three-bits}
 use Rattle.cells.proofs.level.Goals as goal
-
-pub overflow_cast-result-2 : goal.overflow_cast-result-2
-overflow_cast-result-2 c =
-    let t = (c.byte.result + c.byte-2.result * 256) / 2 ^ (3 * c.args.cell % 8) in
-    rw (and_mask t 3) (omega (arith, ones-le 3 (t % 8) (mod-lt t (zero-lt-suc 7))))
 
 pub returns : goal.returns
 unfolding level

@@ -1,6 +1,6 @@
--- Each refusal is one half of `can_rise` that fails. Otherwise both hold, so the first zero is there, and to set it is to raise the cell.
+-- Where it refuses, one half of `can_rise` fails. Otherwise both hold, so the first zero is there, and to set it is to raise the cell.
 -- The number that the code passes is `start_of cell`.
-use mathlib.Core.Path.{refl, sym, ◌∙◌, ap}
+use mathlib.Core.Path.{sym, ◌∙◌, ap}
 use Prim.Native.Nat.{◌<◌, ◌+◌, ◌*◌}
 use native.Mathlib.Omega.{arith}
 use lib.ListN.{length}
@@ -8,21 +8,15 @@ use Rattle.cells.specs.Bytes.{Octets, with_bit}
 use Rattle.cells.specs.Levels.{level}
 use Rattle.cells.specs.Raising.{start_of}
 use Rattle.cells.proofs.Raising.{can_rise-yes, can_rise-outside, can_rise-full, zero_from-unset, with_bit-raises}
+use Rattle.cells.proofs.raise.Goals.{then-bytes-k-via-then-bytes-k, then-bytes-k-via-else-bytes-k+then-level-eq3}
 use Rattle.cells.proofs.raise.Goals as goal
 
-pub returns-then-bytes-k : goal.returns-then-bytes-k
-returns-then-bytes-k c =
-    record {
-      value = sym (can_rise-outside _ _ (omega arith));
-      bytes_after = refl;
-    }
-
-pub returns-then-level-eq3 : goal.returns-then-level-eq3
-returns-then-level-eq3 c =
-    record {
-      value = sym (can_rise-full _ _ (sym c.level.ensures.0 ∙ c.if-level-eq3.true));
-      bytes_after = refl;
-    }
+pub returns-then-bytes-k-clause-value : goal.returns-then-bytes-k-clause-value
+returns-then-bytes-k-clause-value c =
+    elim c.then-bytes-k.branch [
+      | then-bytes-k-via-then-bytes-k w ↦ sym (can_rise-outside _ _ (omega arith))
+      | then-bytes-k-via-else-bytes-k+then-level-eq3 w ↦ sym (can_rise-full _ _ (sym w.level.ensures.0 ∙ w.if-level-eq3.true))
+    ]
 
 pub set_bit-requires : goal.set_bit-requires
 set_bit-requires c =

@@ -1,7 +1,7 @@
 use mathlib.Core.Path.{◌≡◌, refl, sym}
 use native.Mathlib.Omega.{arith}
 use native.Mathlib.Nat.{not-suc-le-zero}
-use lib.ListN.{length, length-set}
+use lib.ListN.{length}
 use Rattle.codes.specs.Codes.{generators_of}
 use Rattle.codes.specs.Taps.{window_of}
 use Rattle.cells.proofs.Places.{store-more}
@@ -13,14 +13,12 @@ use Rattle.codes.proofs.Code.read_strip.Goals as goal
 pub loop-q-init : goal.loop-q-init
 unfolding window_of
 loop-q-init c =
-    (refl, omega arith, record { first_is = refl; second_is = refl }, λ k h. absurd (not-suc-le-zero h))
+    (record { first_is = refl; second_is = refl }, λ k h. absurd (not-suc-le-zero h))
 
 pub loop-q-preserved : goal.loop-q-preserved
 loop-q-preserved c = (
-  simp length-set (omega arith),
-  omega arith,
   c.read_byte-r.ensures.windows_before,
-  store-more c.loop-q.data c.loop-q.q c.read_byte-r.result.byte _ (omega arith) c.read_byte-r.ensures.byte_value c.loop-q.invariant.3,
+  store-more c.loop-q.data c.loop-q.q c.read_byte-r.result.byte _ (omega arith) c.read_byte-r.ensures.byte_value c.loop-q.invariant.1,
 )
 
 pub returns : goal.returns
@@ -28,8 +26,8 @@ returns c =
     let m = (memory-bounds c.args.self.name).1 in
     let e : c.loop-q.q ≡ length c.args.data.now = omega arith in
     record {
-      data_after = read-bytes (generators_of c.args.self) _ c.args.strip.now c.loop-q.data m c.loop-q.invariant.0
-          (λ k h. rw (c.g1_taps-g1.ensures.0, c.g2_taps-g2.ensures.0) at (c.loop-q.invariant.3 k (omega arith)));
+      data_after = read-bytes (generators_of c.args.self) _ c.args.strip.now c.loop-q.data m (omega arith)
+          (λ k h. rw (c.g1_taps-g1.ensures.0, c.g2_taps-g2.ensures.0) at (c.loop-q.invariant.1 k (omega arith)));
       strip_bytes_value = (sym (one_bit-bytes 1), sym (one_bit-cells 1));
       map_bytes_value = sym (one_bit-map 1);
     }

@@ -1,7 +1,7 @@
--- The invariant: q bytes are read, the windows hold the cell bits before byte q, and the slice is as long as it came.
+-- The invariant: q bytes are read, and the windows hold the cell bits before byte q.
 use mathlib.Core.Path.{◌≡◌}
-use Prim.Native.Nat.{ℕ, ◌≤◌, ◌<◌, ◌+◌, ◌*◌, ◌-◌}
-use lib.ListN.{length, get_or}
+use Prim.Native.Nat.{ℕ, ◌<◌, ◌+◌, ◌*◌}
+use lib.ListN.{get_or}
 use Rattle.cells.specs.Places.{from_bits}
 use Rattle.cells.specs.Levels.{level}
 use Rattle.codes.specs.Codes.{WindowsBefore}
@@ -10,10 +10,5 @@ use Rattle.codes.proofs.Code.read_strip.Given as goal
 
 abbrev pub invariant-loop-q : goal.invariant-loop-q
 invariant-loop-q l =
-    (length l.data ≡ length l.initial.data)
-    × (l.q ≤ length l.initial.data)
-    × WindowsBefore l.strip l.q l.windows
+    WindowsBefore l.strip l.q l.windows
     × ((k : ℕ) → k < l.q → get_or l.data k 0 ≡ from_bits 8 (λ i. tapped_bit l.g1 l.g2 (level l.strip) (8 * k + i)))
-
-abbrev pub decreases-loop-q : goal.decreases-loop-q
-decreases-loop-q l = length l.initial.data - l.q

@@ -2,14 +2,10 @@
 use mathlib.Core.Path.{◌≡◌, ◌∙◌, ap}
 use Prim.Native.Nat.{ℕ, ◌%◌}
 use native.Mathlib.Omega.{arith}
-use lib.Bits.{bit_xor, xor_lt}
+use lib.Bits.{bit_xor}
 use Rattle.codes.specs.Blocks.{tapped_of, untapped_of, divided_of}
 use Rattle.codes.proofs.Divisions.{divided-less}
 use Rattle.codes.proofs.blocks.divided.Goals as goal
-
-pub tapped-requires-2 : goal.tapped-requires-2
-tapped-requires-2 c =
-    (omega arith, omega (arith, xor_lt 8 c.args.data (c.tapped.result % 256) (omega arith) (omega arith)))
 
 pub returns : goal.returns
 unfolding divided_of untapped_of
