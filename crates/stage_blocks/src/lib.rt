@@ -52,9 +52,7 @@ fn run_long(costs: &mut [u32; 64], rows: &[u32; 256], picks: u64)
     ensures { Ran 64 (words_of long) rows.now picks costs.old costs.new }
 {
     let words = LONG;
-    let mut i: u32 = 8;
-    while i > 0 {
-        i -= 1;
+    for i in (0..8).rev() {
         let row = (picks >> (8 * i)) % 64;
         let prices = marked(rows, row as usize, i);
         stage(costs, &words, prices);
@@ -66,23 +64,11 @@ fn run_short(costs: &mut [u32; 64], rows: &[u32; 256], picks: u64)
     requires { RunRequires costs.old rows.now }
     ensures { Ran 4 (words_of short) rows.now picks costs.old costs.new }
 {
-    let mut a = costs[0];
-    let mut b = costs[1];
-    let mut c = costs[2];
-    let mut d = costs[3];
-    let mut i: u32 = 8;
-    while i > 0 {
-        i -= 1;
+    let [mut a, mut b, mut c, mut d, ..] = *costs;
+    for i in (0..8).rev() {
         let row = (picks >> (8 * i)) % 64;
-        let p = marked(rows, row as usize, i);
-        let e = least(a + p[0], b + p[3]);
-        let f = least(c + p[1], d + p[2]);
-        let g = least(a + p[3], b + p[0]);
-        let h = least(c + p[2], d + p[1]);
-        a = e;
-        b = f;
-        c = g;
-        d = h;
+        let [p, q, r, s] = marked(rows, row as usize, i);
+        (a, b, c, d) = (least(a + p, b + s), least(c + q, d + r), least(a + s, b + p), least(c + r, d + q));
     }
     costs[0] = a;
     costs[1] = b;
@@ -109,10 +95,8 @@ pub fn settle(costs: &mut [u32; 64], states: usize)
     ensures settled { Settled states costs.old costs.new }
     ensures value { CLOSED ≡ closed }
 {
-    let mut s: usize = 0;
-    while s < states {
-        costs[s] = least(costs[s] / 256 * 256, CLOSED * 256);
-        s += 1;
+    for cost in &mut costs[..states] {
+        *cost = least(*cost / 256 * 256, CLOSED * 256);
     }
 }
 
@@ -121,9 +105,7 @@ pub fn keep(history: &mut [u8; 4096], costs: &[u32; 64], states: usize, q: usize
     requires { (q < 64) × (states ≤ 64) × (length history.old ≡ 4096) }
     ensures { Kept states q costs.now history.old history.new }
 {
-    let mut s: usize = 0;
-    while s < states {
-        history[64 * q + s] = (costs[s] % 256) as u8;
-        s += 1;
+    for (s, cost) in costs[..states].iter().enumerate() {
+        history[64 * q + s] = (*cost % 256) as u8;
     }
 }

@@ -23,9 +23,8 @@ fn price_of(j: u8, prices: [u32; 4]) -> u32
     requires { j ≤ 3 }
     ensures { result ≡ get_or prices j 0 }
 {
-    let even = pick(j % 2, prices[0], prices[1]);
-    let odd = pick(j % 2, prices[2], prices[3]);
-    pick(j / 2, even, odd)
+    let [a, b, c, d] = prices;
+    pick(j / 2, pick(j % 2, a, b), pick(j % 2, c, d))
 }
 
 // Half of the states, from the state `at` on.
@@ -41,13 +40,11 @@ fn half(
     ensures staged { Staged (at + 32) after.now words.now prices costs.new }
     ensures untouched { Untouched (at + 32) costs.old costs.new }
 {
-    let mut i: usize = 0;
-    while i < 32 {
+    for i in 0..32 {
         let j = words[at + i];
         let x = after[2 * i] + price_of(j, prices);
         let y = after[2 * i + 1] + price_of(j, others);
         costs[at + i] = least(x, y);
-        i += 1;
     }
 }
 
@@ -57,7 +54,8 @@ pub fn stage(costs: &mut [u32; 64], words: &[u8; 64], prices: [u32; 4])
     ensures { Staged 64 costs.old words.now prices costs.new }
 {
     let after = *costs;
-    let others = [prices[3], prices[2], prices[1], prices[0]];
+    let [a, b, c, d] = prices;
+    let others = [d, c, b, a];
     half(costs, &after, words, 0, prices, others);
     half(costs, &after, words, 32, prices, others);
 }

@@ -1,5 +1,5 @@
 -- The invariant: the four numbers are those of the four states before the stages done, which are the last 8 - i.
-use Prim.Native.Nat.{◌-◌, ◌≤◌}
+use Prim.Native.Nat.{◌-◌}
 use lib.ListN.{get_or}
 use Rattle.codes.specs.Generators.{short}
 use Rattle.stages.specs.Stage.{words_of}
@@ -9,7 +9,4 @@ use Rattle.stage_blocks.proofs.run_short.Given as goal
 
 abbrev pub invariant-loop-i : goal.invariant-loop-i
 invariant-loop-i l =
-    (l.i ≤ 8) × Four (block_of 8 4 (words_of short) l.rows l.picks (λ k. get_or l.costs k 0) (8 - l.i)) l.a l.b l.c l.d
-
-abbrev pub decreases-loop-i : goal.decreases-loop-i
-decreases-loop-i l = l.i
+    Four (block_of 8 4 (words_of short) l.rows l.picks (λ k. get_or l.costs k 0) (8 - l.i)) l.a l.b l.c l.d

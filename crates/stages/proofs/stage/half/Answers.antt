@@ -3,13 +3,12 @@ use Prim.Native.Nat.{ℕ, ◌+◌, ◌*◌, ◌<◌}
 use native.Mathlib.Omega.{arith}
 use lib.ListN.{get_or, length-set}
 use lib.Seq.{get_or-set_other}
-use borrow.Author.Rules.{rules}
 use Rattle.cells.proofs.Places.{store-more}
 use Rattle.stages.proofs.Stages.{half-after, staged-is}
 use Rattle.stages.proofs.stage.half.Goals as goal
 
 pub loop-i-init : goal.loop-i-init
-loop-i-init c = (search rules, c.requires.size, (λ k h. c.requires.before k (omega arith)), λ k h. refl)
+loop-i-init c = (c.requires.size, (λ k h. c.requires.before k (omega arith)), λ k h. refl)
 
 pub price_of-requires : goal.price_of-requires
 price_of-requires c = c.requires.words_le _
@@ -46,15 +45,14 @@ loop-i-preserved c =
     let y = ap (λ (p : ℕ). get_or c.args.after.now (2 * c.loop-i.i + 1) 0 + p)
     (c.price_of-in-loop-i.ensures ∙ c.requires.turned (get_or c.args.words.now (c.args.at + c.loop-i.i) 0) (c.requires.words_le _)) in
     let number = c.least.ensures ∙ staged-is c.args.after.now c.args.words.now c.args.prices (c.args.at + c.loop-i.i) (2 * c.loop-i.i) e x y in (
-      search rules,
       simp length-set (omega arith),
-      λ k h. store-more c.loop-i.costs (c.args.at + c.loop-i.i) c.least.result _ (omega arith) number c.loop-i.invariant.2 k (omega arith),
-      λ k h. get_or-set_other c.loop-i.costs (c.args.at + c.loop-i.i) k c.least.result 0 (λ z. omega arith) ∙ c.loop-i.invariant.3 k (omega arith),
+      λ k h. store-more c.loop-i.costs (c.args.at + c.loop-i.i) c.least.result _ (omega arith) number c.loop-i.invariant.1 k (omega arith),
+      λ k h. get_or-set_other c.loop-i.costs (c.args.at + c.loop-i.i) k c.least.result 0 (λ z. omega arith) ∙ c.loop-i.invariant.2 k (omega arith),
     )
 
 pub returns : goal.returns
 returns c =
     record {
-      staged = record { size = c.loop-i.invariant.1; states = λ k h. c.loop-i.invariant.2 k (omega arith) };
-      untouched = record { others = λ k h. c.loop-i.invariant.3 k (omega arith) };
+      staged = record { size = c.loop-i.invariant.0; states = λ k h. c.loop-i.invariant.1 k (omega arith) };
+      untouched = record { others = λ k h. c.loop-i.invariant.2 k (omega arith) };
     }

@@ -7,6 +7,6 @@ use Rattle.stages.proofs.stage.price_of.Goals as goal
 
 pub returns : goal.returns
 returns c =
-    c.pick.ensures
-    ∙ ap₂ (λ (x y : ℕ). pick (c.args.j / 2) x y) c.pick-even.ensures c.pick-odd.ensures
+    c.pick-3.ensures
+    ∙ ap₂ (λ (x y : ℕ). pick (c.args.j / 2) x y) c.pick.ensures c.pick-2.ensures
     ∙ pick-four c.args.j c.args.prices c.requires
