@@ -66,11 +66,9 @@ fn levels_of(bits: u64) -> u64
 fn marked_cells(marks: u64) -> u64
     ensures { result ≡ packed_of 3 (mark_in marks) 16 }
 {
-    let mut out: u64 = 0;
-    let mut c: u32 = 0;
-    while c < 16 {
+    let mut out = 0;
+    for c in 0..16u32 {
         out += ((marks >> c) % 2) << (3 * c);
-        c += 1;
     }
     out
 }
@@ -109,13 +107,11 @@ pub fn picks_at(strip: &[u8], map: &[u8], q: usize, labels: u32) -> u64
     ensures { result ≡ packed_of 8 (stage_row (bits_at strip.now q) (marks_at map.now q) labels) 8 }
 {
     let kinds = block_kinds(strip, map, q);
-    let mut picks: u64 = 0;
-    let mut i: u32 = 0;
-    while i < 8 {
+    let mut picks = 0;
+    for i in 0..8u32 {
         let pair = (kinds >> (6 * i)) % 64;
         let label = ((labels >> (7 - i)) % 2) as u64;
         picks += (pair + label * 32) << (8 * i);
-        i += 1;
     }
     picks
 }
