@@ -26,12 +26,10 @@ const STARTS: [u64; 3] = [
 fn wanted_bits(first: u32, second: u32) -> u64
     ensures { result ≡ wanted_bits first second 8 }
 {
-    let mut out: u64 = 0;
-    let mut i: u32 = 0;
-    while i < 8 {
+    let mut out = 0;
+    for i in 0..8u32 {
         let v = (first >> (7 - i)) % 2 + 8 * ((second >> (7 - i)) % 2);
         out += (v as u64) << (6 * i);
-        i += 1;
     }
     out
 }
@@ -62,13 +60,7 @@ fn put_bits(strip: &mut [u8], q: usize, bits: u64)
     requires { (6 * q + 6 ≤ length strip.old) × (q < 64) }
     ensures { strip.new ≡ with_bits strip.old q bits }
 {
-    let k = 6 * q;
-    strip[k] = (bits % 256) as u8;
-    strip[k + 1] = ((bits >> 8) % 256) as u8;
-    strip[k + 2] = ((bits >> 16) % 256) as u8;
-    strip[k + 3] = ((bits >> 24) % 256) as u8;
-    strip[k + 4] = ((bits >> 32) % 256) as u8;
-    strip[k + 5] = ((bits >> 40) % 256) as u8;
+    strip[6 * q..6 * q + 6].copy_from_slice(&bits.to_le_bytes()[..6]);
 }
 
 // Carries the digits out: each cell that does not show the bit that they want is raised by one.
@@ -77,18 +69,16 @@ pub fn carry_strip(code: Code, strip: &mut [u8], data: &[u8], digits: &[u8])
     ensures { strip.new ≡ raised_to start_of strip.old
         (carried_to (generators_of code) strip.old «data».now (digit_in digits.now)) }
 {
-    let mut labels: u32 = 0;
-    let mut before: u32 = 0;
-    let mut q: usize = 0;
-    while q < data.len() {
+    let mut labels = 0;
+    let mut before = 0;
+    for (q, &byte) in digits.iter().enumerate() {
         labels = code.divide(labels, data_window(data, q));
-        let digit = digits[q] as u32;
+        let digit = byte as u32;
         let w = before * 256 + digit;
         let first = code.first_bits(w);
         let second = code.second_bits(w) ^ labels;
         let bits = shown_bits(q, bits_of(strip, q), wanted_bits(first, second));
         put_bits(strip, q, bits);
         before = digit;
-        q += 1;
     }
 }

@@ -1,6 +1,6 @@
 -- Digits of some bits each, packed into a number.
 --   packed-less   n digits of w bits each fit n times w bits, and more (packed-fits)
---   packed-next   a digit more, and as a shift within 64 bits (packed_more)
+--   packed-next   a digit more, and as a shift within 64 bits (packed_more), which it fits (more-fits)
 --   packed-bits   b bits of digit i, from bit r on; the whole digit (packed-at)
 --   packed-self   a number is packed from its digits
 --   packed-times  a multiple of a packed number, by its digits, and a sum of two (packed-plus)
@@ -48,6 +48,12 @@ module _ (w : ℕ) (f : ℕ → ℕ) (f-less : (i : ℕ) → f i < 2 ^ w) where
   -- a digit more, shifted to its place within 64 bits
   pub packed_more : (i out : ℕ) → w + w * i ≤ 64 → out ≡ packed_of w f i → out + (f i * 2 ^ (w * i)) % 2 ^ 64 ≡ packed_of w f (i + 1)
   packed_more i out h e = packed-next i e (shl_exact w (w * i) 64 (f-less i) h)
+
+  -- which that fits
+  pub more-fits : (i out : ℕ) → w + w * i ≤ 64 → out ≡ packed_of w f i → out + (f i * 2 ^ (w * i)) % 2 ^ 64 < 2 ^ 64
+  more-fits i out h e =
+      let l : w * (i + 1) ≤ 64 = omega arith in
+      omega (arith, packed_more i out h e, packed-less (i + 1), pow_mono l)
 
   -- b bits of digit i, from its bit r on
   pub packed-bits : (n i r b : ℕ) → i < n → r + b ≤ w → packed_of w f n / 2 ^ (w * i + r) % 2 ^ b ≡ f i / 2 ^ r % 2 ^ b

@@ -15,32 +15,16 @@ pub const LOWEST: u64 = 0o1111_1111_1111_1111;
 // The lowest bit of each second cell of a stage.
 const SECONDS: u64 = 0o1010_1010_1010_1010;
 
-// Six bytes as one number.
-fn six(a: u8, b: u8, c: u8, d: u8, e: u8, f: u8) -> u64
-    ensures { result ≡ a + b * 256 + c * 65536 + d * 16777216 + e * 4294967296 + f * 1099511627776 }
-{
-    a as u64
-        + b as u64 * 256
-        + c as u64 * 65536
-        + d as u64 * 16777216
-        + e as u64 * 4294967296
-        + f as u64 * 1099511627776
-}
-
 // The 48 bits of the cells of block q: six bytes of the strip.
 pub fn bits_of(strip: &[u8], q: usize) -> u64
     requires { (6 * q + 6 ≤ length strip.now) × (q < 64) }
     ensures { result ≡ bits_at strip.now q }
 {
-    let k = 6 * q;
-    six(
-        strip[k],
-        strip[k + 1],
-        strip[k + 2],
-        strip[k + 3],
-        strip[k + 4],
-        strip[k + 5],
-    )
+    let mut bits = 0;
+    for k in 0..6 {
+        bits += (strip[6 * q + k] as u64) << (8 * k);
+    }
+    bits
 }
 
 // The 16 marks of block q: two bytes of the strip's part of the map, and none past its end.
@@ -66,11 +50,9 @@ fn levels_of(bits: u64) -> u64
 fn marked_cells(marks: u64) -> u64
     ensures { result ≡ packed_of 3 (mark_in marks) 16 }
 {
-    let mut out: u64 = 0;
-    let mut c: u32 = 0;
-    while c < 16 {
+    let mut out = 0;
+    for c in 0..16u32 {
         out += ((marks >> c) % 2) << (3 * c);
-        c += 1;
     }
     out
 }
@@ -93,14 +75,12 @@ fn block_kinds(strip: &[u8], map: &[u8], q: usize) -> u64
     ensures { result ≡ packed_of 3 (cell_kind (bits_at strip.now q) (marks_at map.now q)) 16 }
 {
     let bits = bits_of(strip, q);
-    if map.len() == 0 {
-        return levels_of(bits);
-    }
-    let marks = marks_of(map, q);
+    let marks = if map.is_empty() { 0 } else { marks_of(map, q) };
     if marks == 0 {
-        return levels_of(bits);
+        levels_of(bits)
+    } else {
+        kinds_of(bits, marks)
     }
-    kinds_of(bits, marks)
 }
 
 // The rows of the eight stages of block q, by their cells and their labels, as the bytes of one number.
@@ -109,13 +89,11 @@ pub fn picks_at(strip: &[u8], map: &[u8], q: usize, labels: u32) -> u64
     ensures { result ≡ packed_of 8 (stage_row (bits_at strip.now q) (marks_at map.now q) labels) 8 }
 {
     let kinds = block_kinds(strip, map, q);
-    let mut picks: u64 = 0;
-    let mut i: u32 = 0;
-    while i < 8 {
+    let mut picks = 0;
+    for i in 0..8u32 {
         let pair = (kinds >> (6 * i)) % 64;
         let label = ((labels >> (7 - i)) % 2) as u64;
         picks += (pair + label * 32) << (8 * i);
-        i += 1;
     }
     picks
 }

@@ -1,7 +1,6 @@
 -- The invariant: the cells of the first q blocks are carried out and no other, and the labels and the digits are those before block q.
 use mathlib.Core.Path.{◌≡◌}
-use Prim.Native.Nat.{◌≤◌, ◌<◌, ◌*◌, ◌-◌}
-use lib.ListN.{length}
+use Prim.Native.Nat.{◌<◌, ◌*◌}
 use Rattle.cells.specs.Raising.{start_of, raised_to}
 use Rattle.codes.specs.Codes.{generators_of}
 use Rattle.codes.specs.Taps.{window_of}
@@ -12,12 +11,8 @@ use Rattle.carrying.proofs.carry_strip.Given as goal
 
 abbrev pub invariant-loop-q : goal.invariant-loop-q
 invariant-loop-q l =
-    (l.q ≤ length l.data)
-    × (l.labels < 256)
+    (l.labels < 256)
     × (l.labels ≡ window_of 8 (label_at (generators_of l.code) l.data) (8 * l.q))
     × (l.before < 256)
     × (l.before ≡ window_of 8 (digit_in l.digits) (8 * l.q))
     × (l.strip ≡ raised_to start_of l.initial.strip (carried_below (generators_of l.code) l.initial.strip l.data (digit_in l.digits) (16 * l.q)))
-
-abbrev pub decreases-loop-q : goal.decreases-loop-q
-decreases-loop-q l = length l.data - l.q

@@ -1,11 +1,7 @@
 -- `wanted_bits` meets its contract: the loop has added up the bits of the first i stages.
 use mathlib.Core.Path.{◌≡◌}
-use Prim.Native.Nat.{◌-◌, ◌≤◌}
 use Rattle.carrying.specs.Carrying.{wanted_bits}
 use Rattle.carrying.proofs.wanted_bits.Given as goal
 
 abbrev pub invariant-loop-i : goal.invariant-loop-i
-invariant-loop-i l = (l.i ≤ 8) × (l.out ≡ wanted_bits l.first l.second l.i)
-
-abbrev pub decreases-loop-i : goal.decreases-loop-i
-decreases-loop-i l = 8 - l.i
+invariant-loop-i l = l.out ≡ wanted_bits l.first l.second l.i
