@@ -74,8 +74,8 @@ pub fn price_strip(
     outcome(costs[0] / 256)
 }
 
-// What the data of a strip costs, or None where no pattern takes them, what the states keep of their ways, and the bits that the first cells
-// show, eight stages a byte. What stands in the history for a state without a cost, or beyond the code's states, is free.
+// What the data of a strip costs, or None where no pattern takes them, what the states keep of their ways, and the bits that the first
+// cells show, eight stages a byte. What stands in the history for a state without a cost, or beyond the code's states, is free.
 pub fn decide(
     code: Code,
     rows: &[u32; 256],

@@ -29,8 +29,8 @@ fn follow(code: Code, lows: &[u8; 64], history: &[u8; 4096], digits: &mut [u8])
     }
 }
 
-// What the data of a strip costs, and the digits of the cheapest way, one bit a stage. Where no pattern takes the data it is None, and what is
-// put there is free.
+// What the data of a strip costs, or None where no pattern takes them, and the digits of the cheapest way, one bit a stage. Where there is
+// none, what is put there is free.
 pub fn plan_strip(
     code: Code,
     rows: &[u32; 256],
