@@ -6,7 +6,6 @@ ghost use Rattle.page_answers.specs.Answers.{number_of, value_of, end_number, en
 ghost use Rattle.page_answers.specs.Totals.{no_total, added, answer_for};
 
 use refusals::{Refusal, refusal_number};
-use trellis::Outcome;
 
 // The answer of a write, and of a price: done with the cost, spent with the strip's number, or refused.
 #[derive(Drop)]
@@ -65,25 +64,22 @@ impl Total {
         }
     }
 
-    // The total with a strip's outcome added; once spent it stays.
-    pub fn add(self, outcome: Outcome) -> Total
+    // The total with a strip's outcome added, the cost or None where the strip is spent; once spent it stays.
+    pub fn add(self, outcome: Option<u32>) -> Total
         ensures { result ≡ added self outcome }
     {
-        let cost = self.cost;
-        let strips = self.strips;
         if self.spent {
             return self;
         }
         match outcome {
-            Outcome::Done(c) => Total {
-                cost: std::num::wrapping_add_u64(cost, c as u64),
-                strips: std::num::wrapping_add_u32(strips, 1),
+            Some(cost) => Total {
+                cost: self.cost.wrapping_add(u64::from(cost)),
+                strips: self.strips.wrapping_add(1),
                 spent: false,
             },
-            Outcome::Spent => Total {
-                cost,
-                strips,
+            None => Total {
                 spent: true,
+                ..self
             },
         }
     }
@@ -92,12 +88,11 @@ impl Total {
     pub fn answer(self) -> Answer
         ensures { result ≡ answer_for self }
     {
-        let cost = self.cost;
-        let strips = self.strips;
         if self.spent {
-            return Answer::Spent(strips);
+            Answer::Spent(self.strips)
+        } else {
+            Answer::Done((self.cost % 4294967296) as u32)
         }
-        Answer::Done((cost % 4294967296) as u32)
     }
 }
 

@@ -1,18 +1,16 @@
--- What a search says of the strip.
---   decoded_outcome v    done with the cost v, or spent where v is no cost
---   solution_outcome r   done with the cost of a write, or spent where there is none
-use Rattle.std.specs.Prelude.{cond, ℕ, ltb}
-use Rattle.std.proofs.Math.Option.{Option, none, some}
-use Rattle.trellis.specs.declared.Outcome.{Outcome}
-use Rattle.trellis.specs.declared.Outcome.TheVariants.{Done, Spent}
+-- What a search says of the strip: the cost of its data, or None where no pattern takes them.
+--   decoded_outcome v    the cost v, or None where v is no cost
+--   solution_outcome r   the cost of a write, or None where there is none
+use Rattle.std.specs.Prelude.{cond, ℕ, ltb, Option, Some, None}
+use Rattle.std.proofs.Math.Option as Math
 use Rattle.search.specs.Best.{Solution}
 use Rattle.stages.specs.Stage.{closed}
 
 -- a number below closed is a cost, and any other is none
-abbrev pub decoded_outcome : ℕ → Outcome
-decoded_outcome v = cond (ltb v closed) (Done v) Spent
+abbrev pub decoded_outcome : ℕ → Option ℕ
+decoded_outcome v = cond (ltb v closed) (Some v) None
 
--- done with the cost, or spent
-unfoldable pub solution_outcome : Option Solution → Outcome
-solution_outcome none = Spent
-solution_outcome (some a) = Done a.cost
+-- the cost, or None
+unfoldable pub solution_outcome : Math.Option Solution → Option ℕ
+solution_outcome Math.none = None
+solution_outcome (Math.some a) = Some a.cost

@@ -10,21 +10,16 @@ ghost use Rattle.trellis.specs.Ways.{Shaped, Traced, Lows};
 ghost use Rattle.trellis.specs.Outcomes.{decoded_outcome, solution_outcome};
 ghost use Rattle.trellis.specs.Plans.{write_of};
 
-use crate::Outcome;
 use codes::{Code, window};
 use rows::{data_window, picks_at};
 use stage_blocks::{keep, run, settle};
 use stages::CLOSED;
 
-// What a number of the search says.
-fn outcome(cost: u32) -> Outcome
+// What a number of the search says: the cost, or None where no pattern takes the data.
+fn outcome(cost: u32) -> Option<u32>
     ensures { result ≡ decoded_outcome cost }
 {
-    if cost < CLOSED {
-        Outcome::Done(cost)
-    } else {
-        Outcome::Spent
-    }
+    (cost < CLOSED).then_some(cost)
 }
 
 // The last eight labels of the data.
@@ -33,10 +28,8 @@ fn last_labels(code: Code, data: &[u8]) -> u32
     ensures { (result ≡ window_of 8 (label_at (generators_of code) «data».now) (8 * length «data».now)) × (result < 256) }
 {
     let mut labels: u32 = 0;
-    let mut q: usize = 0;
-    while q < data.len() {
+    for q in 0..data.len() {
         labels = code.divide(labels, data_window(data, q));
-        q += 1;
     }
     labels
 }
@@ -55,8 +48,16 @@ fn labels_before(code: Code, labels: u32, data: &[u8], q: usize) -> u32
     code.divide_back(labels, earlier * 256 + later)
 }
 
-// What the data of a strip costs. It is lent nothing that it may change, and keeps no array with a place for each stage or cell.
-pub fn price_strip(code: Code, rows: &[u32; 256], strip: &[u8], map: &[u8], data: &[u8]) -> Outcome
+// What the data of a strip costs, or None where no pattern takes them. It is lent nothing that it may change, and keeps no array with a
+// place for each stage or cell.
+// `decide` has the same loop: it keeps more of each block between two steps of it, and a price is to keep, and to be lent, none of that.
+pub fn price_strip(
+    code: Code,
+    rows: &[u32; 256],
+    strip: &[u8],
+    map: &[u8],
+    data: &[u8],
+) -> Option<u32>
     requires { Shaped rows.now strip.now «data».now }
     ensures { (W : List ℕ) → Priced W rows.now
         → result ≡ solution_outcome (write_of (generators_of code) W strip.now (marks_in map.now) «data».now) }
@@ -64,9 +65,7 @@ pub fn price_strip(code: Code, rows: &[u32; 256], strip: &[u8], map: &[u8], data
     let states = code.states();
     let mut labels = last_labels(code, data);
     let mut costs = [0u32; 64];
-    let mut q = data.len();
-    while q > 0 {
-        q -= 1;
+    for q in (0..data.len()).rev() {
         let picks = picks_at(strip, map, q, labels);
         run(code, &mut costs, rows, picks);
         settle(&mut costs, states);
@@ -75,8 +74,8 @@ pub fn price_strip(code: Code, rows: &[u32; 256], strip: &[u8], map: &[u8], data
     outcome(costs[0] / 256)
 }
 
-// What the data of a strip costs, what the states keep of their ways, and the bits that the first cells show, eight stages a byte. What
-// stands in the history for a state without a cost, or beyond the code's states, is free.
+// What the data of a strip costs, or None where no pattern takes them, what the states keep of their ways, and the bits that the first
+// cells show, eight stages a byte. What stands in the history for a state without a cost, or beyond the code's states, is free.
 pub fn decide(
     code: Code,
     rows: &[u32; 256],
@@ -85,7 +84,7 @@ pub fn decide(
     data: &[u8],
     history: &mut [u8; 4096],
     lows: &mut [u8; 64],
-) -> Outcome
+) -> Option<u32>
     requires shaped { Shaped rows.now strip.now «data».now }
     requires history_len { (length history.old ≡ 4096) × (length lows.old ≡ 64) }
     ensures by_index { (W : List ℕ) → Priced W rows.now
@@ -99,9 +98,7 @@ pub fn decide(
     let states = code.states();
     let mut labels = last_labels(code, data);
     let mut costs = [0u32; 64];
-    let mut q = data.len();
-    while q > 0 {
-        q -= 1;
+    for q in (0..data.len()).rev() {
         let picks = picks_at(strip, map, q, labels);
         lows[q] = window(picks, 8) as u8;
         run(code, &mut costs, rows, picks);

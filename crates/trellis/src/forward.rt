@@ -9,16 +9,8 @@ ghost use Rattle.trellis.specs.Ways.{Shaped, Followed};
 ghost use Rattle.trellis.specs.Outcomes.{solution_outcome};
 ghost use Rattle.trellis.specs.Plans.{write_of, Plans};
 
-use crate::Outcome;
 use crate::backward::decide;
 use codes::Code;
-
-// A byte as a wider number.
-fn wide(x: u8) -> u32
-    ensures { (result ≡ x) × (result < 256) }
-{
-    x as u32
-}
 
 // Follows the way that the states keep, from state 0: the trail of eight stages and the bits that the first cells show give the first code
 // bits, and these, divided by the first generator, the digits. Where no digits are followed, what is put there is free.
@@ -30,17 +22,15 @@ fn follow(code: Code, lows: &[u8; 64], history: &[u8; 4096], digits: &mut [u8])
 {
     let states = code.states();
     let mut before: u32 = 0;
-    let mut q: usize = 0;
-    while q < digits.len() {
-        let trail = wide(history[64 * q + before as usize % states]);
-        let low = wide(lows[q]);
-        before = code.divide(before, trail ^ low);
-        digits[q] = before as u8;
-        q += 1;
+    for (q, digit) in digits.iter_mut().enumerate() {
+        let trail = history[64 * q + before as usize % states];
+        before = code.divide(before, u32::from(trail ^ lows[q]));
+        *digit = before as u8;
     }
 }
 
-// What the data of a strip costs, and the digits of the cheapest way, one bit a stage. Where there is none, what is put there is free.
+// What the data of a strip costs, or None where no pattern takes them, and the digits of the cheapest way, one bit a stage. Where there is
+// none, what is put there is free.
 pub fn plan_strip(
     code: Code,
     rows: &[u32; 256],
@@ -48,7 +38,7 @@ pub fn plan_strip(
     map: &[u8],
     data: &[u8],
     digits: &mut [u8],
-) -> Outcome
+) -> Option<u32>
     requires shaped { Shaped rows.now strip.now «data».now }
     requires digits_len { length digits.old ≡ length «data».now }
     ensures by_index { (W : List ℕ) → Priced W rows.now

@@ -3,11 +3,3 @@
 
 pub mod backward;
 pub mod forward;
-
-// What a strip's data costs, or that no pattern takes it.
-#[derive(Drop)]
-#[derive(Clone, Copy)]
-pub enum Outcome {
-    Done(u32),
-    Spent,
-}

@@ -41,20 +41,6 @@ overflow_cast-lows c =
       );
     }
 
-pub bounds-lows-q : goal.bounds-lows-q
-bounds-lows-q c = omega (arith, c.loop-q.invariant.0.within, c.requires.shaped.most)
-
-pub run-requires : goal.run-requires
-run-requires c =
-    record { size = c.loop-q.invariant.0.size; costs_le = c.loop-q.invariant.0.cut; rows_le = c.requires.shaped.cut }
-
-pub keep-requires : goal.keep-requires
-keep-requires c = (
-  omega (arith, c.loop-q.invariant.0.within, c.requires.shaped.most),
-  c.states-states.ensures.1,
-  c.loop-q.invariant.1.size,
-)
-
 pub settle-requires : goal.settle-requires
 settle-requires c = (
   c.states-states.ensures.1,
@@ -62,11 +48,6 @@ settle-requires c = (
   ran_le c.run.ensures c.loop-q.invariant.0.cut
       c.requires.shaped.cut,
 )
-
-pub labels_before-labels-requires : goal.labels_before-labels-requires
-labels_before-labels-requires c =
-    let e : c.loop-q.q - 1 + 1 ≡ c.loop-q.q = omega arith in
-    (omega (arith, c.loop-q.invariant.0.within), c.requires.shaped.most, rw e c.loop-q.invariant.0.labels-are)
 
 pub loop-q-preserved : goal.loop-q-preserved
 loop-q-preserved c =

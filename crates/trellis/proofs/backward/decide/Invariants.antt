@@ -19,6 +19,3 @@ invariant-loop-q l =
     × ((k : ℕ) → l.q ≤ k → k < length l.data → get_or l.lows k 0 ≡ window_of 8 (first_bit (level l.strip)) (8 * (k + 1)))
     × Untouched (64 * length l.data) l.initial.history l.history
     × Untouched (length l.data) l.initial.lows l.lows
-
-abbrev pub decreases-loop-q : goal.decreases-loop-q
-decreases-loop-q l = l.q

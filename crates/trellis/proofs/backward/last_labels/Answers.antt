@@ -1,11 +1,8 @@
-use mathlib.Core.Path.{◌≡◌, ap, ◌∙◌}
-use Prim.Native.Nat.{ℕ, ◌*◌}
+use mathlib.Core.Path.{◌≡◌}
 use native.Mathlib.Omega.{arith}
 use lib.ListN.{length}
 use borrow.Author.Rules.{rules}
-use Rattle.codes.specs.Codes.{generators_of}
 use Rattle.codes.specs.Taps.{window_of}
-use Rattle.codes.specs.Blocks.{label_at}
 use Rattle.codes.proofs.Codes.{proper, memory-bounds}
 use Rattle.rows.proofs.Labels.{labels-forth}
 use Rattle.trellis.proofs.backward.last_labels.Goals as goal
@@ -16,9 +13,8 @@ loop-q-init c = search rules
 
 pub loop-q-preserved : goal.loop-q-preserved
 loop-q-preserved c = (
-  search rules,
   c.divide-labels.ensures.upper_bound,
-  labels-forth (proper c.args.code) (memory-bounds c.args.code.name).1 c.args.data.now c.loop-q.q c.loop-q.invariant.2
+  labels-forth (proper c.args.code) (memory-bounds c.args.code.name).1 c.args.data.now c.loop-q.q c.loop-q.invariant.1
       c.data_window.ensures.0
       c.divide-labels.ensures.by_index,
 )
@@ -26,4 +22,4 @@ loop-q-preserved c = (
 pub returns : goal.returns
 returns c =
     let e : c.loop-q.q ≡ length c.args.data.now = omega arith in
-    (c.loop-q.invariant.2 ∙ ap (λ (q : ℕ). window_of 8 (label_at (generators_of c.args.code) c.args.data.now) (8 * q)) e, c.loop-q.invariant.1)
+    (rw e at c.loop-q.invariant.1, c.loop-q.invariant.0)

@@ -19,10 +19,6 @@ pub picks_at-picks-requires : goal.picks_at-picks-requires
 picks_at-picks-requires c =
     (omega (arith, c.loop-q.invariant.within, c.requires.size, one_bit-bytes (length c.args.data.now)), omega (arith, c.loop-q.invariant.within, c.requires.most))
 
-pub run-requires : goal.run-requires
-run-requires c =
-    record { size = c.loop-q.invariant.size; costs_le = c.loop-q.invariant.cut; rows_le = c.requires.cut }
-
 pub settle-requires : goal.settle-requires
 settle-requires c = (
   c.states-states.ensures.1,
@@ -30,11 +26,6 @@ settle-requires c = (
   ran_le
       c.run.ensures c.loop-q.invariant.cut c.requires.cut,
 )
-
-pub labels_before-labels-requires : goal.labels_before-labels-requires
-labels_before-labels-requires c =
-    let e : c.loop-q.q - 1 + 1 ≡ c.loop-q.q = omega arith in
-    (omega (arith, c.loop-q.invariant.within), c.requires.most, rw e c.loop-q.invariant.labels-are)
 
 pub loop-q-preserved : goal.loop-q-preserved
 loop-q-preserved c =

@@ -7,6 +7,3 @@ use Rattle.trellis.proofs.backward.price_strip.Given as goal
 abbrev pub invariant-loop-q : goal.invariant-loop-q
 invariant-loop-q l =
     BlocksDecoded (generators_of l.code) l.rows l.strip (marks_in l.map) l.data l.q l.labels l.costs
-
-abbrev pub decreases-loop-q : goal.decreases-loop-q
-decreases-loop-q l = l.q

@@ -1,6 +1,6 @@
 -- The invariant: for digits u that are followed, the bytes before q are their windows, and so is what is carried on.
 use mathlib.Core.Path.{◌≡◌}
-use Prim.Native.Nat.{ℕ, ◌<◌, ◌≤◌, ◌+◌, ◌*◌, ◌-◌}
+use Prim.Native.Nat.{ℕ, ◌<◌, ◌+◌, ◌*◌}
 use lib.ListN.{length, get_or}
 use Rattle.codes.specs.Codes.{generators_of}
 use Rattle.codes.specs.Taps.{window_of}
@@ -9,12 +9,7 @@ use Rattle.trellis.proofs.forward.follow.Given as goal
 
 abbrev pub invariant-loop-q : goal.invariant-loop-q
 invariant-loop-q l =
-    (l.q ≤ length l.initial.digits)
-    × (length l.digits ≡ length l.initial.digits)
-    × (l.before < 256)
+    (l.before < 256)
     × ((u : ℕ → ℕ) → Followed (generators_of l.code) l.lows l.history (length l.initial.digits) u → l.before ≡ window_of 8 u (8 * l.q))
     × ((u : ℕ → ℕ) → Followed (generators_of l.code) l.lows l.history (length l.initial.digits) u
     → (k : ℕ) → k < l.q → get_or l.digits k 0 ≡ window_of 8 u (8 * (k + 1)))
-
-abbrev pub decreases-loop-q : goal.decreases-loop-q
-decreases-loop-q l = length l.initial.digits - l.q
