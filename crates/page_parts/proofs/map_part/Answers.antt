@@ -18,5 +18,5 @@ overflow_add-at c =
 
 pub returns : goal.returns
 returns c =
-    rw (c.lesser-end.ensures, c.lesser-start.ensures, one_bit-map c.args.bytes)
+    rw (c.min-2.ensures, c.min.ensures, one_bit-map c.args.bytes)
     (part_cut (2 * c.args.bytes) c.args.k c.args.map.now)
