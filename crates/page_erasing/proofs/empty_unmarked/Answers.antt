@@ -7,9 +7,6 @@ use Rattle.cells.proofs.Places.{store-more}
 use Rattle.cells.proofs.Marks.{emptied-length, emptied-byte}
 use Rattle.page_erasing.proofs.empty_unmarked.Goals as goal
 
-pub loop-i-init : goal.loop-i-init
-loop-i-init c = ((λ k h. absurd (let z : ⊥ = omega arith in z)), λ k h. refl)
-
 pub loop-i-preserved : goal.loop-i-preserved
 loop-i-preserved c =
     let own : c.kept_byte.result ≡ get_or (emptied (marks_in c.args.map.now) c.args.page.now) c.loop-i.i 0 =

@@ -18,18 +18,6 @@ use Rattle.page_reading.proofs.read_strips.Goals as goal
 fits : (L S : ℕ) {k size : ℕ} → size ≡ L * S → k < S → L * k + L ≤ size
 fits L S {k} e h = omega (arith, within L k S h)
 
-pub loop-k-init : goal.loop-k-init
-loop-k-init c = λ j h. absurd (not-suc-le-zero h)
-
-pub overflow_mul-a : goal.overflow_mul-a
-overflow_mul-a c = omega (arith, fits c.args.bytes c.args.strips (c.loop-k.auto.data ∙ c.requires.data_is) c.loop-k-test.true)
-
-pub overflow_add-a : goal.overflow_add-a
-overflow_add-a c = omega (arith, fits c.args.bytes c.args.strips (c.loop-k.auto.data ∙ c.requires.data_is) c.loop-k-test.true)
-
-pub slice_bounds-read_strip-end : goal.slice_bounds-read_strip-end
-slice_bounds-read_strip-end c = fits c.args.bytes c.args.strips (c.loop-k.auto.data ∙ c.requires.data_is) c.loop-k-test.true
-
 pub read_strip-requires : goal.read_strip-requires
 read_strip-requires c =
     let fit = fits c.args.bytes c.args.strips (c.loop-k.auto.data ∙ c.requires.data_is) c.loop-k-test.true in

@@ -20,9 +20,3 @@ overflow_add-counts c =
 pub loop-c-preserved : goal.loop-c-preserved
 loop-c-preserved c =
     rw c.loop-c.invariant (row_next c.loop-c.c (level c.args.strip.now) c.level.result (sym c.level.ensures.0) c.level.ensures.1)
-
-pub returns : goal.returns
-unfolding row_of
-returns c =
-    let e : c.loop-c.c ≡ c.args.cells = omega arith in
-    rw (c.loop-c.invariant, e)
