@@ -13,11 +13,7 @@ use refusals::{Completion, Map};
 pub fn clear(page: &mut [u8])
     ensures { page.new ≡ replicate (length page.old) 0 }
 {
-    let mut i: usize = 0;
-    while i < page.len() {
-        page[i] = 0;
-        i += 1;
-    }
+    page.fill(0);
 }
 
 // Byte number `third` of three bytes, whose eight cells are marked by the bits of `marked`: the bits of the marked cells, and zeros for the
@@ -30,12 +26,10 @@ fn kept_byte(byte: u8, marked: u32, third: usize) -> u8
         return 0;
     }
     let mut out: u8 = 0;
-    let mut j: usize = 0;
-    while j < 8 {
+    for j in 0..8 {
         if (marked >> ((8 * third + j) / 3)) % 2 == 1 {
             out += ((byte >> j) % 2) << j;
         }
-        j += 1;
     }
     out
 }
@@ -44,12 +38,8 @@ fn kept_byte(byte: u8, marked: u32, third: usize) -> u8
 fn empty_unmarked(page: &mut [u8], map: &[u8])
     ensures { page.new ≡ emptied (marks_in map.now) page.old }
 {
-    let mut i: usize = 0;
-    while i < page.len() {
-        let marked = cells::byte(map, i / 3);
-        let kept = kept_byte(page[i], marked, i % 3);
-        page[i] = kept;
-        i += 1;
+    for (i, byte) in page.iter_mut().enumerate() {
+        *byte = kept_byte(*byte, cells::byte(map, i / 3), i % 3);
     }
 }
 

@@ -21,23 +21,19 @@ fn with_write(so_far: ListAnswer, answer: Answer) -> ListAnswer
     requires { (so_far.written < 64) × (so_far.cost + answer_cost answer < 4294967296) }
     ensures { result ≡ with_write so_far answer }
 {
-    let written = so_far.written;
-    let cost = so_far.cost;
     match answer {
-        Answer::Done(one) => ListAnswer {
-            written: written + 1,
-            cost: cost + one,
+        Answer::Done(cost) => ListAnswer {
+            written: so_far.written + 1,
+            cost: so_far.cost + cost,
             end: End::Done,
         },
         Answer::Spent(strip) => ListAnswer {
-            written,
-            cost,
             end: End::Spent(strip),
+            ..so_far
         },
         Answer::Refused(refusal) => ListAnswer {
-            written,
-            cost,
             end: End::Refused(refusal),
+            ..so_far
         },
     }
 }
@@ -46,11 +42,7 @@ fn with_write(so_far: ListAnswer, answer: Answer) -> ListAnswer
 fn has_ended(end: End) -> bool
     ensures { result ≡ has_ended end }
 {
-    match end {
-        End::Done => false,
-        End::Spent(_) => true,
-        End::Refused(_) => true,
-    }
+    !matches!(end, End::Done)
 }
 
 // Nothing written yet.
@@ -69,9 +61,8 @@ pub fn refused_list(refusal: Refusal) -> ListAnswer
     ensures { result ≡ refused_list refusal }
 {
     ListAnswer {
-        written: 0,
-        cost: 0,
         end: End::Refused(refusal),
+        ..none_written()
     }
 }
 
@@ -96,16 +87,13 @@ pub fn write_datas(
 {
     let whole = bytes * strips;
     let mut so_far = none_written();
-    let mut k: usize = 0;
-    while k < count {
+    for k in 0..count {
         let one = data_part(data, whole, k);
         let answer = write_strips(code, weights, bytes, strips, page, map, one);
         so_far = with_write(so_far, answer);
-        let end = so_far.end;
-        if has_ended(end) {
+        if has_ended(so_far.end) {
             return so_far;
         }
-        k += 1;
     }
     so_far
 }

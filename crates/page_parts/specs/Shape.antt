@@ -10,7 +10,7 @@ use Rattle.std.specs.Prelude.{◌≡◌, Bool, true, cond, ◌&&◌, List, [], �
 use Rattle.codes.specs.Layouts.{Layout, one_bit, byte_count, map_count}
 use Rattle.demand.specs.Jobs.{part}
 use Rattle.refusals.specs.Refusals.{one_to_64}
-use Rattle.page_parts.specs.declared.Place.{Place}
+use Rattle.std.specs.declared.ops.Range.{Range}
 
 -- L is within its limits, and the strip ends at the page's end or before it
 unfoldable pub in_page : ℕ → ℕ → List ℕ → Bool
@@ -28,7 +28,7 @@ pub record Lies (L k : ℕ) (bytes : List ℕ) (page strip : ℕ × ℕ) : Type 
   pub offset : in_page L k bytes ≡ true → strip.1 ≡ page.1 + byte_count one_bit L * k
 
 -- a place in a page of so many bytes, which is that of the strip in each such page
-pub record Found (L k size : ℕ) (r : Place) : Type 0 where
+pub record Found (L k size : ℕ) (r : Range ℕ) : Type 0 where
   pub order : r.start ≤ r.end
   pub inside : r.end ≤ size
   pub is_strip : (page : List ℕ) → length page ≡ size → take (r.end - r.start) (drop r.start page) ≡ strip_of L k page

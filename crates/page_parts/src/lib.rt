@@ -1,42 +1,25 @@
 // The parts of the caller's slices: the strips of a page, their parts of a map, and the datas of a list.
 #![tactic(auto)]
 
-ghost use Rattle.std.specs.Prelude.{◌≡◌, ◌+◌, ◌*◌, ◌<◌, ◌≤◌, min, length};
+ghost use Rattle.std.specs.Prelude.{◌≡◌, ◌+◌, ◌*◌, ◌<◌, ◌≤◌, length};
 ghost use Rattle.demand.specs.Jobs.{part};
 ghost use Rattle.page_parts.specs.Shape.{strip_of, Lies, Found, map_part};
 
-// Where a strip stands in its page.
-#[derive(Drop)]
-#[derive(Clone, Copy)]
-struct Place {
-    start: usize,
-    end: usize,
-}
+use std::ops::Range;
 
 // Where strip k stands in a page of this many bytes: nowhere, from a place to the same, where L is not from 1 to 64 or the strip lies
 // beyond the page's end.
-fn find(size: usize, bytes: usize, k: usize) -> Place
+fn find(size: usize, bytes: usize, k: usize) -> Range<usize>
     ensures { Found bytes k size result }
 {
-    if bytes < 1 {
-        return Place { start: 0, end: 0 };
-    }
-    if bytes > 64 {
-        return Place { start: 0, end: 0 };
+    if bytes < 1 || bytes > 64 {
+        return 0..0;
     }
     let n = codes::STRIP_BYTES * bytes;
-    let whole = size / n;
-    if k >= whole {
-        return Place {
-            start: size,
-            end: size,
-        };
+    if k >= size / n {
+        return size..size;
     }
-    let a = n * k;
-    Place {
-        start: a,
-        end: a + n,
-    }
+    n * k..n * k + n
 }
 
 // Strip k of the caller's page, as that part; the empty part where L is not from 1 to 64 or the strip lies beyond the page's end.
@@ -44,10 +27,7 @@ pub fn strip(page: &[u8], bytes: usize, k: usize) -> &[u8]
     ensures result_value { result.now ≡ strip_of bytes k page.now }
     ensures lies { Lies bytes k page.now page.entry.ref_ptr result.ref_ptr }
 {
-    let p = find(page.len(), bytes, k);
-    let start = p.start;
-    let end = p.end;
-    &page[start..end]
+    &page[find(page.len(), bytes, k)]
 }
 
 // Strip k of the caller's page, as that part, to be written; the empty part where there is no such strip.
@@ -55,17 +35,8 @@ pub fn strip_mut(page: &mut [u8], bytes: usize, k: usize) -> &mut [u8]
     ensures result_value { result.now ≡ strip_of bytes k page.old }
     ensures lies { Lies bytes k page.old page.entry.ref_ptr result.ref_ptr }
 {
-    let p = find(page.len(), bytes, k);
-    let start = p.start;
-    let end = p.end;
-    &mut page[start..end]
-}
-
-// The lesser of two.
-fn lesser(x: usize, y: usize) -> usize
-    ensures { result ≡ min x y }
-{
-    if x < y { x } else { y }
+    let place = find(page.len(), bytes, k);
+    &mut page[place]
 }
 
 // Strip k's part of a map of cells, which ends where the map ends: of a map with no byte it has none, and so no cell is marked.
@@ -76,9 +47,7 @@ pub fn map_part(map: &[u8], bytes: usize, k: usize) -> &[u8]
     let n = codes::MAP_BYTES * bytes;
     let at = n * k;
     let size = map.len();
-    let start = lesser(at, size);
-    let end = lesser(at + n, size);
-    &map[start..end]
+    &map[at.min(size)..(at + n).min(size)]
 }
 
 // Data number k of a list of datas of `whole` bytes each.

@@ -18,11 +18,9 @@ pub fn read_strips(code: Code, bytes: usize, strips: usize, page: &[u8], data: &
     requires { Sized one_bit bytes strips page.now «data».old }
     ensures { «data».new ≡ read_page (generators_of code) bytes strips page.now }
 {
-    let mut k: usize = 0;
-    while k < strips {
+    for k in 0..strips {
         let a = bytes * k;
         code.read_strip(strip(page, bytes, k), &mut data[a..a + bytes]);
-        k += 1;
     }
 }
 

@@ -1,7 +1,6 @@
 use mathlib.Core.Path.{◌≡◌, refl, sym, ◌∙◌, ap}
 use Prim.Native.Nat.{ℕ, ◌+◌, ◌*◌, ◌%◌, ◌^◌, ◌<◌}
 use native.Mathlib.Omega.{arith}
-use borrow.Author.Rules.{rules}
 use Rattle.cells.specs.Places.{from_bits}
 use Rattle.cells.specs.Marks.{kept_bit, kept_byte}
 use Rattle.cells.proofs.Places.{number-next, number_fits}
@@ -20,30 +19,28 @@ returns-then-marked-eq0 c =
 
 pub loop-j-init : goal.loop-j-init
 unfolding from_bits
-loop-j-init c = (search rules, refl)
+loop-j-init c = refl
 
 pub overflow_add-out : goal.overflow_add-out
 overflow_add-out c =
-    let e = next c.args.byte c.args.marked c.args.third c.loop-j.j c.loop-j.out _ (omega arith) c.loop-j.invariant.1
+    let e = next c.args.byte c.args.marked c.args.third c.loop-j.j c.loop-j.out _ (omega arith) c.loop-j.invariant
     (sym (kept_bit-marked c.args.byte c.args.marked c.args.third c.loop-j.j c.if-marked-third-eq1.true)) in
     record { fits = omega (arith, e, number_fits (c.loop-j.j + 1) 8 _ (kept_bit-bound c.args.byte c.args.marked c.args.third) (omega arith)) }
 
 pub loop-j-preserved : goal.loop-j-preserved
-loop-j-preserved c = (
-  search rules,
-  elim c.if-marked-third-eq1.branch [
-    | then-marked-third-eq1 w ↦
-        w.out-is ∙ next c.args.byte c.args.marked c.args.third c.loop-j.j c.loop-j.out _ (omega arith) c.loop-j.invariant.1
-        (sym (kept_bit-marked c.args.byte c.args.marked c.args.third c.loop-j.j w.if-marked-third-eq1.true))
-    | else-marked-third-eq1 w ↦
-        let e = next c.args.byte c.args.marked c.args.third c.loop-j.j c.loop-j.out 0 (omega arith) c.loop-j.invariant.1
-        (sym (kept_bit-other c.args.byte c.args.marked c.args.third c.loop-j.j w.if-marked-third-eq1.false)) in
-        w.out-is ∙ omega (arith, e)
-  ],
-)
+loop-j-preserved c =
+    elim c.if-marked-third-eq1.branch [
+      | then-marked-third-eq1 w ↦
+          w.out-is ∙ next c.args.byte c.args.marked c.args.third c.loop-j.j c.loop-j.out _ (omega arith) c.loop-j.invariant
+          (sym (kept_bit-marked c.args.byte c.args.marked c.args.third c.loop-j.j w.if-marked-third-eq1.true))
+      | else-marked-third-eq1 w ↦
+          let e = next c.args.byte c.args.marked c.args.third c.loop-j.j c.loop-j.out 0 (omega arith) c.loop-j.invariant
+          (sym (kept_bit-other c.args.byte c.args.marked c.args.third c.loop-j.j w.if-marked-third-eq1.false)) in
+          w.out-is ∙ omega (arith, e)
+    ]
 
 pub returns : goal.returns
 unfolding kept_byte
 returns c =
     let e : c.loop-j.j ≡ 8 = omega arith in
-    c.loop-j.invariant.1 ∙ ap (λ (n : ℕ). from_bits n (kept_bit c.args.byte c.args.marked c.args.third)) e
+    c.loop-j.invariant ∙ ap (λ (n : ℕ). from_bits n (kept_bit c.args.byte c.args.marked c.args.third)) e

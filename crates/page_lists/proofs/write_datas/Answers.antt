@@ -12,7 +12,7 @@ use Rattle.page_promises.specs.Writes.{one_bit_job, job_answer, job_page}
 use Rattle.page_answers.specs.Answers.{answer_cost}
 use Rattle.page_promises.specs.Lists.{data_of, course_after}
 use Rattle.page_promises.proofs.Lists.{with-one, not-ended}
-use Rattle.page_lists.proofs.Turns.{data-fits, data-most, count_most, turn-sized, turn-course, turn-ended, turn_below}
+use Rattle.page_lists.proofs.Turns.{data-most, count_most, turn-sized, turn-course, turn-ended, turn_below}
 use Rattle.page_lists.proofs.write_datas.Goals as goal
 
 pub overflow_mul-whole : goal.overflow_mul-whole
@@ -20,15 +20,12 @@ overflow_mul-whole c = omega (arith, data-most c.requires.listed)
 
 pub loop-k-init : goal.loop-k-init
 unfolding course_after
-loop-k-init c = rw c.none_written-so_far.ensures (refl, refl, refl, omega arith, omega arith, omega arith)
-
-pub data_part-one-requires : goal.data_part-one-requires
-data_part-one-requires c = data-fits c.requires.listed c.loop-k-test.true
+loop-k-init c = rw c.none_written-so_far.ensures (refl, refl, omega arith, omega arith)
 
 pub write_strips-answer-requires : goal.write_strips-answer-requires
 write_strips-answer-requires c =
     record {
-      sized = rw c.data_part-one.ensures (turn-sized c.requires.listed c.loop-k-test.true c.loop-k.invariant.2);
+      sized = rw c.data_part-one.ensures (turn-sized c.requires.listed c.loop-k-test.true c.loop-k.auto.page);
       dear = c.requires.dear;
     }
 
@@ -39,26 +36,20 @@ with_write-so_far-requires c =
       bytes = λ i. let h = (elem_Fits w8 w8 c.args.weights _ i c.well_formed.1.0.1.1 tt).fits in omega arith;
     }) in
     let written : let J = one_bit_job (marks_in c.args.map.now) (generators_of c.args.code) c.args.weights c.args.bytes c.args.strips c.loop-k.page (data_of c.args.bytes c.args.strips c.args.data.now c.loop-k.k) in (c.write_strips-answer.result ≡ job_answer none J) × (c.write_strips-answer.new.page ≡ job_page none J start_of) = (rw c.data_part-one.ensures at c.write_strips-answer.ensures.value, rw c.data_part-one.ensures at c.write_strips-answer.ensures.page_after) in
-    let below : answer_cost c.write_strips-answer.result ≤ 33554432 = turn_below c.requires.listed c.loop-k-test.true c.loop-k.invariant.2 (generators_of c.args.code) c.args.weights c.args.map.now c.loop-k.invariant.0 c.loop-k.invariant.1 written.0
+    let below : answer_cost c.write_strips-answer.result ≤ 33554432 = turn_below c.requires.listed c.loop-k-test.true c.loop-k.auto.page (generators_of c.args.code) c.args.weights c.args.map.now c.loop-k.invariant.0 c.loop-k.invariant.1 written.0
     written.1 suited c.requires.dear in
     let m = count_most c.requires.listed in
-    (omega (arith, c.loop-k.invariant.3, c.loop-k-test.true), omega (arith, c.loop-k.invariant.4, below, c.loop-k-test.true))
-
-pub shape_of-page-then-has_ended : goal.shape_of-page-then-has_ended
-shape_of-page-then-has_ended c = c.write_strips-answer.auto.page ∙ c.loop-k.invariant.2
+    (omega (arith, c.loop-k.invariant.2, c.loop-k-test.true), omega (arith, c.loop-k.invariant.3, below, c.loop-k-test.true))
 
 pub returns-then-has_ended : goal.returns-then-has_ended
 returns-then-has_ended c =
     let written : let J = one_bit_job (marks_in c.args.map.now) (generators_of c.args.code) c.args.weights c.args.bytes c.args.strips c.loop-k.page (data_of c.args.bytes c.args.strips c.args.data.now c.loop-k.k) in (c.write_strips-answer.result ≡ job_answer none J) × (c.write_strips-answer.new.page ≡ job_page none J start_of) = (rw c.data_part-one.ensures at c.write_strips-answer.ensures.value, rw c.data_part-one.ensures at c.write_strips-answer.ensures.page_after) in
-    let e = turn-ended c.requires.listed c.loop-k-test.true c.loop-k.invariant.2 (generators_of c.args.code) c.args.weights c.args.map.now c.loop-k.invariant.0 c.loop-k.invariant.1
+    let e = turn-ended c.requires.listed c.loop-k-test.true c.loop-k.auto.page (generators_of c.args.code) c.args.weights c.args.map.now c.loop-k.invariant.0 c.loop-k.invariant.1
     written.0 written.1 c.with_write-so_far.ensures (sym c.has_ended.ensures ∙ c.if-has_ended.true) in
     rw e record {
       value = refl;
       page_after = refl;
     }
-
-pub overflow_add-k : goal.overflow_add-k
-overflow_add-k c = omega (arith, c.loop-k-test.true, count_most c.requires.listed)
 
 pub loop-k-preserved : goal.loop-k-preserved
 loop-k-preserved c =
@@ -67,25 +58,12 @@ loop-k-preserved c =
       three = c.well_formed.1.0.1.0.1;
       bytes = λ i. let h = (elem_Fits w8 w8 c.args.weights _ i c.well_formed.1.0.1.1 tt).fits in omega arith;
     }) in
-    let below : answer_cost c.write_strips-answer.result ≤ 33554432 = turn_below c.requires.listed c.loop-k-test.true c.loop-k.invariant.2 (generators_of c.args.code) c.args.weights c.args.map.now c.loop-k.invariant.0 c.loop-k.invariant.1 written.0
+    let below : answer_cost c.write_strips-answer.result ≤ 33554432 = turn_below c.requires.listed c.loop-k-test.true c.loop-k.auto.page (generators_of c.args.code) c.args.weights c.args.map.now c.loop-k.invariant.0 c.loop-k.invariant.1 written.0
     written.1 suited c.requires.dear in
     let o = with-one c.loop-k.so_far c.write_strips-answer.result in (
-      turn-course c.requires.listed c.loop-k-test.true c.loop-k.invariant.2 (generators_of c.args.code) c.args.weights c.args.map.now c.loop-k.invariant.0 c.loop-k.invariant.1
+      turn-course c.requires.listed c.loop-k-test.true c.loop-k.auto.page (generators_of c.args.code) c.args.weights c.args.map.now c.loop-k.invariant.0 c.loop-k.invariant.1
           written.0 written.1 c.with_write-so_far.ensures,
       not-ended _ (sym c.has_ended.ensures ∙ c.if-has_ended.false),
-      c.write_strips-answer.auto.page ∙ c.loop-k.invariant.2,
-      rw c.with_write-so_far.ensures (omega (arith, o.0, c.loop-k.invariant.3)),
-      rw c.with_write-so_far.ensures (omega (arith, o.1, below, c.loop-k.invariant.4)),
-      omega (arith, c.loop-k-test.true),
+      rw c.with_write-so_far.ensures (omega (arith, o.0, c.loop-k.invariant.2)),
+      rw c.with_write-so_far.ensures (omega (arith, o.1, below, c.loop-k.invariant.3)),
     )
-
-pub shape_of-page : goal.shape_of-page
-shape_of-page c = c.loop-k.invariant.2
-
-pub returns : goal.returns
-returns c =
-    let z : c.args.count ≡ c.loop-k.k = omega (arith, c.loop-k.invariant.5, c.loop-k-test.false) in
-    rw (z, c.loop-k.invariant.0) record {
-      value = refl;
-      page_after = refl;
-    }

@@ -1,7 +1,6 @@
 -- The invariant: the course of the first k datas has not ended; it is the page as it is and the answer so far.
 use mathlib.Core.Path.{◌≡◌}
-use Prim.Native.Nat.{◌≤◌, ◌*◌, ◌-◌}
-use lib.ListN.{length}
+use Prim.Native.Nat.{◌≤◌, ◌*◌}
 use Rattle.cells.specs.Marks.{marks_in}
 use Rattle.codes.specs.Codes.{generators_of}
 use Rattle.page_promises.specs.Lists.{job_course}
@@ -12,10 +11,5 @@ abbrev pub invariant-loop-k : goal.invariant-loop-k
 invariant-loop-k l =
     (job_course (marks_in l.map) (generators_of l.code) l.weights l.bytes l.strips l.k l.initial.page l.data ≡ record { page = l.page; answer = l.so_far })
     × (l.so_far.end ≡ E.Done)
-    × (length l.page ≡ length l.initial.page)
     × (l.so_far.written ≤ l.k)
     × (l.so_far.cost ≤ 33554432 * l.k)
-    × (l.k ≤ l.count)
-
-abbrev pub decreases-loop-k : goal.decreases-loop-k
-decreases-loop-k l = l.count - l.k

@@ -13,6 +13,7 @@ use Rattle.refusals.proofs.Refusals.{limits-in, limits-below, limits-above}
 use Rattle.page_parts.specs.Shape.{in_page, Found}
 use Rattle.page_parts.proofs.Strips.{part-ends, outside, beyond, strip-none, strip-inside}
 use Rattle.page_parts.proofs.find.Goals as goal
+use Rattle.page_parts.proofs.find.Goals.{then-bytes-lt1-via-then-bytes-lt1, then-bytes-lt1-via-else-bytes-lt1+then-bytes-gt64}
 
 -- where the strip does not lie in the page, the place is empty, wherever it is
 empty : (L k size at : ℕ) → at ≤ size → ((page : List ℕ) → length page ≡ size → in_page L k page ≡ false) → Found L k size (record { start = at; end = at })
@@ -25,33 +26,23 @@ empty L k size at h e = record {
 
 pub returns-then-bytes-lt1 : goal.returns-then-bytes-lt1
 returns-then-bytes-lt1 c =
-    empty _ _ _ 0 (omega arith) (λ page e. outside _ _ page (limits-below _ c.if-bytes-lt1.true))
+    elim c.then-bytes-lt1.branch [
+      | then-bytes-lt1-via-then-bytes-lt1 w ↦ empty _ _ _ 0 (omega arith) (λ page e. outside _ _ page (limits-below _ w.if-bytes-lt1.true))
+      | then-bytes-lt1-via-else-bytes-lt1+then-bytes-gt64 w ↦
+          empty _ _ _ 0 (omega arith) (λ page e. outside _ _ page (limits-above _ w.if-bytes-gt64.true))
+    ]
 
-pub returns-then-bytes-gt64 : goal.returns-then-bytes-gt64
-returns-then-bytes-gt64 c =
-    empty _ _ _ 0 (omega arith) (λ page e. outside _ _ page (limits-above _ c.if-bytes-gt64.true))
-
-pub returns-then-k-whole : goal.returns-then-k-whole
-returns-then-k-whole c =
-    let bytes_in : one_to_64 c.args.bytes ≡ true = limits-in _ c.if-bytes-lt1.false c.if-bytes-gt64.false in
+pub returns-then-k-size : goal.returns-then-k-size
+returns-then-k-size c =
+    let bytes_in : one_to_64 c.args.bytes ≡ true = limits-in _ (omega arith) (omega arith) in
     empty _ _ _ _ (omega arith)
-    (λ page e. beyond _ _ page bytes_in (rw (e, one_bit-bytes c.args.bytes) c.if-k-whole.true))
-
-pub overflow_mul-a : goal.overflow_mul-a
-overflow_mul-a c =
-    let fit : 6 * c.args.bytes * c.args.k + 6 * c.args.bytes ≤ c.args.size = part-ends _ _ _ c.if-k-whole.false in
-    omega (arith, fit)
-
-pub overflow_add-result : goal.overflow_add-result
-overflow_add-result c =
-    let fit : 6 * c.args.bytes * c.args.k + 6 * c.args.bytes ≤ c.args.size = part-ends _ _ _ c.if-k-whole.false in
-    omega (arith, fit)
+    (λ page e. beyond _ _ page bytes_in (rw (e, one_bit-bytes c.args.bytes) c.if-k-size.true))
 
 pub returns : goal.returns
 unfolding part
 returns c =
-    let bytes_in : one_to_64 c.args.bytes ≡ true = limits-in _ c.if-bytes-lt1.false c.if-bytes-gt64.false in
-    let fit : 6 * c.args.bytes * c.args.k + 6 * c.args.bytes ≤ c.args.size = part-ends _ _ _ c.if-k-whole.false in
+    let bytes_in : one_to_64 c.args.bytes ≡ true = limits-in _ (omega arith) (omega arith) in
+    let fit : 6 * c.args.bytes * c.args.k + 6 * c.args.bytes ≤ c.args.size = part-ends _ _ _ c.if-k-size.false in
     record {
       order = omega arith;
       inside = fit;

@@ -6,17 +6,7 @@ use Rattle.codes.proofs.Layouts.{one_bit-map}
 use Rattle.page_parts.proofs.Strips.{part_cut}
 use Rattle.page_parts.proofs.map_part.Goals as goal
 
-pub overflow_mul-at : goal.overflow_mul-at
-overflow_mul-at c =
-    let most : 2 * c.args.bytes * c.args.k ≤ 128 * 64 = mul-le-mul {n₁ = 2 * c.args.bytes} {m₁ = c.args.k} {n₂ = 128} {m₂ = 64} (omega (arith, c.requires.0)) (omega (arith, c.requires.1)) in
-    omega (arith, most)
-
-pub overflow_add-at : goal.overflow_add-at
-overflow_add-at c =
-    let most : 2 * c.args.bytes * c.args.k ≤ 128 * 64 = mul-le-mul {n₁ = 2 * c.args.bytes} {m₁ = c.args.k} {n₂ = 128} {m₂ = 64} (omega (arith, c.requires.0)) (omega (arith, c.requires.1)) in
-    omega (arith, most)
-
 pub returns : goal.returns
 returns c =
-    rw (c.lesser-end.ensures, c.lesser-start.ensures, one_bit-map c.args.bytes)
+    rw (c.min-2.ensures, c.min.ensures, one_bit-map c.args.bytes)
     (part_cut (2 * c.args.bytes) c.args.k c.args.map.now)

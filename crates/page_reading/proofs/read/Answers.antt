@@ -11,21 +11,3 @@ pub read_strips-requires : goal.read_strips-requires
 read_strips-requires c =
     let ground-none : ground c.args.code c.args.bytes c.args.strips (length c.args.page.now) (length c.args.data.now) ≡ none = done_none _ (sym c.judge_read-judged.ensures ∙ c.in-Done.is) in
     sized-by _ _ _ _ (in_order _ _ _ _ _ ground-none)
-
-pub returns-in-Done : goal.returns-in-Done
-returns-in-Done c =
-    let ground-none : ground c.args.code c.args.bytes c.args.strips (length c.args.page.now) (length c.args.data.now) ≡ none = done_none _ (sym c.judge_read-judged.ensures ∙ c.in-Done.is) in
-    record {
-      value = c.judge_read-judged.ensures;
-      data_after = rw (ground-none, ← c.code_of.ensures)
-          c.read_strips.ensures;
-    }
-
-pub returns-in-Refused : goal.returns-in-Refused
-returns-in-Refused c =
-    let e = refused-some (ground c.args.code c.args.bytes c.args.strips (length c.args.page.now) (length c.args.data.now))
-    (rw c.judge_read-judged.ensures at c.in-Refused.is) in
-    record {
-      value = c.judge_read-judged.ensures;
-      data_after = rw e;
-    }

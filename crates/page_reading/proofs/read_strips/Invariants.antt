@@ -1,7 +1,6 @@
--- The invariant: each of the first k parts of the buffer is what its strip reads as, and the buffer is as long as it came.
+-- The invariant: each of the first k parts of the buffer is what its strip reads as.
 use mathlib.Core.Path.{◌≡◌}
-use Prim.Native.Nat.{ℕ, ◌<◌, ◌≤◌, ◌-◌}
-use lib.ListN.{length}
+use Prim.Native.Nat.{ℕ, ◌<◌}
 use Rattle.codes.specs.Codes.{generators_of}
 use Rattle.codes.specs.Reading.{read_strip}
 use Rattle.codes.specs.Layouts.{one_bit}
@@ -11,9 +10,4 @@ use Rattle.page_reading.proofs.read_strips.Given as goal
 
 abbrev pub invariant-loop-k : goal.invariant-loop-k
 invariant-loop-k l =
-    (length l.data ≡ length l.initial.data)
-    × (l.k ≤ l.strips)
-    × ((j : ℕ) → j < l.k → part l.bytes j l.data ≡ read_strip one_bit (generators_of l.code) l.bytes (strip_part l.bytes j l.page))
-
-abbrev pub decreases-loop-k : goal.decreases-loop-k
-decreases-loop-k l = l.strips - l.k
+    (j : ℕ) → j < l.k → part l.bytes j l.data ≡ read_strip one_bit (generators_of l.code) l.bytes (strip_part l.bytes j l.page)
