@@ -16,8 +16,9 @@ fn live_page(block: &[u8]) -> u32
     ensures { result ≡ live_of block.now }
 {
     let mut number = [0u8; 1];
-    read(3, 1, 1, &block[0..codes::STRIP_BYTES], &mut number);
-    cells::byte(&number, 0)
+    // with that much of the block no ground applies, so the answer is done
+    let _ = read(3, 1, 1, &block[..codes::STRIP_BYTES], &mut number);
+    u32::from(number[0])
 }
 
 // Fills a buffer of L·S bytes with what the live page reads as.
@@ -33,15 +34,9 @@ pub fn get(
     ensures data_after { «data».new ≡ kept (ground_of_get code bytes strips pages block.now (length «data».old))
         (live_page code bytes strips block.now) «data».old }
 {
-    let judged = judge_put(code, bytes, strips, pages, block.len(), data.len());
-    let Completion::Done = judged else {
-        return judged;
-    };
+    judge_put(code, bytes, strips, pages, block.len(), data.len())?;
     let live = live_page(block);
-    let found = judge_live(pages, live);
-    let Completion::Done = found else {
-        return found;
-    };
+    judge_live(pages, live)?;
     let a = page_start(bytes, strips, live);
     let n = page_size(bytes, strips);
     read(code, bytes, strips, &block[a..a + n], data)
@@ -53,12 +48,7 @@ pub fn erase(bytes: u32, strips: u32, pages: u32, block: &mut [u8], tenths: i16)
     ensures block_after { block.new ≡ kept (block_erasing bytes strips pages (length block.old) tenths)
         (replicate (length block.old) 0) block.old }
 {
-    let judged = judge_block_erase(bytes, strips, pages, block.len(), tenths);
-    match judged {
-        Completion::Done => {
-            clear(block);
-            judged
-        }
-        Completion::Refused(_) => judged,
-    }
+    judge_block_erase(bytes, strips, pages, block.len(), tenths)?;
+    clear(block);
+    Ok(())
 }

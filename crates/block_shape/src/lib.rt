@@ -6,9 +6,7 @@ ghost use Rattle.std.proofs.Math.Option.{none};
 ghost use Rattle.refusals.specs.Refusals.{limits_ground, page_bytes, directory_size, pages_ground, block_ground, put_ground, live_ground};
 ghost use Rattle.refusals.specs.Refusals.{block_erasing, completion_of};
 
-use refusals::{
-    Completion, Count, Refusal, earlier, judge_data, judge_limits, judge_sizes, judge_tenths,
-};
+use refusals::{Completion, Refusal, judge_data, judge_limits, judge_sizes, judge_tenths};
 
 // The bytes of a page.
 pub fn page_size(bytes: u32, strips: u32) -> usize
@@ -30,13 +28,10 @@ pub fn page_start(bytes: u32, strips: u32, k: u32) -> usize
 fn judge_pages(pages: u32) -> Completion
     ensures { result ≡ completion_of (pages_ground pages) }
 {
-    if pages < 2 {
-        return Completion::Refused(Refusal::PagesOutside);
+    if pages < 2 || 16 < pages {
+        return Err(Refusal::PagesOutside);
     }
-    if pages > 16 {
-        return Completion::Refused(Refusal::PagesOutside);
-    }
-    Completion::Done
+    Ok(())
 }
 
 // Judges the block's length, where L and S are within their limits: it ends where a page behind its last would begin.
@@ -45,9 +40,9 @@ fn judge_block(bytes: u32, strips: u32, pages: u32, block: usize) -> Completion
     ensures { result ≡ completion_of (block_ground bytes strips pages block) }
 {
     if block != page_start(bytes, strips, pages) {
-        return Completion::Refused(Refusal::PageLength);
+        return Err(Refusal::PageLength);
     }
-    Completion::Done
+    Ok(())
 }
 
 // Judges what a put is given, and a get: the code, L and S, then the number of pages and both lengths.
@@ -61,15 +56,10 @@ pub fn judge_put(
 ) -> Completion
     ensures { result ≡ completion_of (put_ground code bytes strips pages block «data») }
 {
-    let of_sizes = judge_sizes(code, bytes, strips);
-    let of_pages = judge_pages(pages);
-    let shape = earlier(of_sizes, of_pages);
-    let Completion::Done = shape else {
-        return shape;
-    };
-    let of_block = judge_block(bytes, strips, pages, block);
-    let of_data = judge_data(bytes, strips, Count::One, data);
-    earlier(of_block, of_data)
+    judge_sizes(code, bytes, strips)?;
+    judge_pages(pages)?;
+    judge_block(bytes, strips, pages, block)?;
+    judge_data(bytes, strips, None, data)
 }
 
 // Judges the number that the directory reads as.
@@ -77,9 +67,9 @@ pub fn judge_live(pages: u32, live: u32) -> Completion
     ensures { result ≡ completion_of (live_ground pages live) }
 {
     if live < pages {
-        return Completion::Done;
+        return Ok(());
     }
-    Completion::Refused(Refusal::PageMissing)
+    Err(Refusal::PageMissing)
 }
 
 // Judges what the erase of a block is given: L and S, then the number of pages, the block's length and the temperature.
@@ -92,12 +82,8 @@ pub fn judge_block_erase(
 ) -> Completion
     ensures { result ≡ completion_of (block_erasing bytes strips pages block tenths) }
 {
-    let limits = judge_limits(bytes, strips);
-    let Completion::Done = limits else {
-        return limits;
-    };
-    let of_pages = judge_pages(pages);
-    let of_block = judge_block(bytes, strips, pages, block);
-    let of_tenths = judge_tenths(tenths);
-    earlier(of_pages, earlier(of_block, of_tenths))
+    judge_limits(bytes, strips)?;
+    judge_pages(pages)?;
+    judge_block(bytes, strips, pages, block)?;
+    judge_tenths(tenths)
 }

@@ -7,7 +7,7 @@ ghost use Rattle.cells.specs.Marks.{marks_in, emptied, kept_byte};
 ghost use Rattle.refusals.specs.Refusals.{shape_ground, erase_ground, erasing_ground, first_of, completion_of, kept};
 
 use judges::judge_erase;
-use refusals::{Completion, Map};
+use refusals::Completion;
 
 // Makes every byte 0.
 pub fn clear(page: &mut [u8])
@@ -49,14 +49,9 @@ pub fn erase(bytes: u32, strips: u32, page: &mut [u8], tenths: i16) -> Completio
     ensures page_after { page.new ≡ kept (first_of (shape_ground bytes strips (length page.old)) (erase_ground tenths))
         (replicate (length page.old) 0) page.old }
 {
-    let judged = judge_erase(bytes, strips, page.len(), Map::Nothing, tenths);
-    match judged {
-        Completion::Done => {
-            clear(page);
-            judged
-        }
-        Completion::Refused(_) => judged,
-    }
+    judge_erase(bytes, strips, page.len(), None, tenths)?;
+    clear(page);
+    Ok(())
 }
 
 // Empties every cell that the map does not mark, at a temperature from 50 to 400 tenths of a degree; the bits of the others stay.
@@ -66,12 +61,7 @@ pub fn erase_mapped(bytes: u32, strips: u32, page: &mut [u8], map: &[u8], tenths
     ensures page_after { page.new ≡ kept (erasing_ground (some (length map.now)) bytes strips (length page.old)
         tenths) (emptied (marks_in map.now) page.old) page.old }
 {
-    let judged = judge_erase(bytes, strips, page.len(), Map::Length(map.len()), tenths);
-    match judged {
-        Completion::Done => {
-            empty_unmarked(page, map);
-            judged
-        }
-        Completion::Refused(_) => judged,
-    }
+    judge_erase(bytes, strips, page.len(), Some(map.len()), tenths)?;
+    empty_unmarked(page, map);
+    Ok(())
 }

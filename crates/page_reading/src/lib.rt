@@ -30,12 +30,7 @@ pub fn read(code: u32, bytes: u32, strips: u32, page: &[u8], data: &mut [u8]) ->
     ensures data_after { «data».new ≡ kept (ground code bytes strips (length page.now) (length «data».old))
         (read_page (numbered code) bytes strips page.now) «data».old }
 {
-    let judged = judge_read(code, bytes, strips, page.len(), data.len());
-    match judged {
-        Completion::Done => {
-            read_strips(code_of(code), bytes as usize, strips as usize, page, data);
-            judged
-        }
-        Completion::Refused(_) => judged,
-    }
+    judge_read(code, bytes, strips, page.len(), data.len())?;
+    read_strips(code_of(code), bytes as usize, strips as usize, page, data);
+    Ok(())
 }

@@ -1,28 +1,24 @@
--- The judge's answer is the ground's: with none, every byte is 0; with a refusal nothing is done.
-use mathlib.Core.Path.{◌≡◌, sym, ◌∙◌}
+-- The judge's answer is the ground's: with a refusal nothing is done; with none, every byte is 0.
+use mathlib.Core.Path.{◌≡◌, refl, sym, ◌∙◌}
 use mir.Syntax.{w16}
 use mir.ValLaws.{to_z-of_z}
 use lib.ListN.{length}
 use Rattle.refusals.specs.Refusals.{block_erasing, completion_of}
-use Rattle.refusals.proofs.Refusals.{done_none, refused-some}
+use Rattle.refusals.proofs.Refusals.{done_none, refused-some, handed}
 use Rattle.block_reading.proofs.erase.Goals as goal
 
-pub returns-in-Done : goal.returns-in-Done
-returns-in-Done c =
-    let judged : c.judge_block_erase-judged.result ≡ completion_of (block_erasing c.args.bytes c.args.strips c.args.pages (length c.args.block.now) c.args.tenths) = rw (to_z-of_z w16 c.args.tenths c.ranges.tenths) at c.judge_block_erase-judged.ensures in
-    let e = done_none (block_erasing c.args.bytes c.args.strips c.args.pages (length c.args.block.now) c.args.tenths)
-    (sym judged ∙ c.in-Done.is) in
+pub returns-in_err-judge_block_erase : goal.returns-in_err-judge_block_erase
+returns-in_err-judge_block_erase c =
+    let g = block_erasing c.args.bytes c.args.strips c.args.pages (length c.args.block.now) c.args.tenths in
+    let judged : c.judge_block_erase.result ≡ completion_of g = rw (to_z-of_z w16 c.args.tenths c.ranges.tenths) at c.judge_block_erase.ensures in
     record {
-      value = judged;
-      block_after = rw e c.clear.ensures;
+      value = handed g _ judged c.in_err-judge_block_erase.was c.from_residual.ensures.1;
+      block_after = rw (refused-some g (sym judged ∙ c.in_err-judge_block_erase.was)) refl;
     }
 
-pub returns-in-Refused : goal.returns-in-Refused
-returns-in-Refused c =
-    let judged : c.judge_block_erase-judged.result ≡ completion_of (block_erasing c.args.bytes c.args.strips c.args.pages (length c.args.block.now) c.args.tenths) = rw (to_z-of_z w16 c.args.tenths c.ranges.tenths) at c.judge_block_erase-judged.ensures in
-    let e = refused-some (block_erasing c.args.bytes c.args.strips c.args.pages (length c.args.block.now) c.args.tenths)
-    (sym judged ∙ c.in-Refused.is) in
-    record {
-      value = judged;
-      block_after = rw e;
-    }
+pub returns : goal.returns
+returns c =
+    let g = block_erasing c.args.bytes c.args.strips c.args.pages (length c.args.block.now) c.args.tenths in
+    let judged : c.judge_block_erase.result ≡ completion_of g = rw (to_z-of_z w16 c.args.tenths c.ranges.tenths) at c.judge_block_erase.ensures in
+    let done = sym c.in_ok-judge_block_erase.was ∙ judged in
+    record { value = done; block_after = rw (done_none g (sym done)) c.clear.ensures }

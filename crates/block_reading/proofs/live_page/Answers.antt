@@ -10,5 +10,4 @@ use Rattle.block_reading.proofs.live_page.Goals as goal
 pub returns : goal.returns
 unfolding live_of
 returns c =
-    c.byte.ensures.0
-    ∙ ap (λ (l : List ℕ). get_or l 0 0) (rw (directory-reads c.args.block.now c.requires) at c.read.ensures.data_after)
+    c.from.ensures ∙ ap (λ (l : List ℕ). get_or l 0 0) (rw (directory-reads c.args.block.now c.requires) at c.read.ensures.data_after)

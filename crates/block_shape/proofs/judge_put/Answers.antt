@@ -1,51 +1,42 @@
 -- The sizes and the number of pages, then the block's length and the data's: the grounds in the same order.
-use mathlib.Core.Path.{◌≡◌, refl, sym, ◌∙◌, ap}
-use mathlib.Core.Option.{Option, none, some}
-use Rattle.refusals.specs.Refusals.{first_of, limits_ground, sizes_ground, pages_ground, block_ground, datas_ground, put_ground, completion_of}
-use Rattle.refusals.specs.declared.Refusal.{Refusal}
-use Rattle.refusals.proofs.Refusals.{done_none, done_next, refused-first, sizes-limits}
+use mathlib.Core.Path.{sym, ◌∙◌}
+use Rattle.refusals.specs.Refusals.{sizes_ground, pages_ground, block_ground, put_ground}
+use Rattle.refusals.proofs.Refusals.{done_none, done_next, handed-on, sizes-limits}
 use Rattle.block_shape.proofs.judge_put.Goals as goal
 
--- of three grounds, the first that applies
-grouped : (g h k : Option Refusal) → first_of (first_of g h) k ≡ first_of g (first_of h k)
-grouped none h k = refl
-grouped (some r) h k = refl
-
--- where neither of two applies, the first does not
-first-none : (g h : Option Refusal) → first_of g h ≡ none → g ≡ none
-first-none none h e = refl
-first-none (some r) h e = e
-
-pub returns-in_default : goal.returns-in_default
+pub returns-in_err-judge_sizes : goal.returns-in_err-judge_sizes
 unfolding put_ground
-returns-in_default c =
-    refused-first (first_of (sizes_ground c.args.code c.args.bytes c.args.strips) (pages_ground c.args.pages)) _ c.earlier-shape.result
-    (c.earlier-shape.ensures (sizes_ground c.args.code c.args.bytes c.args.strips) (pages_ground c.args.pages) c.judge_sizes-of_sizes.ensures
-    c.judge_pages-of_pages.ensures) c.in_default.is
-    ∙ ap completion_of (grouped (sizes_ground c.args.code c.args.bytes c.args.strips) (pages_ground c.args.pages) _)
+returns-in_err-judge_sizes c =
+    handed-on (sizes_ground c.args.code c.args.bytes c.args.strips) _ c.judge_sizes.result _ c.judge_sizes.ensures c.in_err-judge_sizes.was
+    c.from_residual.ensures.1
 
-pub judge_block-of_block-requires : goal.judge_block-of_block-requires
-judge_block-of_block-requires c =
-    let judged : c.earlier-shape.result ≡ completion_of (first_of (sizes_ground c.args.code c.args.bytes c.args.strips) (pages_ground c.args.pages)) = c.earlier-shape.ensures (sizes_ground c.args.code c.args.bytes c.args.strips) (pages_ground c.args.pages) c.judge_sizes-of_sizes.ensures
-    c.judge_pages-of_pages.ensures in
-    let limits : limits_ground c.args.bytes c.args.strips ≡ none = sizes-limits c.args.code c.args.bytes c.args.strips (first-none _ (pages_ground c.args.pages)
-    (done_none _ (sym judged ∙ c.in-Done.is))) in
-    limits
+pub returns-in_err-judge_pages : goal.returns-in_err-judge_pages
+unfolding put_ground
+returns-in_err-judge_pages c =
+    done_next (sizes_ground c.args.code c.args.bytes c.args.strips) _ c.judge_sizes.ensures c.in_ok-judge_sizes.was
+    (handed-on (pages_ground c.args.pages) _ c.judge_pages.result _ c.judge_pages.ensures c.in_err-judge_pages.was
+    c.from_residual-in_err-judge_pages.ensures.1)
 
-pub judge_data-of_data-requires : goal.judge_data-of_data-requires
-judge_data-of_data-requires c =
-    let judged : c.earlier-shape.result ≡ completion_of (first_of (sizes_ground c.args.code c.args.bytes c.args.strips) (pages_ground c.args.pages)) = c.earlier-shape.ensures (sizes_ground c.args.code c.args.bytes c.args.strips) (pages_ground c.args.pages) c.judge_sizes-of_sizes.ensures
-    c.judge_pages-of_pages.ensures in
-    let limits : limits_ground c.args.bytes c.args.strips ≡ none = sizes-limits c.args.code c.args.bytes c.args.strips (first-none _ (pages_ground c.args.pages)
-    (done_none _ (sym judged ∙ c.in-Done.is))) in
-    limits
+pub judge_block-requires : goal.judge_block-requires
+judge_block-requires c =
+    sizes-limits c.args.code c.args.bytes c.args.strips (done_none _ (sym c.judge_sizes.ensures ∙ c.in_ok-judge_sizes.was))
+
+pub returns-in_err-judge_block : goal.returns-in_err-judge_block
+unfolding put_ground
+returns-in_err-judge_block c =
+    done_next (sizes_ground c.args.code c.args.bytes c.args.strips) _ c.judge_sizes.ensures c.in_ok-judge_sizes.was
+    (done_next (pages_ground c.args.pages) _ c.judge_pages.ensures c.in_ok-judge_pages.was
+    (handed-on (block_ground c.args.bytes c.args.strips c.args.pages c.args.block) _ c.judge_block.result _ c.judge_block.ensures
+    c.in_err-judge_block.was c.from_residual-in_err-judge_block.ensures.1))
+
+pub judge_data-requires : goal.judge_data-requires
+judge_data-requires c =
+    sizes-limits c.args.code c.args.bytes c.args.strips (done_none _ (sym c.judge_sizes.ensures ∙ c.in_ok-judge_sizes.was))
 
 pub returns : goal.returns
 unfolding put_ground
 returns c =
-    let judged : c.earlier-shape.result ≡ completion_of (first_of (sizes_ground c.args.code c.args.bytes c.args.strips) (pages_ground c.args.pages)) = c.earlier-shape.ensures (sizes_ground c.args.code c.args.bytes c.args.strips) (pages_ground c.args.pages) c.judge_sizes-of_sizes.ensures
-    c.judge_pages-of_pages.ensures in
-    done_next (first_of (sizes_ground c.args.code c.args.bytes c.args.strips) (pages_ground c.args.pages)) _ judged c.in-Done.is
-    (c.earlier.ensures (block_ground c.args.bytes c.args.strips c.args.pages c.args.block) (datas_ground none c.args.bytes c.args.strips c.args.data)
-    c.judge_block-of_block.ensures c.judge_data-of_data.ensures)
-    ∙ ap completion_of (grouped (sizes_ground c.args.code c.args.bytes c.args.strips) (pages_ground c.args.pages) _)
+    done_next (sizes_ground c.args.code c.args.bytes c.args.strips) _ c.judge_sizes.ensures c.in_ok-judge_sizes.was
+    (done_next (pages_ground c.args.pages) _ c.judge_pages.ensures c.in_ok-judge_pages.was
+    (done_next (block_ground c.args.bytes c.args.strips c.args.pages c.args.block) _ c.judge_block.ensures c.in_ok-judge_block.was
+    c.judge_data.ensures))
