@@ -14,7 +14,7 @@ pub returns-then-data-one : goal.returns-then-data-one
 unfolding datas_ground
 returns-then-data-one c =
     rw c.in-None.is
-    (simp (ne_eqb c.args.data (c.args.bytes * c.args.strips) c.if-data-one.true))
+    (simp (ne_eqb c.args.data (c.args.bytes * c.args.strips) (λ e. let z : ⊥ = omega arith in z)))
 
 pub overflow_mul-n : goal.overflow_mul-n
 overflow_mul-n c =
@@ -26,7 +26,7 @@ overflow_mul-n c =
 
 pub returns-then-data-n : goal.returns-then-data-n
 unfolding datas_ground
-returns-then-data-n c = rw c.in-Some.is (simp (ne_eqb c.args.data (c.in-Some.n * (c.args.bytes * c.args.strips)) c.if-data-n.true))
+returns-then-data-n c = rw c.in-Some.is (simp (ne_eqb c.args.data (c.in-Some.n * (c.args.bytes * c.args.strips)) (λ e. let z : ⊥ = omega arith in z)))
 
 pub returns-else-data-one : goal.returns-else-data-one
 unfolding datas_ground
