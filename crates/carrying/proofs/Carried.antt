@@ -2,6 +2,7 @@
 --   carried_below               the levels to reach where the cells before cell m are carried out
 --   carried_none                before the first cell the strip is as it was
 --   left-bits                   before block q is carried out, its bits are as they were
+--   with-stored                 a strip with 48 bits in a block has six bytes stored there
 --   carried-block               one block more is carried out where its cells show what is wanted of them
 --   carried-all                 past the last cell all are carried out
 --   digits-window               the window of eight digits is their byte
@@ -97,7 +98,7 @@ module _ (strip : List ℕ) where
       ∙ sym (raised_byte to' i h)
 
 -- A STRIP WITH 48 BITS in block q has six bytes stored there
-with-stored : (strip : List ℕ) (q bits : ℕ) → with_bits strip q bits ≡ stored strip (6 * q) (byte_in bits) 6
+pub with-stored : (strip : List ℕ) (q bits : ℕ) → with_bits strip q bits ≡ stored strip (6 * q) (byte_in bits) 6
 unfolding with_bits stored
 with-stored strip q bits = let e : 6 * q + 0 ≡ 6 * q = omega arith in rw e
 

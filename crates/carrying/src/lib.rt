@@ -60,7 +60,9 @@ fn put_bits(strip: &mut [u8], q: usize, bits: u64)
     requires { (6 * q + 6 ≤ length strip.old) × (q < 64) }
     ensures { strip.new ≡ with_bits strip.old q bits }
 {
-    strip[6 * q..6 * q + 6].copy_from_slice(&bits.to_le_bytes()[..6]);
+    for k in 0..6 {
+        strip[6 * q + k] = ((bits >> (8 * k)) % 256) as u8;
+    }
 }
 
 // Carries the digits out: each cell that does not show the bit that they want is raised by one.

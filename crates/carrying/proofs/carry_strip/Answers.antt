@@ -74,9 +74,6 @@ loop-q-preserved c =
           (omega (arith, c.requires.digits_are, c.loop-q-test.true)),
     )
 
-pub shape_of-strip : goal.shape_of-strip
-shape_of-strip c = ap length c.loop-q.invariant.4 ∙ raised_to-length start_of c.args.strip.now _
-
 pub returns : goal.returns
 returns c =
     let n : ℕ = length c.args.data.now in

@@ -1,8 +1,6 @@
 -- `shown_bits` meets its contract by the law of a block so made, since its constants are those words. Its raises are 48 bits, so seven
 -- times them fit a number of 64.
 use native.Mathlib.Omega.{arith}
-use native.Mathlib.Nat.{lt_of_le_of_lt}
-use lib.Bits.{and_le_l}
 use Rattle.rows.specs.Rows.{packed_of}
 use Rattle.carrying.proofs.Shown.{raises-less, shown-cells}
 use Rattle.carrying.proofs.shown_bits.Goals as goal
@@ -10,12 +8,6 @@ use Rattle.carrying.proofs.shown_bits.Goals as goal
 pub overflow_mul-first : goal.overflow_mul-first
 unfolding packed_of
 overflow_mul-first c = record { fits = omega (arith, raises-less c.args.bits c.args.wanted c.requires.1) }
-
-pub onward-second-requires : goal.onward-second-requires
-onward-second-requires c = lt_of_le_of_lt (and_le_l c.args.bits _) c.requires.0
-
-pub onward-third-requires : goal.onward-third-requires
-onward-third-requires c = lt_of_le_of_lt (and_le_l c.args.bits _) c.requires.0
 
 pub returns : goal.returns
 unfolding packed_of

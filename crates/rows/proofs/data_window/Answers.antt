@@ -6,9 +6,6 @@ use Rattle.codes.proofs.Taps.{window-less}
 use Rattle.rows.proofs.Labels.{byte-window}
 use Rattle.rows.proofs.data_window.Goals as goal
 
-pub overflow_cast-data : goal.overflow_cast-data
-overflow_cast-data c = omega (arith, c.type_inv.data c.args.q)
-
 pub returns : goal.returns
 returns c =
     let e = byte-window c.args.data.now c.args.q c.window.ensures in
