@@ -60,6 +60,7 @@ fn put_bits(strip: &mut [u8], q: usize, bits: u64)
     requires { (6 * q + 6 ≤ length strip.old) × (q < 64) }
     ensures { strip.new ≡ with_bits strip.old q bits }
 {
+    // Not by `copy_from_slice`, which tests/mir.py cannot read.
     for k in 0..6 {
         strip[6 * q + k] = ((bits >> (8 * k)) % 256) as u8;
     }

@@ -20,6 +20,7 @@ pub fn bits_of(strip: &[u8], q: usize) -> u64
     requires { (6 * q + 6 ≤ length strip.now) × (q < 64) }
     ensures { result ≡ bits_at strip.now q }
 {
+    // Not by `from_le_bytes`: a price keeps no array of eight bytes.
     let mut bits = 0;
     for k in 0..6 {
         bits += (strip[6 * q + k] as u64) << (8 * k);
