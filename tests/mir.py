@@ -6,6 +6,9 @@ the copies of tests/planted.py, whose faults are not proved, the compiler writes
 out/ can be a link to that of another checkout: the libraries whose source is the same there are taken from it.
 
 An archive for C keeps no such form. Each of its calls is to be that of the library's function of the same name, and nothing else.
+
+A function with a bound calls methods of what it is given for that bound. Who gives it names the impl: so it counts as calling all of that impl's
+functions. A function of the kit can have a form that is not understood here; it is kept as such, and fails a check that has to know it.
 """
 import dataclasses
 import functools
@@ -31,13 +34,18 @@ GHOST = re.compile(r"^(?:ghost use [^;]*;|#!\[tactic\b[^\n]*)", re.M)
 
 @dataclasses.dataclass
 class Function:
-    name: str  # trellis::backward::price_strip
+    name: str  # trellis::backward::price_strip; where it is not understood, nothing else is known
     parameters: int  # local 0 is the result, the next ones are the parameters
     locals: list  # their types
     in_memory: set  # the locals that have an address: no other array can be indexed or lent
     calls: set  # the names of what it calls
     stores: set  # the locals through which it stores: not the local itself is assigned, but what it leads to
     leads: list  # for each local where it can lead: ("own", n) to the local n itself, ("lent", n) where the parameter n leads
+    unknown: str = ""  # why it is not understood
+
+
+class NotUnderstood(Exception):
+    """A form that this module does not know."""
 
 
 def within(whole, head):
@@ -155,6 +163,11 @@ def function(name, parameters, locals_, calls, stored):
     )
 
 
+@functools.cache
+def form_of(path):
+    return json.loads(path.read_text(encoding="utf-8"))
+
+
 class Kept:
     """The form as a proved library keeps it: mir.json, a list of functions, each a name and a body in JSON."""
 
@@ -174,7 +187,7 @@ class Kept:
                 return ["tyStruct", name, [self.kind(field) for field in fields]]
             case {"Named": [{"name": name}, given]}:
                 return ["tyNamed", name, *map(self.kind, given)]
-        sys.exit(f"mir: the type {said} is not understood")
+        raise NotUnderstood(f"the type {said} is not understood")
 
     def named(self, said):
         """A type with a name, and the types that it is made of."""
@@ -183,7 +196,7 @@ class Kept:
                 return name, [self.kind(field) for field in fields]
             case {"name": name, "shape": {"Variants": variants}}:
                 return name, [VARIANT, *(self.kind(field) for fields in variants for field in fields)]
-        sys.exit(f"mir: the type {said} is not understood")
+        raise NotUnderstood(f"the type {said} is not understood")
 
     def place(self, said):
         steps = [["deref"] if isinstance(step, dict) and "Deref" in step else ["step"] for step in said["steps"]]
@@ -202,6 +215,17 @@ class Kept:
                 return ["of", *map(self.value, said)]
         return []
 
+    def impls(self, given):
+        """The impls that are given for bounds, each as a name for all of its functions."""
+        match given:
+            case {"Impl": [name, *more]}:
+                return [f"{name}::*", *self.impls(more)]
+            case dict():
+                return self.impls(list(given.values()))
+            case list():
+                return [name for part in given for name in self.impls(part)]
+        return []
+
     def function(self, name, said):
         calls, stored = [], []
         for part in said["body"]:
@@ -210,21 +234,38 @@ class Kept:
                     pass
                 case {"Assign": [place, value]} | {"LendStatic": [place, _, value]}:
                     stored.append((self.place(place), self.value(value)))
-                case {"Call": [{"Fn": [callee, _]}, values, place]}:
-                    calls.append(callee)
+                case {"Call": [{"Fn": [callee, given]}, values, place]}:
+                    calls += [callee, *self.impls(given)]
+                    stored.append((self.place(place), self.value(values)))
+                case {"Call": [{"Method": _}, values, place]}:
                     stored.append((self.place(place), self.value(values)))
                 case _:
-                    sys.exit(f"mir: {name} has a statement that is not understood: {part}")
+                    raise NotUnderstood(f"{name} has a statement that is not understood: {part}")
         locals_ = [(self.kind(local["ty"]), local["home"] == "MemorySlot") for local in said["locals"]]
         return function(name, said["params"], locals_, calls, stored)
 
-    def read(self, path, wanted=None):
-        """The functions of the file, or only those of these names, and the types with a name."""
+    def read(self, path):
+        """The functions of a library, and the types with a name."""
         functions, named = {}, {}
-        for name, said in json.loads(path.read_text(encoding="utf-8")):
-            if wanted is None or name in wanted:
-                functions[name] = self.function(name, said)
-                named.update(map(self.named, said["types"]))
+        for name, said in form_of(path):
+            functions[name] = self.function(name, said)
+            named.update(map(self.named, said["types"]))
+        return functions, named
+
+    def read_kit(self, path, wanted):
+        """The functions of these names in a library of the kit, and the types with a name. All those of an impl have one name, with * at its end."""
+        functions, named = {}, {}
+        for name, said in form_of(path):
+            if name not in wanted and f"{name.rpartition('::')[0]}::*" not in wanted:
+                continue
+            try:
+                functions[name], types = self.function(name, said), dict(map(self.named, said["types"]))
+            except NotUnderstood as why:
+                functions[name], types = Function(name, 0, [], set(), set(), set(), [], str(why)), {}
+            named.update(types)
+        for name in wanted - functions.keys():
+            if name.endswith("::*"):
+                functions[name] = Function(name, 0, [], set(), {f for f in functions if f.rpartition("::")[0] == name[:-3]}, set(), [])
         return functions, named
 
 
@@ -284,7 +325,7 @@ class Written:
                 return ["tyStruct", self.name(name), [self.kind(field) for field in self.members(fields)]]
             case ["ty_named", ["pair", name, _], given]:
                 return ["tyNamed", self.name(name), *map(self.kind, self.members(given))]
-        sys.exit(f"mir: the type {said} is not understood")
+        raise NotUnderstood(f"the type {said} is not understood")
 
     def named(self, said):
         match said:
@@ -293,7 +334,7 @@ class Written:
             case ["pair", name, _, ["variants", variants]]:
                 kinds = [self.kind(field) for fields in self.members(variants) for field in self.members(fields)]
                 return self.name(name), [VARIANT, *kinds]
-        sys.exit(f"mir: the type {said} is not understood")
+        raise NotUnderstood(f"the type {said} is not understood")
 
     def place(self, said):
         _, local, path = said
@@ -323,7 +364,7 @@ class Written:
                 case str() as name if re.fullmatch(r"(?:by_name-)?(?:s|t|turn)-\d+", name):
                     pass
                 case other:
-                    sys.exit(f"mir: the statement {other} is not understood")
+                    raise NotUnderstood(f"the statement {other} is not understood")
 
     def function(self, name, said):
         """A function and the types with a name that its file has."""
@@ -346,7 +387,7 @@ class Written:
                         calls.append(self.called(name, callee, symbols))
                         stored.append((self.place(place), self.value(values)))
                     case _:
-                        sys.exit(f"mir: {name} has a statement that is not understood: {statement}")
+                        raise NotUnderstood(f"{name} has a statement that is not understood: {statement}")
         fields = dict(known[form.removesuffix("-") or "function"][1:])
         locals_ = [(self.kind(kind), home == "memory_slot") for _, kind, home in self.members(known[f"{form}locals"])]
         return function(name, int(fields["params"]), locals_, calls, stored), dict(map(self.named, self.members(known.get("table"))))
@@ -355,7 +396,7 @@ class Written:
         words = [callee] if isinstance(callee, str) else callee
         found = re.fullmatch(r"(\S+)\.name", words[0]) if isinstance(words[0], str) else None
         if not found or found[1] not in symbols:
-            sys.exit(f"mir: {name} has a call that is not understood: {callee}")
+            raise NotUnderstood(f"{name} has a call that is not understood: {callee}")
         return symbols[found[1]]
 
     def read(self, folder):
@@ -507,6 +548,13 @@ def handed_on(used):
 
 def functions():
     """Every function of every library by its name, those of the kit that they call, and the types."""
+    try:
+        return all_functions()
+    except NotUnderstood as why:
+        sys.exit(f"mir: {why}")
+
+
+def all_functions():
     used, archives = uses()
     for name in filter(more_than_handed, archives):
         sys.exit(f"mir: {name} does more than to hand its calls on to functions of the same names")
@@ -529,7 +577,7 @@ def functions():
         crate = min(missing).split("::")[0]
         path = kit() / "rlibs" / f"{crate}.rlib" / "toolchain" / "mir.json"
         wanted = {name for name in missing if name.split("::")[0] == crate}
-        of_kit, of_types = Kept().read(path, wanted) if path.is_file() else ({}, {})
+        of_kit, of_types = Kept().read_kit(path, wanted) if path.is_file() else ({}, {})
         if wanted - of_kit.keys():
             sys.exit(f"mir: {min(wanted - of_kit.keys())} is called, and is no function of a library")
         found |= of_kit

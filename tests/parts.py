@@ -14,7 +14,7 @@ def faults(f, functions, types, finders):
     if f.stores:
         yield f"{f.name} stores through a reference, and hands out a &mut (rule 1)"
     for called in (functions[name] for name in sorted(f.calls - finders)):
-        if any(map(types.mutable, called.locals[1 : called.parameters + 1])):
+        if called.unknown or any(map(types.mutable, called.locals[1 : called.parameters + 1])):
             yield f"{f.name} lends {called.name} what it may change, and hands out a &mut (rule 2)"
 
 

@@ -124,7 +124,8 @@ def main():
     functions, types = mir.functions()
     prices = [f for name, f in functions.items() if is_price(name)]
     held = reached(functions, (f.name for f in prices))
-    bad = [line for f in prices for line in lent(f, types)]
+    bad = [f"{f.name} is called, and its form is not understood: {f.unknown}" for f in held if f.unknown]
+    bad += [line for f in prices for line in lent(f, types)]
     bad += [line for f in held for line in led_elsewhere(f, types)]
     bad += unnamed(held, types)
     bad += [f"{f.name} calls itself (rule 4)" for f in held if f in reached(functions, f.calls)]
