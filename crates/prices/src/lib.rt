@@ -46,15 +46,11 @@ pub fn rows_of(weights: [u8; 3]) -> [u32; 256]
 {
     let steps = steps_of(weights);
     let mut rows = [0u32; 256];
-    let mut r: usize = 0;
-    while r < 64 {
-        let p = row_prices(steps, r);
-        let k = 4 * r;
-        rows[k] = p[0];
-        rows[k + 1] = p[1];
-        rows[k + 2] = p[2];
-        rows[k + 3] = p[3];
-        r += 1;
+    for r in 0..64 {
+        let prices = row_prices(steps, r);
+        for j in 0..4 {
+            rows[4 * r + j] = prices[j];
+        }
     }
     rows
 }

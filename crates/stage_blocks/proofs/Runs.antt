@@ -1,14 +1,13 @@
 -- Laws of a block, which is eight stages.
---   by_place                   what holds of the places below n and of the others holds of all
---   listed_le                  a list of numbers within a bound, read anywhere
---   bit_le                     a bit at a place of the low byte
---   marked-is                  the marked prices of a row
---   run-le, run-most           what k stages add at most, so that all eight leave room for a price
---   word-le                    a word is at most 3
---   run_more                   a stage more of 64 states
---   Four, four-more            the four states of the short code, and a stage more of them
---   four-stored, four-others   four numbers stored at the first four places, and at no other
---   ran_le, settled-le         for callers: the bounds of what a block leaves, and of what is settled
+--   by_place             what holds of the places below n and of the others holds of all
+--   listed_le            a list of numbers within a bound, read anywhere
+--   bit_le               a bit at a place of the low byte
+--   marked-is            the marked prices of a row
+--   run-le, run-most     what k stages add at most, so that all eight leave room for a price
+--   word-le              a word is at most 3
+--   run_more             a stage more of 64 states
+--   Four, four-more      the four states of the short code, and a stage more of them
+--   ran_le, settled-le   for callers: the bounds of what a block leaves, and of what is settled
 use mathlib.Core.Path.{◌≡◌, refl, ap, ap₂, ◌∙◌}
 use mathlib.Core.Bool.{Bool, true, false}
 use mathlib.Core.List.{List, [], ◌∷◌}
@@ -17,12 +16,11 @@ use native.Mathlib.Omega.{arith}
 use native.Mathlib.Nat.{add-le-add, mul-le-mul, min-le_right, le_trans, le_of_eq}
 use lib.Count.{ones, ones_in}
 use lib.Dec.{ltb}
-use lib.ListN.{length, get_or, set, length-set}
+use lib.ListN.{get_or}
 use lib.Pow.{pow_mono}
-use lib.Seq.{get_or-set_other}
 use borrow.Author.Tests.{ltb-true, ltb-false}
 use Rattle.cells.specs.Places.{list_of, from_bits}
-use Rattle.cells.proofs.Places.{list_of-at, store-more}
+use Rattle.cells.proofs.Places.{list_of-at}
 use Rattle.codes.specs.Generators.{Generators, digit, short}
 use Rattle.codes.specs.Taps.{taps_of, parity_of, word_of}
 use Rattle.stages.specs.Stage.{ceiling, most_cost, words_of, stage_of, staged_at, Staged}
@@ -157,23 +155,6 @@ four-more rows picks after u v k i p z four q e f g h =
       c-le = le_trans (le_of_eq g') (n 2);
       d-le = le_trans (le_of_eq h') (n 3);
     })
-
--- four numbers stored at the first four places
-pub four-stored : (l : List ℕ) (f : ℕ → ℕ) {a b c d : ℕ} → 4 ≤ length l → Four f a b c d
-    → (s : ℕ) → s < 4 → get_or (set (set (set (set l 0 a) 1 b) 2 c) 3 d) s 0 ≡ f s
-four-stored l f {a} {b} {c} {d} h four =
-    store-more (set (set (set l 0 a) 1 b) 2 c) 3 d f (simp length-set (omega arith)) four.d-is
-    (store-more (set (set l 0 a) 1 b) 2 c f (simp length-set (omega arith)) four.c-is
-    (store-more (set l 0 a) 1 b f (simp length-set (omega arith)) four.b-is
-    (store-more l 0 a f (omega arith) four.a-is (λ k z. absurd (let z : ⊥ = omega arith in z)))))
-
--- and at no other
-pub four-others : (l : List ℕ) (a b c d s : ℕ) → 4 ≤ s → get_or (set (set (set (set l 0 a) 1 b) 2 c) 3 d) s 0 ≡ get_or l s 0
-four-others l a b c d s h =
-    get_or-set_other (set (set (set l 0 a) 1 b) 2 c) 3 s d 0 (λ z. omega arith)
-    ∙ get_or-set_other (set (set l 0 a) 1 b) 2 s c 0 (λ z. omega arith)
-    ∙ get_or-set_other (set l 0 a) 1 s b 0 (λ z. omega arith)
-    ∙ get_or-set_other l 0 s a 0 (λ z. omega arith)
 
 -- FOR CALLERS. What a block leaves has room for a price: the states it has done, and the places it has not touched
 pub ran_le : {n : ℕ} {words : ℕ → ℕ} {rows : List ℕ} {picks : ℕ} {entry exit : List ℕ} → Ran n words rows picks entry exit

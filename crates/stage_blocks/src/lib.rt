@@ -28,6 +28,7 @@ fn at_stage(bit: u32, i: u32) -> u32
 
 // The prices of a row for stage i of eight, in 256ths. A word whose first code bit is not the row's costs a little more, at the stage's
 // own bit of the low byte: so a tie goes to the other word, and the bit says afterwards which was taken.
+// By index, and not by `as_chunks`: tests/pricing.py cannot follow that one's types.
 fn marked(rows: &[u32; 256], row: usize, i: u32) -> [u32; 4]
     requires { (row < 64) × (i < 8) × ((k : ℕ) → get_or rows.now k 0 ≤ ceiling) }
     ensures by_index { (j : ℕ) → j ≤ 3 → get_or result j 0 ≡ marked_of rows.now row (7 - i) j }
@@ -68,7 +69,12 @@ fn run_short(costs: &mut [u32; 64], rows: &[u32; 256], picks: u64)
     for i in (0..8).rev() {
         let row = (picks >> (8 * i)) % 64;
         let [p, q, r, s] = marked(rows, row as usize, i);
-        (a, b, c, d) = (least(a + p, b + s), least(c + q, d + r), least(a + s, b + p), least(c + r, d + q));
+        (a, b, c, d) = (
+            least(a + p, b + s),
+            least(c + q, d + r),
+            least(a + s, b + p),
+            least(c + r, d + q),
+        );
     }
     costs[0] = a;
     costs[1] = b;

@@ -1,56 +1,15 @@
 -- The word's first bit is that of the row's number, or the first cell is raised; its second bit is the label, or the other one.
 use mathlib.Core.Path.{◌≡◌, sym, ◌∙◌, ap}
 use mathlib.Core.List.{List}
-use Prim.Native.Nat.{ℕ, zero, suc, ◌+◌, ◌-◌, ◌*◌, ◌/◌, ◌%◌, ◌≤◌}
+use Prim.Native.Nat.{ℕ, zero, suc, ◌+◌, ◌-◌, ◌*◌, ◌/◌, ◌%◌}
 use native.Mathlib.Omega.{arith}
-use Rattle.stages.specs.Stage.{ceiling}
 use Rattle.prices.specs.Prices.{price_for}
-use Rattle.prices.proofs.Prices.{price-most, row-shown, row-raised, second-label, second-other}
+use Rattle.prices.proofs.Prices.{row-shown, row-raised, second-label, second-other}
 use Rattle.prices.proofs.row_prices.Goals as goal
 
 -- the word j asks the bit v of the second cell
 asked : (steps : List ℕ) (r j v y : ℕ) → (j / 2 + r / 32) % 2 ≡ v → y ≡ 256 * price_for steps (r / 8 % 4) v → y ≡ 256 * price_for steps (r / 8 % 4) ((j / 2 + r / 32) % 2)
 asked steps r j v y e f = f ∙ ap (λ (b : ℕ). 256 * price_for steps (r / 8 % 4) b) (sym e)
-
-pub overflow_mul-first : goal.overflow_mul-first
-overflow_mul-first c = record { fits = omega (arith, c.requires.1 (c.args.r % 8)) }
-
-pub overflow_mul-second : goal.overflow_mul-second
-overflow_mul-second c = record { fits = omega (arith, c.requires.1 (c.args.r / 8 % 4)) }
-
-pub overflow_add-first : goal.overflow_add-first
-overflow_add-first c =
-    let label-price : c.pick-a.result ≡ 256 * price_for c.args.steps (c.args.r / 8 % 4) (c.args.r / 32) = c.pick-a.ensures ∙ second-label c.args.steps c.args.r c.requires.0 in
-    let label-most : c.pick-a.result ≤ ceiling = omega (
-      arith,
-      label-price,
-      price-most c.args.steps c.requires.1 (c.args.r / 8 % 4)
-          (c.args.r / 32),
-    ) in
-    record { fits = omega (arith, c.requires.1 (c.args.r % 8), label-most) }
-
-pub least-c-requires : goal.least-c-requires
-least-c-requires c =
-    let label-price : c.pick-a.result ≡ 256 * price_for c.args.steps (c.args.r / 8 % 4) (c.args.r / 32) = c.pick-a.ensures ∙ second-label c.args.steps c.args.r c.requires.0 in
-    let label-most : c.pick-a.result ≤ ceiling = omega (
-      arith,
-      label-price,
-      price-most c.args.steps c.requires.1 (c.args.r / 8 % 4)
-          (c.args.r / 32),
-    ) in
-    (omega (arith, c.requires.1 (c.args.r % 8), label-most), omega arith)
-
-pub overflow_add-first-2 : goal.overflow_add-first-2
-overflow_add-first-2 c =
-    let other-price : c.pick-b.result ≡ 256 * price_for c.args.steps (c.args.r / 8 % 4) (1 - c.args.r / 32) = c.pick-b.ensures ∙ second-other c.args.steps c.args.r c.requires.0 in
-    let other-most : c.pick-b.result ≤ ceiling = omega (arith, other-price, price-most c.args.steps c.requires.1 (c.args.r / 8 % 4) (1 - c.args.r / 32)) in
-    record { fits = omega (arith, c.requires.1 (c.args.r % 8), other-most) }
-
-pub least-d-requires : goal.least-d-requires
-least-d-requires c =
-    let other-price : c.pick-b.result ≡ 256 * price_for c.args.steps (c.args.r / 8 % 4) (1 - c.args.r / 32) = c.pick-b.ensures ∙ second-other c.args.steps c.args.r c.requires.0 in
-    let other-most : c.pick-b.result ≤ ceiling = omega (arith, other-price, price-most c.args.steps c.requires.1 (c.args.r / 8 % 4) (1 - c.args.r / 32)) in
-    (omega (arith, c.requires.1 (c.args.r % 8), other-most), omega arith)
 
 pub returns-then-r-eq0 : goal.returns-then-r-eq0
 returns-then-r-eq0 c zero h =

@@ -1,10 +1,9 @@
-use mathlib.Core.Path.{◌≡◌, refl, sym, subst, ◌∙◌}
+use mathlib.Core.Path.{refl, sym, subst}
 use Prim.Native.Nat.{ℕ, ◌-◌, ◌*◌, ◌≤◌, ◌<◌}
 use mathlib.Core.List.{List}
 use native.Mathlib.Omega.{arith}
 use lib.Count.{ones, ones_in}
 use lib.ListN.{get_or, get_or-eq_default}
-use borrow.Author.Rules.{rules}
 use Rattle.cells.specs.Places.{list_of, from_bits}
 use Rattle.codes.specs.Generators.{digit, long}
 use Rattle.codes.specs.Taps.{taps_of, parity_of, word_of}
@@ -16,9 +15,6 @@ use Rattle.stage_blocks.proofs.run_long.Goals as goal
 pub loop-i-init : goal.loop-i-init
 unfolding block_of list_of word_of parity_of taps_of from_bits digit ones ones_in
 loop-i-init c = (refl, c.requires.size, λ s h. refl)
-
-pub marked-prices-requires : goal.marked-prices-requires
-marked-prices-requires c = (search rules, search rules, c.requires.rows_le)
 
 pub stage-requires : goal.stage-requires
 stage-requires c =
@@ -42,13 +38,3 @@ loop-i-preserved c =
       run_more long c.args.rows.now c.args.picks (λ k. get_or c.args.costs.now k 0) (8 - c.loop-i.i) (c.loop-i.i - 1) (omega arith)
           c.loop-i.invariant.2 c.marked-prices.ensures.by_index staged,
     )
-
-pub returns : goal.returns
-returns c =
-    let e : 8 - c.loop-i.i ≡ 8 = omega arith in
-    record {
-      size = c.loop-i.invariant.1;
-      states = rw e at c.loop-i.invariant.2;
-      others = λ k h. get_or-eq_default c.loop-i.costs 0 {n = k} (omega arith)
-          ∙ sym (get_or-eq_default c.args.costs.now 0 {n = k} (omega (arith, c.requires.size)));
-    }
