@@ -39,7 +39,7 @@ fn fill(line: &[u8], data: &mut [u8])
 }
 
 // Whether a line is the text of as many bytes as the data have, two lower-case hexadecimal digits a byte; if so the data are these bytes,
-// if not they are kept.
+// if not they are kept. (A `bool` says whether: an `Option<()>` would be no plainer.)
 pub fn decode(line: &[u8], data: &mut [u8]) -> bool
     ensures value { result ≡ is_data (length «data».old) line.now }
     ensures data_after { «data».new ≡ decoded_of «data».old line.now }
