@@ -111,11 +111,6 @@ answers-0-or-7 p text b t =
     (zero-or-seven (page_write (job_of house v.code v.bytes v.strips p.page (pairs text)))
     (spent_strip (job_of house v.code v.bytes v.strips p.page (pairs text))))
 
--- data that are kept are kept whatever a test says
-pub kept_either : (t : Bool) {after decoded before : List ℕ} → after ≡ decoded → decoded ≡ before → after ≡ cond t decoded before
-kept_either true e f = e
-kept_either false e f = e ∙ f
-
 -- the text of values has at most 17 bytes
 short-values : (v : Values) → v.code < 100000 → v.bytes < 100000 → v.strips < 100000 → length (values_text v) ≤ 17
 unfolding values_text
