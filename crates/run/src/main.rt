@@ -5,7 +5,7 @@
 ghost use Rattle.script.specs.Positions.{Leads};
 ghost use Rattle.script.specs.Buffers.{position_of, Ready, Blank};
 
-use script::{Run, running};
+use script::{Run, Step, running};
 use std::io;
 use std::io::{Read, Stdin};
 
@@ -38,25 +38,24 @@ fn hand_on(
     ensures leads { Leads (position_of run line.old page.old) bytes.now
         (position_of result line.new page.new) }
 {
-    let mut buffer = [0u8; 96];
     let mut state = run;
-    let mut i: usize = 0;
-    while i < bytes.len() {
-        let step = running::take_bytes(state, &bytes[i..], line, page, data, &mut buffer);
-        let at = step.at;
-        output.print(&buffer[at..]);
-        let next = step.run;
-        state = next;
-        i += step.taken;
+    let mut rest = bytes;
+    while !rest.is_empty() {
+        let Step {
+            run,
+            printed,
+            taken,
+        } = running::take_bytes(state, rest, line, page, data);
+        output.print(printed.text());
+        state = run;
+        rest = &rest[taken..];
     }
     state
 }
 
 // The end of the input.
 fn finish(output: &mut Output<'_>, run: Run) {
-    let mut buffer = [0u8; 96];
-    let at = running::take_end(run, &mut buffer);
-    output.print(&buffer[at..]);
+    output.print(running::take_end(run).text());
 }
 
 // The whole input, which ends where a read brings nothing. A proved loop has to end, and nothing says that the input does: so the reads are

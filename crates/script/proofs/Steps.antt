@@ -25,7 +25,6 @@ use Rattle.turns.specs.Turns.{Progress, halt, goes, names_turn, judged_turn, for
 use Rattle.script.specs.Runs.{lines_from, run_from}
 use Rattle.turns.specs.declared.Run.{Run}
 use Rattle.turns.specs.declared.Turn.{Turn}
-use Rattle.text.proofs.Text.{nothing_put}
 use Rattle.script.specs.Positions.{Position, prints_from}
 use Rattle.script.specs.Buffers.{kept_bytes, position_of, Ready, Blank, LineEnd, KeptPart, Stepped}
 use Rattle.turns.specs.Buffers.{most_page, Holds}
@@ -98,17 +97,15 @@ module _ (p : Progress) (line : List ℕ) where
       by false false false = either-forward (same_list line names_text) _ _ _
 
 -- A STEP OF THE PROGRAM. Nothing is printed, and the run is where the bytes lead
-module _ (r : Run) (bytes line page content buffer : List ℕ) (k : Ready r line page content) (b : 96 ≡ length buffer) where
+module _ (r : Run) (bytes line page content : List ℕ) (k : Ready r line page content) where
   -- the run has stopped, and takes whatever comes
-  pub stopped-step : r.on ≡ false →
+  pub stopped-step : {text : List ℕ} → text ≡ [] → r.on ≡ false →
       let s = position_of r line page in
-      Stepped s bytes buffer (record { run = r; at = 96; taken = length bytes }) s buffer
-  stopped-step e = record {
-    at_most = omega arith;
-    front_same = refl;
+      Stepped s bytes (record { run = r; printed = text; taken = length bytes }) s
+  stopped-step n e = record {
     taken_most = omega arith;
     taken_some = λ h. h;
-    takes = rw (nothing_put buffer b).text_is (stopped-takes (position_of r line page) (take (length bytes) bytes) e);
+    takes = rw n (stopped-takes (position_of r line page) (take (length bytes) bytes) e);
   }
 
   module _ (on : r.on ≡ true) {after : List ℕ} {used end : ℕ} (g : KeptPart (take r.used line ++ take end bytes) line used after)
@@ -125,18 +122,15 @@ module _ (r : Run) (bytes line page content buffer : List ℕ) (k : Ready r line
         l.none_before i f (sym (get_or-take end bytes i 0 f) ∙ e)
 
     -- all bytes belong to the line
-    pub part_step : end ≡ length bytes →
-        let next : Run = record { values = r.values; number = r.number; used = used; on = true } in
-        Stepped (position_of r line page) bytes buffer (record { run = next; at = 96; taken = end }) (position_of next after page) buffer
+    pub part_step : {text : List ℕ} → text ≡ [] → end ≡ length bytes →
+        let next : Run = record { values = r.values; number = r.number; used = used; on = r.on } in
+        Stepped (position_of r line page) bytes (record { run = next; printed = text; taken = end }) (position_of next after page)
         × Ready next after page content
-    part_step e = (
+    part_step n e = (
       record {
-        at_most = omega arith;
-        front_same = refl;
         taken_most = l.inside;
         taken_some = λ h. omega arith;
-        takes = rw ((nothing_put buffer b).text_is, on, part-kept)
-            (part-takes (position_of r line page).progress (take r.used line) (take end bytes) unended);
+        takes = rw (n, on, part-kept) (part-takes (position_of r line page).progress (take r.used line) (take end bytes) unended);
       },
       record {
         line_long = g.size ∙ k.line_long;
@@ -149,8 +143,8 @@ module _ (r : Run) (bytes line page content buffer : List ℕ) (k : Ready r line
     )
 
     -- the line ends within the bytes, and its turn says what is printed
-    module _ (m : end ≡ length bytes → ⊥) {t : Turn} {leaf text : List ℕ}
-        (told : Told (line_turn (position_of r line page).progress (take used after)) t buffer text)
+    module _ (m : end ≡ length bytes → ⊥) {t : Turn} {leaf : List ℕ}
+        (told : Told (line_turn (position_of r line page).progress (take used after)) t)
         (holds : Holds (line_turn (position_of r line page).progress (take used after)).after leaf) where
       -- where the run is then
       reached : position_of t.run after leaf ≡
@@ -163,14 +157,12 @@ module _ (r : Run) (bytes line page content buffer : List ℕ) (k : Ready r line
           let h : end < length bytes = let i = l.inside in omega arith in
           rw (add-one end, take-suc bytes end 0 h, l.there h)
 
-      pub line_step : Stepped (position_of r line page) bytes buffer (record { run = t.run; at = t.at; taken = end + 1 })
-          (position_of t.run after leaf) text
+      pub line_step : Stepped (position_of r line page) bytes (record { run = t.run; printed = t.printed; taken = end + 1 })
+          (position_of t.run after leaf)
       line_step = record {
-        at_most = told.text_is.at_most;
-        front_same = told.text_is.front_same;
         taken_most = let i = l.inside in omega arith;
         taken_some = λ h. omega arith;
-        takes = rw (ended_by, reached, told.text_is.text_is, on, part-kept)
+        takes = rw (ended_by, reached, told.text_is, on, part-kept)
             (line-takes (position_of r line page).progress (take r.used line) (take end bytes) unended);
       }
 

@@ -52,10 +52,8 @@ pub record KeptPart (part before : List ℕ) (used : ℕ) (line : List ℕ) : Ty
   pub part_is : take used line ≡ take (length before) part
   pub others : drop used line ≡ drop used before
 
--- some of the bytes are taken, and all that they print stands at the end of the buffer; the bytes in front of it are as they were
-pub record Stepped (s : Position) (bytes before : List ℕ) (r : Step) (t : Position) (buffer : List ℕ) : Type 0 where
-  pub at_most : r.at ≤ 96
-  pub front_same : take r.at buffer ≡ take r.at before
+-- some of the bytes are taken, and the text is all that they print
+pub record Stepped (s : Position) (bytes : List ℕ) (r : Step) (t : Position) : Type 0 where
   pub taken_most : r.taken ≤ length bytes
   pub taken_some : 0 < length bytes → 0 < r.taken
-  pub takes : Takes s (take r.taken bytes) (drop r.at buffer) t
+  pub takes : Takes s (take r.taken bytes) r.printed t

@@ -3,14 +3,13 @@
 
 pub mod running;
 
+use text::printing::Printed;
 pub use turns::Run;
 
-// What bytes of the input do: where the run is then, where the text that is printed starts in the buffer, and how many of the bytes are
-// taken.
+// What bytes of the input do: where the run is then, the text that is printed, and how many of the bytes are taken.
 #[derive(Drop)]
-#[derive(Clone, Copy)]
 pub struct Step {
     pub run: Run,
-    pub at: usize,
+    pub printed: Printed,
     pub taken: usize,
 }

@@ -1,6 +1,6 @@
 -- Data in hexadecimal. A data line gives bytes exactly where it is the text of them.
 --   data-of-text, text-of-data           DATA IN FORM: the text of bytes gives them, and nothing else does
---   all-hex-stop, all-hex-on             the digits of a line, one byte on
+--   all_hex-all                          the digits of a line
 --   pair-more, pair-all                  the pairs of a line, one byte on, and all of them
 --   data-odd, data-even                  whether a line is data, by the tests that it meets
 --   data-kept, data-made, data-decoded   the data that a line leaves as they were, and that it makes
@@ -11,6 +11,7 @@ use mathlib.Core.Option.{some}
 use Prim.Native.Nat.{ℕ, zero, suc, ◌+◌, ◌*◌, ◌/◌, ◌%◌, ◌≤◌, ◌<◌}
 use native.Mathlib.Omega.{arith}
 use native.Mathlib.Numerals.{add-one}
+use Rattle.std.specs.List.{list_all}
 use lib.Dec.{eqb, ltb, leb}
 use lib.ListN.{length, take, drop, set, get_or, drop_of_length-le}
 use lib.Seq.{take_all, take-suc-set}
@@ -21,17 +22,11 @@ use Rattle.text.proofs.Text.{Size, small, large, size_of, rest-next}
 use Rattle.cells.proofs.Places.{and_both}
 use Rattle.text.proofs.Lines.{given-some}
 
--- THE DIGITS. A byte that is no digit decides, and one that is leaves it to the rest
-module _ (l : List ℕ) (i : ℕ) (t : Bool) (h : i < length l) (e : t ≡ is_hex (get_or l i 0)) where
-  all-hex-next : all_hex (drop i l) ≡ t && all_hex (drop (i + 1) l)
-  unfolding all_hex
-  all-hex-next = ap all_hex (rest-next l i h) ∙ rw (← e)
-
-  pub all-hex-stop : t ≡ false → all_hex (drop i l) ≡ false
-  all-hex-stop f = all-hex-next ∙ rw f
-
-  pub all-hex-on : t ≡ true → all_hex (drop i l) ≡ all_hex (drop (i + 1) l)
-  all-hex-on f = all-hex-next ∙ rw f
+-- THE DIGITS. Whether each byte of a line is one
+pub all_hex-all : (l : List ℕ) → list_all is_hex l ≡ all_hex l
+unfolding all_hex
+all_hex-all [] = refl
+all_hex-all (c ∷ l) = ap (λ (t : Bool). is_hex c && t) (all_hex-all l)
 
 -- THE PAIRS, one byte more of the data
 pairs_next : (l : List ℕ) (i : ℕ) → i + 1 < length l

@@ -1,20 +1,21 @@
 -- Lines 1 to 3, byte by byte and whole. A line 2 gives values exactly where it is the text of them.
 --   values-of-text, text-of-values     LINE 2 IN FORM: the text of values of at most five digits gives them, and nothing else does
 --   given-some                         what is given under a test that holds
---   same_stop, same-on, same-lengths   two texts are compared byte by byte; texts of two lengths differ
+--   same-lengths                       texts of two lengths differ
+--   same_list-pointwise                the library's `==` of two texts
 --   scan-next                          the values of a line, one byte on
---   form-by                            what a line 2 gives, by the tests that it meets
---   five-last                          the last of three tests decides where the first two hold
---   part_end                           the part of a buffer to its end is all that is left
-use mathlib.Core.Path.{◌≡◌, refl, sym, ◌∙◌, ap, ap₂, subst}
+--   values-none                        values of which each is 0
+--   form-by                            what a line 2 gives, by the test that it meets
+use mathlib.Core.Path.{◌≡◌, refl, sym, ◌∙◌, ap, subst}
 use mathlib.Core.Bool.{Bool, true, false, cond, ◌&&◌, and-false}
 use mathlib.Core.List.{List, [], ◌∷◌}
 use mathlib.Core.Option.{none, some}
-use Prim.Native.Nat.{ℕ, zero, suc, ◌+◌, ◌*◌, ◌-◌, ◌/◌, ◌%◌, ◌≤◌, ◌<◌}
+use Prim.Native.Nat.{ℕ, zero, suc, ◌+◌, ◌*◌, ◌/◌, ◌%◌, ◌<◌}
 use native.Mathlib.Omega.{arith}
 use lib.Dec.{eqb, ltb}
-use lib.ListN.{length, take, drop, get_or, length-drop}
-use lib.Seq.{take_all}
+use Rattle.std.specs.Bool.{then_some}
+use Rattle.std.specs.Cmp.Lexicographic.{pointwise}
+use lib.ListN.{length, drop, get_or}
 use borrow.Author.Tests.{eq-eqb, ne_eqb, ltb-true, lt-ltb}
 use Rattle.cells.proofs.Places.{and_both, same_list-eq}
 use Rattle.text.specs.Text.{onto, decimal, values_text}
@@ -42,17 +43,13 @@ same-lengths [] (y ∷ b) h = refl
 same-lengths (x ∷ a) [] h = refl
 same-lengths (x ∷ a) (y ∷ b) h = rw (same-lengths a b (λ e. h (ap suc e))) (and-false (eqb x y))
 
-module _ (a b : List ℕ) (i : ℕ) (h : i < length a) (h2 : i < length b) where
-  same_next : same_list (drop i a) (drop i b) ≡ eqb (get_or a i 0) (get_or b i 0) && same_list (drop (i + 1) a) (drop (i + 1) b)
-  unfolding same_list
-  same_next = ap₂ same_list (rest-next a i h) (rest-next b i h2)
-
-  -- two bytes that differ decide, and two that don't leave it to the rest
-  pub same_stop : (get_or a i 0 ≡ get_or b i 0 → ⊥) → same_list (drop i a) (drop i b) ≡ false
-  same_stop e = same_next ∙ rw (ne_eqb (get_or a i 0) (get_or b i 0) e)
-
-  pub same-on : get_or a i 0 ≡ get_or b i 0 → same_list (drop i a) (drop i b) ≡ same_list (drop (i + 1) a) (drop (i + 1) b)
-  same-on e = same_next ∙ rw (eq-eqb (get_or a i 0) (get_or b i 0) e)
+-- the library's `==` of two texts is whether they are the same
+pub same_list-pointwise : (a b : List ℕ) → pointwise eqb a b ≡ same_list a b
+unfolding same_list
+same_list-pointwise [] [] = refl
+same_list-pointwise [] (y ∷ b) = refl
+same_list-pointwise (x ∷ a) [] = refl
+same_list-pointwise (x ∷ a) (y ∷ b) = ap (λ (t : Bool). eqb x y && t) (same_list-pointwise a b)
 
 -- THE VALUES of a line, one byte on
 pub scan-next : (v : Values) (l : List ℕ) (i : ℕ) → i < length l → scan_of v (drop i l) ≡ scan_of (step_of v (get_or l i 0)) (drop (i + 1) l)
@@ -61,6 +58,10 @@ scan-next v l i h = ap (scan_of v) (rest-next l i h)
 
 abbrev three : ℕ → ℕ → ℕ → Values
 three c b s = record { code = c; bytes = b; strips = s }
+
+-- values of which each is 0
+pub values-none : {v : Values} → v.code ≡ 0 → v.bytes ≡ 0 → v.strips ≡ 0 → v ≡ no_values
+values-none {v} c b s = ap (λ (n : ℕ). three n v.bytes v.strips) c ∙ ap (λ (n : ℕ). three 0 n v.strips) b ∙ ap (three 0 0) s
 
 -- a digit goes to the right of the last value
 step-digit : (a b n d : ℕ) → d < 10 → n < 100000 → step_of (three a b n) (48 + d) ≡ three a b (n * 10 + d)
@@ -124,17 +125,12 @@ text-of-values line v e =
       ltb-true w.strips 100000 g.1,
     )
 
--- what a line 2 gives, by the tests that it meets
-pub form-by : (line : List ℕ) {v : Values} {long alike : Bool} → v ≡ scan_of no_values line → long ≡ five_digits v
-    → alike ≡ same_list line (values_text v) → form_of (cond (long && alike) (some v) none) ≡ form_of (values_of line)
+-- what a line 2 gives, by the test that it meets
+pub form-by : (line : List ℕ) {v : Values} {t : Bool} → v ≡ scan_of no_values line → t ≡ five_digits v && same_list line (values_text v)
+    → then_some t v ≡ form_of (values_of line)
 unfolding values_of checked
-form-by line e f s = rw (f, s, e)
-
--- the last of three tests decides where the first two hold
-pub five-last : (v : Values) → v.code < 100000 → v.bytes < 100000 → ltb v.strips 100000 ≡ five_digits v
-unfolding five_digits
-five-last v h h2 = rw (lt-ltb v.code 100000 h, lt-ltb v.bytes 100000 h2)
-
--- the part of a buffer to its end is all that is left
-pub part_end : (b : List ℕ) (at n : ℕ) → length b ≤ n → take (n - at) (drop at b) ≡ drop at b
-part_end b at n h = take_all (n - at) (drop at b) (simp length-drop (omega arith))
+form-by line {v} {t} e f = rw (← e, ← f) (by t)
+  where
+    by : (b : Bool) → then_some b v ≡ form_of (cond b (some v) none)
+    by true = refl
+    by false = refl

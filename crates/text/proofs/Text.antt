@@ -1,23 +1,20 @@
--- The text of a number digit by digit, and a text that is put in front of another one.
+-- The text of a number digit by digit.
 --   onto-last, onto-more, onto-append   the digits of a number below 10 and of another, and what follows them
 --   Size, size_of                       a number is below 10 or not
 --   digits_more                         a number of several digits is the others and the last
 --   size-more, size-most, size-some     how many digits a number has
---   put-before, text-more               a byte put in front of a text, and one byte more of a text
---   kept_byte, kept_more                what stands before a byte that is put is as it was, and so it stays
---   nothing_put, tail-same              a buffer of which nothing is printed, and a text by another name
 --   rest-next                           the rest of a line from a place is the byte there and the rest after it
 use mathlib.Core.Path.{◌≡◌, refl, sym, ◌∙◌, ap}
 use mathlib.Core.Bool.{Bool, true, false}
 use mathlib.Core.List.{List, [], ◌∷◌, ◌++◌, append_assoc}
-use Prim.Native.Nat.{ℕ, zero, suc, ◌+◌, ◌-◌, ◌^◌, ◌/◌, ◌%◌, ◌<◌, ◌≤◌}
+use Prim.Native.Nat.{ℕ, zero, suc, ◌+◌, ◌^◌, ◌/◌, ◌%◌, ◌<◌, ◌≤◌}
 use native.Mathlib.Omega.{arith}
 use native.Mathlib.Numerals.{add-one}
 use lib.Dec.{ltb}
-use lib.ListN.{length, take, drop, set, get_or, length-append, length-set, drop_of_length-le}
-use lib.Seq.{drop-cons, get_or-set_same, drop-set-lt, take-set-le, take-take}
+use lib.ListN.{length, drop, get_or, length-append}
+use lib.Seq.{drop-cons}
 use borrow.Author.Tests.{lt-ltb, le-ltb, ltb-true, ltb-false}
-use Rattle.text.specs.Text.{onto, decimal, Tail}
+use Rattle.text.specs.Text.{onto, decimal}
 
 -- the digits of a number below 10
 pub onto-last : (k n : ℕ) (rest : List ℕ) → n < 10 → onto (suc k) n rest ≡ (48 + n) ∷ rest
@@ -98,44 +95,6 @@ size-some n = by (size_of n)
     by (small g) = omega (arith, size-last n g)
     by (large g) = omega (arith, size-more n g)
 
--- a byte that is put in front of a text
-pub put-before : (b : List ℕ) (end v : ℕ) → 1 ≤ end → end ≤ length b → drop (end - 1) (set b (end - 1) v) ≡ v ∷ drop end b
-put-before b end v h h2 =
-    let at = end - 1 in
-    let e : suc at ≡ end = omega arith in
-    let g : at < length b = omega arith in
-    let g2 : at < length (set b at v) = rw (length-set b at v) g in
-    drop-cons (set b at v) at 0 g2 ∙ rw (get_or-set_same b at v 0 g, drop-set-lt (suc at) b at v (omega arith), e)
-
--- WHAT STANDS BEFORE a place in one buffer stands there in the other, so also before an earlier place
-kept-front : (a b : List ℕ) (at end : ℕ) → at ≤ end → take end a ≡ take end b → take at a ≡ take at b
-kept-front a b at end h e = sym (take-take at end a h) ∙ ap (take at) e ∙ take-take at end b h
-
--- after a second text in front of the first: a before, b between, d after
-pub kept_more : (a b d : List ℕ) (at end : ℕ) → at ≤ end → take at d ≡ take at b → take end b ≡ take end a → take at d ≡ take at a
-kept_more a b d at end h e f = e ∙ kept-front b a at end h f
-
--- and after a byte is put
-pub kept_byte : (a b : List ℕ) (end v : ℕ) → take end b ≡ take end a → take (end - 1) (set b (end - 1) v) ≡ take (end - 1) a
-kept_byte a b end v e = kept_more a b (set b (end - 1) v) (end - 1) end (omega arith) (take-set-le (end - 1) b (end - 1) v (omega arith)) e
-
--- a buffer of 96 bytes as it is ends in no text
-pub nothing_put : (b : List ℕ) → 96 ≡ length b → Tail [] 96 b b
-nothing_put b e = record { at_most = omega arith; text_is = drop_of_length-le b {i = 96} (omega arith); front_same = refl }
-
--- a text by another name
-pub tail-same : {text other : List ℕ} {at : ℕ} {before buffer : List ℕ} → other ≡ text → Tail text at before buffer
-    → Tail other at before buffer
-tail-same e t = rw e t
-
 -- the rest from a place is the byte there and the rest after it
 pub rest-next : (l : List ℕ) (i : ℕ) → i < length l → drop i l ≡ get_or l i 0 ∷ drop (i + 1) l
 rest-next l i h = drop-cons l i 0 h ∙ rw (add-one i)
-
--- one byte more of a text that is put in front of another, from its end
-pub text-more : (b text rest : List ℕ) (at i : ℕ) → 1 ≤ at → at ≤ length b → 1 ≤ i → i ≤ length text → drop at b ≡ drop i text ++ rest
-    → drop (at - 1) (set b (at - 1) (get_or text (i - 1) 0)) ≡ drop (i - 1) text ++ rest
-text-more b text rest at i h h2 g g2 e =
-    let n : i - 1 + 1 ≡ i = omega arith in
-    put-before b at (get_or text (i - 1) 0) h h2 ∙ ap (λ (l : List ℕ). get_or text (i - 1) 0 ∷ l) e
-    ∙ sym (ap (λ (l : List ℕ). l ++ rest) (rest-next text (i - 1) (omega arith) ∙ ap (λ (m : ℕ). get_or text (i - 1) 0 ∷ drop m text) n))

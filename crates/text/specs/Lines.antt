@@ -5,11 +5,10 @@
 --   form_of            the same as a function's answer
 use Rattle.std.specs.Prelude.{Bool, cond, ◌&&◌, List, [], ◌∷◌, ℕ, ◌+◌, ◌*◌, ◌%◌, ltb, eqb}
 use Rattle.std.proofs.Math.Option.{Option, none, some}
+use Rattle.std.specs.Prelude as std
 use Rattle.cells.specs.Places.{same_list}
 use Rattle.text.specs.Text.{values_text}
 use Rattle.text.specs.declared.Values.{Values}
-use Rattle.text.specs.declared.Form.{Form}
-use Rattle.text.specs.declared.Form.TheVariants.{Given, Broken}
 
 -- one byte of line 2: a digit goes to the right of the last value, and a space starts the next one
 unfoldable pub step_of : Values → ℕ → Values
@@ -37,6 +36,6 @@ checked v line = cond (five_digits v && same_list line (values_text v)) (some v)
 unfoldable pub values_of : List ℕ → Option Values
 values_of line = checked (scan_of no_values line) line
 
-abbrev pub form_of : Option Values → Form
-form_of none = Broken
-form_of (some v) = Given v
+abbrev pub form_of : Option Values → std.Option Values
+form_of none = std.None
+form_of (some v) = std.Some v

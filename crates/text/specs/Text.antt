@@ -4,8 +4,7 @@
 --   names_text, data_text    lines 1 and 3
 --   head_text, row_text      what is printed after line 3, and for each write
 --   fault_head, fault_text   what is printed at a fault
---   Put, Tail                where a text stands in a buffer: in front of another one, and at the end; what stands before it is as it was
-use Rattle.std.specs.Prelude.{◌≡◌, cond, List, [], ◌∷◌, ◌++◌, ℕ, zero, suc, ◌+◌, ◌/◌, ◌%◌, ◌≤◌, ltb, take, drop}
+use Rattle.std.specs.Prelude.{cond, List, [], ◌∷◌, ◌++◌, ℕ, zero, suc, ◌+◌, ◌/◌, ◌%◌, ltb}
 use Rattle.text.specs.declared.Values.{Values}
 
 -- the decimal digits of n in front of a text, the last digit first; k is more than their count
@@ -46,17 +45,3 @@ fault_head = 114 ∷ 101 ∷ 102 ∷ 117 ∷ 115 ∷ 97 ∷ 108 ∷ 32 ∷ 108 �
 -- 'The program then prints `refusal line`, the two values in a line'
 unfoldable pub fault_text : ℕ → ℕ → List ℕ
 fault_text refusal line = fault_head ++ (decimal refusal ++ 32 ∷ (decimal line ++ 10 ∷ []))
-
--- the buffer has a text from `at` on, of which at most so many bytes are new: what stood from `end` on is the rest of it; the bytes in
--- front of it are as they were
-pub record Put (most : ℕ) (text : List ℕ) (end at : ℕ) (before buffer : List ℕ) : Type 0 where
-  pub near : end ≤ at + most
-  pub front : at ≤ end
-  pub text_is : drop at buffer ≡ text
-  pub front_same : take at buffer ≡ take at before
-
--- a buffer of 96 bytes ends in a text, from `at` on; the bytes in front of it are as they were
-pub record Tail (text : List ℕ) (at : ℕ) (before buffer : List ℕ) : Type 0 where
-  pub at_most : at ≤ 96
-  pub text_is : drop at buffer ≡ text
-  pub front_same : take at buffer ≡ take at before

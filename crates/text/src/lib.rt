@@ -6,18 +6,9 @@ pub mod parsing;
 pub mod printing;
 
 // The three values of line 2.
-#[derive(Drop)]
-#[derive(Clone, Copy)]
+#[derive(Clone, Copy, Default, Drop)]
 pub struct Values {
     pub code: u32,
     pub bytes: u32,
     pub strips: u32,
-}
-
-// What line 2 gives: its values, where it is in form.
-#[derive(Drop)]
-#[derive(Clone, Copy)]
-pub enum Form {
-    Given(Values),
-    Broken,
 }

@@ -1,99 +1,133 @@
-// Writing text into a buffer, in front of what stands there: each function takes the place where that starts and returns the new one.
-ghost use Rattle.std.specs.Prelude.{◌≡◌, ◌∷◌, ◌++◌, ◌≤◌, length, drop};
-ghost use Rattle.text.specs.Text.{decimal, row_text, head_text, fault_text, values_text, Put, Tail};
+// The texts that are printed.
+ghost use Rattle.std.specs.Prelude.{◌≡◌, ◌∷◌, [], ◌++◌, ◌+◌, ◌<◌, ◌≤◌, length};
+ghost use Rattle.text.specs.Text.{decimal, row_text, head_text, fault_text, values_text};
 
 use crate::Values;
+use std::marker::Model;
 
-// A number in decimal.
-fn put_decimal(buffer: &mut [u8], end: usize, number: u64) -> usize
-    requires { (20 ≤ end) × (end ≤ length buffer.old) }
-    ensures { Put 20 (decimal number ++ drop end buffer.old) end result buffer.old buffer.new }
-{
-    let mut n = number;
-    let mut at = end;
-    while n > 9 {
-        at -= 1;
-        buffer[at] = 48 + (n % 10) as u8;
-        n = n / 10;
+// The room for a text: a row of four numbers has 84 bytes at most, and no other text has more.
+const ROOM: usize = 96;
+
+// A text, at the end of its bytes: it starts at `at`, and is made from its last byte on.
+#[derive(Drop)]
+pub struct Printed {
+    bytes: [u8; ROOM],
+    at: usize,
+}
+
+// What a contract sees of it is the text.
+impl Model for Printed {
+    ghost use Rattle.std.specs.Prelude.{List, ℕ, ◌≤◌, drop};
+    ghost use Rattle.text.specs.declared.printing.TheConstants.{ROOM};
+
+    ghost Value = { List ℕ };
+
+    ghost view = { λ p. drop p.at p.bytes };
+
+    ghost invariant = { λ p. p.at ≤ ROOM };
+}
+
+impl Printed {
+    // No text.
+    pub fn nothing() -> Printed
+        ensures { result ≡ [] }
+    {
+        Printed {
+            bytes: [0; ROOM],
+            at: ROOM,
+        }
     }
-    at -= 1;
-    buffer[at] = 48 + n as u8;
-    at
-}
 
-// A byte.
-fn put_byte(buffer: &mut [u8], end: usize, byte: u8) -> usize
-    requires { (1 ≤ end) × (end ≤ length buffer.old) }
-    ensures { Put 1 (byte ∷ drop end buffer.old) end result buffer.old buffer.new }
-{
-    let at = end - 1;
-    buffer[at] = byte;
-    at
-}
-
-// A number, and the byte after it.
-fn put_field(buffer: &mut [u8], end: usize, number: u64, after: u8) -> usize
-    requires { (21 ≤ end) × (end ≤ length buffer.old) }
-    ensures { Put 21 (decimal number ++ after ∷ drop end buffer.old) end result buffer.old buffer.new }
-{
-    let at = put_byte(buffer, end, after);
-    put_decimal(buffer, at, number)
-}
-
-// The row of a write, at the end of the buffer: its number from 1, 0 or 7, the cost, the sum of the levels after it.
-pub fn put_row(buffer: &mut [u8], number: u64, answer: u64, cost: u64, levels: u64) -> usize
-    requires { 96 ≡ length buffer.old }
-    ensures { Tail (row_text number answer cost levels) result buffer.old buffer.new }
-{
-    let l = put_field(buffer, 96, levels, 10);
-    let c = put_field(buffer, l, cost, 32);
-    let a = put_field(buffer, c, answer, 32);
-    put_field(buffer, a, number, 32)
-}
-
-// A text.
-fn put_text(buffer: &mut [u8], end: usize, text: &[u8]) -> usize
-    requires { (length text.now ≤ end) × (end ≤ length buffer.old) }
-    ensures { Put (length text.now) (text.now ++ drop end buffer.old)
-        end result buffer.old buffer.new }
-{
-    let mut i = text.len();
-    let mut at = end;
-    while i > 0 {
-        i -= 1;
-        at -= 1;
-        buffer[at] = text[i];
+    // Its bytes.
+    pub fn text(&self) -> &[u8]
+        ensures { result.now ≡ self.now }
+    {
+        &self.bytes[self.at..]
     }
-    at
-}
 
-// What is printed once line 3 is judged, at the end of the buffer.
-pub fn put_head(buffer: &mut [u8]) -> usize
-    requires { 96 ≡ length buffer.old }
-    ensures { Tail head_text result buffer.old buffer.new }
-{
-    put_text(buffer, 96, b"write answer cost levels\n")
-}
+    // Puts a byte in front.
+    fn put_byte(&mut self, byte: u8)
+        requires { length self.old < ROOM }
+        ensures { self.new ≡ byte ∷ self.old }
+    {
+        self.at -= 1;
+        self.bytes[self.at] = byte;
+    }
 
-// What is printed at a fault, at the end of the buffer: the refusal and the line, with their names.
-pub fn put_fault(buffer: &mut [u8], refusal: u64, line: u64) -> usize
-    requires { 96 ≡ length buffer.old }
-    ensures { Tail (fault_text refusal line) result buffer.old buffer.new }
-{
-    let l = put_field(buffer, 96, line, 10);
-    let r = put_field(buffer, l, refusal, 32);
-    put_text(buffer, r, b"refusal line\n")
-}
+    // Puts a number in decimal in front.
+    fn put_decimal(&mut self, number: u64)
+        requires { length self.old + 20 ≤ ROOM }
+        ensures text_is { self.new ≡ decimal number ++ self.old }
+        ensures near { length self.new ≤ length self.old + 20 }
+    {
+        let mut n = number;
+        while n > 9 {
+            self.put_byte(b'0' + (n % 10) as u8);
+            n /= 10;
+        }
+        self.put_byte(b'0' + n as u8);
+    }
 
-// The three values, at the end of the buffer.
-pub fn put_values(buffer: &mut [u8], v: Values) -> usize
-    requires { 96 ≡ length buffer.old }
-    ensures { Tail (values_text v) result buffer.old buffer.new }
-{
-    let code = v.code as u64;
-    let bytes = v.bytes as u64;
-    let strips = v.strips as u64;
-    let s = put_decimal(buffer, 96, strips);
-    let b = put_field(buffer, s, bytes, 32);
-    put_field(buffer, b, code, 32)
+    // Puts a number, and the byte after it, in front.
+    fn put_field(&mut self, number: u64, after: u8)
+        requires { length self.old + 21 ≤ ROOM }
+        ensures text_is { self.new ≡ decimal number ++ after ∷ self.old }
+        ensures near { length self.new ≤ length self.old + 21 }
+    {
+        self.put_byte(after);
+        self.put_decimal(number);
+    }
+
+    // Puts a text in front.
+    fn put_text(&mut self, text: &[u8])
+        requires { length text.now + length self.old ≤ ROOM }
+        ensures { self.new ≡ text.now ++ self.old }
+    {
+        let end = self.at;
+        self.at -= text.len();
+        self.bytes[self.at..end].copy_from_slice(text);
+    }
+
+    // The row of a write: its number from 1, 0 or 7, the cost, the sum of the levels after it.
+    pub fn row(number: u64, answer: u64, cost: u64, levels: u64) -> Printed
+        ensures { result ≡ row_text number answer cost levels }
+    {
+        let mut printed = Printed::nothing();
+        printed.put_field(levels, b'\n');
+        printed.put_field(cost, b' ');
+        printed.put_field(answer, b' ');
+        printed.put_field(number, b' ');
+        printed
+    }
+
+    // What is printed once line 3 is judged.
+    pub fn head() -> Printed
+        ensures { result ≡ head_text }
+    {
+        let mut printed = Printed::nothing();
+        printed.put_text(b"write answer cost levels\n");
+        printed
+    }
+
+    // What is printed at a fault: the refusal and the line, with their names.
+    pub fn fault(refusal: u64, line: u64) -> Printed
+        ensures { result ≡ fault_text refusal line }
+    {
+        let mut printed = Printed::nothing();
+        printed.put_field(line, b'\n');
+        printed.put_field(refusal, b' ');
+        printed.put_text(b"refusal line\n");
+        printed
+    }
+
+    // The three values, as line 2 has them.
+    pub fn values(v: Values) -> Printed
+        ensures { result ≡ values_text v }
+    {
+        let mut printed = Printed::nothing();
+        printed.put_decimal(u64::from(v.strips));
+        printed.put_field(u64::from(v.bytes), b' ');
+        printed.put_field(u64::from(v.code), b' ');
+        printed
+    }
 }

@@ -1,13 +1,13 @@
 // A write of the run program, and its row.
 #![tactic(auto)]
 
-ghost use Rattle.std.specs.Prelude.{◌≡◌, ◌≤◌, length};
+ghost use Rattle.std.specs.Prelude.{◌≡◌, ◌≤◌};
 ghost use Rattle.page_answers.specs.Answers.{answer_cost};
-ghost use Rattle.text.specs.Text.{Tail};
 ghost use Rattle.turn_rows.specs.Rows.{size_of, values_page, write_row};
 
 use page::{Answer, Completion, answers, writing};
-use text::{Values, printing};
+use text::Values;
+use text::printing::Printed;
 
 // The bytes of a page's data, L·S; 0 where the values are refused.
 pub fn size(v: Values) -> usize
@@ -25,26 +25,23 @@ fn answer_cost(a: Answer) -> u64
     ensures { result ≡ answer_cost a }
 {
     match a {
-        Answer::Done(cost) => cost as u64,
+        Answer::Done(cost) => u64::from(cost),
         Answer::Spent(_) => 0,
         Answer::Refused(_) => 0,
     }
 }
 
-// Writes the data to the page and puts the row at the end of the buffer.
-pub fn write_row(number: u64, v: Values, page: &mut [u8], data: &[u8], buffer: &mut [u8]) -> usize
-    requires { 96 ≡ length buffer.old }
-    ensures tail { Tail (write_row number v page.old «data».now)
-        result buffer.old buffer.new }
+// Writes the data to the page, and gives the row.
+pub fn write_row(number: u64, v: Values, page: &mut [u8], data: &[u8]) -> Printed
+    ensures row { result ≡ write_row number v page.old «data».now }
     ensures page_after { page.new ≡ values_page v page.old «data».now }
 {
     let answer = writing::write(v.code, v.bytes, v.strips, page, data);
     let n = size(v);
     let levels = cells::raises(page, codes::STRIP_CELLS * (n as u32));
-    printing::put_row(
-        buffer,
+    Printed::row(
         number,
-        answers::number(answer) as u64,
+        u64::from(answers::number(answer)),
         answer_cost(answer),
         levels,
     )

@@ -134,9 +134,9 @@ module _ (number n : ℕ) (v : Values) (line page : List ℕ) (h : 3 < number) (
   unfolding line_turn handed
   turn-write = rw (page-some number v h, one_bit-bytes (size_of v), lt-ltb 3 number h, s)
 
-  module _ {r : Turn} {before buffer after : List ℕ} {m : ℕ} (e : m ≡ n)
-      (t : ToldPage (write_turn m (at_line number v (take (6 * n) page)) line) r before buffer after) where
-    pub write-told : Told (line_turn (at_line number v (take (page_size number v) page)) line) r before buffer
+  module _ {r : Turn} {after : List ℕ} {m : ℕ} (e : m ≡ n)
+      (t : ToldPage (write_turn m (at_line number v (take (6 * n) page)) line) r after) where
+    pub write-told : Told (line_turn (at_line number v (take (page_size number v) page)) line) r
     unfolding handed
     write-told = rw (← turn-write) (rw e at t.told)
 
@@ -150,31 +150,31 @@ module _ (number n : ℕ) (v : Values) (line page : List ℕ) (h : 3 < number) (
         (one_bit-bytes (size_of v) ∙ rw s) k l (rw e at t.page_is))
 
 -- THE TURNS OF LINES 1 TO 3, by their numbers
-module _ (number : ℕ) (v : Values) (line page : List ℕ) {r : Turn} {before buffer : List ℕ}
+module _ (number : ℕ) (v : Values) (line page : List ℕ) {r : Turn}
     (k : Holds (at_line number v (take (page_size number v) page)) page) where
   -- a turn that comes to no page, by any number before that of a data line
   none_told : (u : Turned) → number ≤ 3 → line_turn (at_line number v (take (page_size number v) page)) line ≡ u
-      → (u.after.number ≤ 3) × (u.after.page ≡ []) → Told u r before buffer
-      → Told (line_turn (at_line number v (take (page_size number v) page)) line) r before buffer
+      → (u.after.number ≤ 3) × (u.after.page ≡ []) → Told u r
+      → Told (line_turn (at_line number v (take (page_size number v) page)) line) r
       × Holds (line_turn (at_line number v (take (page_size number v) page)) line).after page
   none_told u h e a t =
       let z = holds-zeros page (at_line number v (take (page_size number v) page)) h k in
       rw e (t, holds-none page z u.after a.0 a.1)
 
-  pub names-told : number ≡ 1 → Told (names_turn (at_line 1 v []) line) r before buffer
-      → Told (line_turn (at_line number v (take (page_size number v) page)) line) r before buffer
+  pub names-told : number ≡ 1 → Told (names_turn (at_line 1 v []) line) r
+      → Told (line_turn (at_line number v (take (page_size number v) page)) line) r
       × Holds (line_turn (at_line number v (take (page_size number v) page)) line).after page
   unfolding line_turn page_size
   names-told e t = none_told (names_turn (at_line 1 v []) line) (omega arith) (rw e) (names-after v line) t
 
-  pub values-told : number ≡ 2 → Told (values_turn (at_line 2 v []) line) r before buffer
-      → Told (line_turn (at_line number v (take (page_size number v) page)) line) r before buffer
+  pub values-told : number ≡ 2 → Told (values_turn (at_line 2 v []) line) r
+      → Told (line_turn (at_line number v (take (page_size number v) page)) line) r
       × Holds (line_turn (at_line number v (take (page_size number v) page)) line).after page
   unfolding line_turn page_size
   values-told e t = none_told (values_turn (at_line 2 v []) line) (omega arith) (rw e) (values-after v line) t
 
-  pub data-told : number ≡ 3 → Told (data_turn (at_line 3 v []) line) r before buffer
-      → Told (line_turn (at_line number v (take (page_size number v) page)) line) r before buffer
+  pub data-told : number ≡ 3 → Told (data_turn (at_line 3 v []) line) r
+      → Told (line_turn (at_line number v (take (page_size number v) page)) line) r
       × Holds (line_turn (at_line number v (take (page_size number v) page)) line).after page
   unfolding line_turn page_size
   data-told e t =

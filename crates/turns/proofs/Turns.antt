@@ -27,8 +27,7 @@ use Rattle.page_promises.specs.Writes.{call_answer, job_answer, job_of, answer_w
 use Rattle.page_answers.specs.Answers.{number_of}
 use Rattle.refusals.proofs.Refusals.{house-ground, done_none, refused-some}
 use Rattle.text.specs.declared.Values.{Values}
-use Rattle.text.specs.declared.Form.{Form}
-use Rattle.text.specs.declared.Form.TheVariants.{Given, Broken}
+use Rattle.std.specs.Prelude as std
 use Rattle.text.specs.Text.{decimal, names_text, data_text, values_text}
 use Rattle.cells.specs.Places.{same_list}
 use Rattle.text.specs.Lines.{values_of, form_of}
@@ -42,27 +41,28 @@ use Rattle.turns.specs.Turns.{line_turn}
 use Rattle.turn_rows.proofs.Rows.{size-given, size-bound}
 
 -- LINE 2 by what the functions answer of its form and of its values
-form-given : (o : Option Values) {v : Values} → form_of o ≡ Given v → o ≡ some v
+form-given : (o : Option Values) {v : Values} → form_of o ≡ std.Some v → o ≡ some v
 form-given none e = let z : ◌≡◌ {A = ℕ} 0 1 = cc in absurd (omega arith)
 form-given (some w) e = cc
 
-form-broken : (o : Option Values) → form_of o ≡ Broken → o ≡ none
+form-broken : (o : Option Values) → form_of o ≡ std.None → o ≡ none
 form-broken none e = refl
 form-broken (some w) e = let z : ◌≡◌ {A = ℕ} 0 1 = cc in absurd (omega arith)
 
-module _ (p : Progress) (line : List ℕ) {f : Form} (e : f ≡ form_of (values_of line)) where
-  pub values-broken : f ≡ Broken → values_turn p line ≡ halt text_number p
+module _ (p : Progress) (line : List ℕ) where
+  pub values-broken : form_of (values_of line) ≡ std.None → values_turn p line ≡ halt text_number p
   unfolding values_turn
-  values-broken b = rw (form-broken (values_of line) (sym e ∙ b))
+  values-broken b = rw (form-broken (values_of line) b)
 
-  module _ {v : Values} {k : Completion} (b : f ≡ Given v) (j : k ≡ completion_of (sizes_ground v.code v.bytes v.strips)) where
+  module _ {v : Values} {k : Completion} (b : form_of (values_of line) ≡ std.Some v)
+      (j : k ≡ completion_of (sizes_ground v.code v.bytes v.strips)) where
     pub values-given : k ≡ Done → values_turn p line ≡ goes p [] v p.page
     unfolding values_turn
-    values-given d = rw (form-given (values_of line) (sym e ∙ b), done_none (sizes_ground v.code v.bytes v.strips) (sym j ∙ d))
+    values-given d = rw (form-given (values_of line) b, done_none (sizes_ground v.code v.bytes v.strips) (sym j ∙ d))
 
     pub values-refused : {r : Refusal} → k ≡ Refused r → values_turn p line ≡ halt (refusal_number r) p
     unfolding values_turn
-    values-refused d = rw (form-given (values_of line) (sym e ∙ b), refused-some (sizes_ground v.code v.bytes v.strips) (sym j ∙ d))
+    values-refused d = rw (form-given (values_of line) b, refused-some (sizes_ground v.code v.bytes v.strips) (sym j ∙ d))
 
 -- the run goes on with values that no ground refuses
 judged-goes : (p : Progress) (w v : Values) (g : Option Refusal) → judged_turn p w g ≡ goes p [] v p.page → (g ≡ none) × (w ≡ v)
@@ -110,11 +110,6 @@ answers-0-or-7 p text b t =
     rw (write-in-order v (length p.page) (length (pairs text)) b.judged b.sized d.1)
     (zero-or-seven (page_write (job_of house v.code v.bytes v.strips p.page (pairs text)))
     (spent_strip (job_of house v.code v.bytes v.strips p.page (pairs text))))
-
--- data that are kept are kept whatever a test says
-pub kept_either : (t : Bool) {after decoded before : List ℕ} → after ≡ decoded → decoded ≡ before → after ≡ cond t decoded before
-kept_either true e f = e
-kept_either false e f = e ∙ f
 
 -- the text of values has at most 17 bytes
 short-values : (v : Values) → v.code < 100000 → v.bytes < 100000 → v.strips < 100000 → length (values_text v) ≤ 17

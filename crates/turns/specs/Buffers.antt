@@ -21,10 +21,9 @@ pub record Holds (p : Progress) (page : List ℕ) : Type 0 where
   pub front : take (page_size p.number p.values) page ≡ p.page
   pub blank : drop (page_size p.number p.values) page ≡ replicate (most_page - page_size p.number p.values) 0
 
--- what a whole line asks: its number, and buffers for the page, its data and the text
-pub record LineRequires (p : Progress) (page content buffer : List ℕ) : Type 0 where
+-- what a whole line asks: its number, and buffers for the page and its data
+pub record LineRequires (p : Progress) (page content : List ℕ) : Type 0 where
   pub number_some : 0 < p.number
   pub page_long : length page ≡ most_page
   pub data_long : length content ≡ 4096
-  pub buffer_long : 96 ≡ length buffer
   pub holds : Holds p page

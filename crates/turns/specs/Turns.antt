@@ -4,14 +4,14 @@
 --   names_turn, values_turn, data_turn, write_turn   lines 1, 2 and 3, and a data line
 --   line_turn        THE TURN of a line, by its number
 --   run_after        where the run is after a turn, as the program has it
---   Told, ToldPage   a function's answer and its buffer tell of a turn, and its page too
+--   Told, ToldPage   a function's answer tells of a turn, and its page too
 use Rattle.std.specs.Prelude.{◌≡◌, Bool, true, false, cond, ◌&&◌, List, [], ℕ, ◌+◌, ◌-◌, ltb, leb, eqb, replicate}
 use Rattle.std.proofs.Math.Option.{Option, none, some}
 use Rattle.codes.specs.Layouts.{one_bit, byte_count}
 use Rattle.refusals.specs.declared.Refusal.{Refusal}
 use Rattle.refusals.specs.Refusals.{sizes_ground, refusal_number, text_number}
 use Rattle.text.specs.declared.Values.{Values}
-use Rattle.text.specs.Text.{names_text, data_text, head_text, fault_text, Tail}
+use Rattle.text.specs.Text.{names_text, data_text, head_text, fault_text}
 use Rattle.cells.specs.Places.{same_list}
 use Rattle.text.specs.Lines.{values_of}
 use Rattle.text.specs.Hex.{is_data, pairs}
@@ -78,15 +78,15 @@ line_turn p line =
 abbrev pub run_after : Turned → Run
 run_after t = record { values = t.after.values; number = t.after.number; used = 0; on = t.on }
 
--- the buffer of 96 bytes ends in the turn's text, and the run is where the turn leaves it
-pub record Shown (text : List ℕ) (run : Run) (r : Turn) (before buffer : List ℕ) : Type 0 where
-  pub text_is : Tail text r.at before buffer
+-- the turn's text is printed, and the run is where the turn leaves it
+pub record Shown (text : List ℕ) (run : Run) (r : Turn) : Type 0 where
+  pub text_is : r.printed ≡ text
   pub run_is : r.run ≡ run
 
-abbrev pub Told : Turned → Turn → List ℕ → List ℕ → Type 0
-Told t r before buffer = Shown t.text (run_after t) r before buffer
+abbrev pub Told : Turned → Turn → Type 0
+Told t r = Shown t.text (run_after t) r
 
 -- and the page is that after the turn
-pub record ToldPage (t : Turned) (r : Turn) (before buffer page : List ℕ) : Type 0 where
-  pub told : Told t r before buffer
+pub record ToldPage (t : Turned) (r : Turn) (page : List ℕ) : Type 0 where
+  pub told : Told t r
   pub page_is : page ≡ t.after.page

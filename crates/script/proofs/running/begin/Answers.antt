@@ -1,12 +1,10 @@
 -- The values are those before line 1.
-use mathlib.Core.Path.{refl}
+use Rattle.text.proofs.Lines.{values-none}
 use Rattle.turns.specs.Buffers.{page_size}
 use Rattle.script.proofs.running.begin.Goals as goal
 
-pub returns : goal.returns
+pub returns-clause-by_index : goal.returns-clause-by_index
 unfolding page_size
-returns c =
-    record {
-      by_index = λ line page. refl;
-      number_value = (refl, refl);
-    }
+returns-clause-by_index c =
+    let d = c.default.ensures in
+    λ line page. rw (c.at_line.ensures, values-none d.0 d.1.0 d.1.1)

@@ -1,24 +1,11 @@
-use mathlib.Core.Path.{◌≡◌, refl, sym, ◌∙◌}
-use native.Mathlib.Omega.{arith}
-use lib.ListN.{length}
-use lib.Seq.{drop-length}
-use Rattle.text.specs.Hex.{all_hex}
-use Rattle.text.proofs.Hex.{all-hex-stop, all-hex-on}
+-- `all` tests each byte of the line, as `all_hex` does.
+use Rattle.std.proofs.Common.{◌∙◌, rules, tests}
+use Rattle.std.proofs.lemmas.Iterator.{YieldsList-from_slice}
+use Rattle.std.proofs.lemmas.Iterator.Search.{all_from_yields_List}
+use Rattle.text.specs.Hex.{is_hex}
+use Rattle.text.proofs.Hex.{all_hex-all}
 use Rattle.text.proofs.decoding.all_hex.Goals as goal
 
-pub loop-i-init : goal.loop-i-init
-loop-i-init c = (omega arith, refl)
-
-pub returns-then-not-is_hex : goal.returns-then-not-is_hex
-returns-then-not-is_hex c =
-    sym (c.loop-i.invariant.1 ∙ all-hex-stop _ c.loop-i.i _ c.loop-i-test.true c.is_hex.ensures (c.if-not-is_hex.true))
-
-pub loop-i-preserved : goal.loop-i-preserved
-loop-i-preserved c =
-    (omega arith, c.loop-i.invariant.1 ∙ all-hex-on _ c.loop-i.i _ c.loop-i-test.true c.is_hex.ensures (c.if-not-is_hex.false))
-
 pub returns : goal.returns
-unfolding all_hex
 returns c =
-    let e : c.loop-i.i ≡ length c.args.line.now = omega arith in
-    sym (c.loop-i.invariant.1 ∙ rw (e, drop-length c.args.line.now))
+    all_from_yields_List is_hex _ _ _ c.all.ensures.ran (YieldsList-from_slice c.args.line.now cc) (λ x b q k. search (rules, tests)) ∙ all_hex-all c.args.line.now

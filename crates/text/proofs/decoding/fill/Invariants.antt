@@ -1,14 +1,10 @@
 -- The invariant: the first k bytes are those of the first k pairs.
 use mathlib.Core.Path.{◌≡◌}
 use mathlib.Core.List.{◌++◌}
-use Prim.Native.Nat.{◌-◌, ◌*◌, ◌≤◌}
-use lib.ListN.{length, take, drop}
+use Prim.Native.Nat.{◌*◌}
+use lib.ListN.{take, drop}
 use Rattle.text.specs.Hex.{pairs}
 use Rattle.text.proofs.decoding.fill.Given as goal
 
 abbrev pub invariant-loop-k : goal.invariant-loop-k
-invariant-loop-k l =
-    (length l.data ≡ length l.initial.data) × (l.k ≤ length l.initial.data) × (pairs l.line ≡ take l.k l.data ++ pairs (drop (2 * l.k) l.line))
-
-abbrev pub decreases-loop-k : goal.decreases-loop-k
-decreases-loop-k l = length l.initial.data - l.k
+invariant-loop-k l = pairs l.line ≡ take l.k l.data ++ pairs (drop (2 * l.k) l.line)

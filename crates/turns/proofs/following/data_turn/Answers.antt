@@ -1,5 +1,5 @@
 -- The line is in form, or the run stops.
-use mathlib.Core.Path.{refl, sym, ◌∙◌}
+use mathlib.Core.Path.{sym, ◌∙◌}
 use Rattle.turns.specs.Turns.{data_turn}
 use Rattle.turns.proofs.following.data_turn.Goals as goal
 
@@ -13,4 +13,4 @@ pub returns : goal.returns
 unfolding data_turn
 returns c =
     let e = sym c.is_data.ensures ∙ c.if-not-is_data.false in
-    rw e (record { text_is = c.put_head-at.ensures; run_is = refl })
+    rw e (record { text_is = c.head.ensures; run_is = c.at_line.ensures })

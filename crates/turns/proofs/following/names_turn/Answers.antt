@@ -1,7 +1,5 @@
 -- The line is in form, or the run stops.
-use mathlib.Core.Path.{refl, sym, ◌∙◌}
-use native.Mathlib.Omega.{arith}
-use Rattle.text.proofs.Text.{nothing_put}
+use mathlib.Core.Path.{sym, ◌∙◌}
 use Rattle.turns.specs.Turns.{names_turn}
 use Rattle.turns.proofs.following.names_turn.Goals as goal
 
@@ -15,5 +13,4 @@ pub returns : goal.returns
 unfolding names_turn
 returns c =
     let e = sym c.is_names.ensures ∙ c.if-not-is_names.false in
-    rw e
-    (record { text_is = nothing_put c.args.buffer.now (omega arith); run_is = refl })
+    rw e (record { text_is = c.nothing.ensures; run_is = c.at_line.ensures })

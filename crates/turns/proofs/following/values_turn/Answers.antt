@@ -1,28 +1,24 @@
 -- The values are in form and in order, or the run stops.
-use mathlib.Core.Path.{refl}
+use mathlib.Core.Path.{sym, ◌∙◌}
 use mathlib.Core.List.{[]}
-use native.Mathlib.Omega.{arith}
-use Rattle.text.proofs.Text.{nothing_put}
 use Rattle.turns.specs.Turns.{at_line}
 use Rattle.turns.proofs.Turns.{values-broken, values-given, values-refused}
 use Rattle.turns.proofs.following.values_turn.Goals as goal
 
 pub returns-in_default : goal.returns-in_default
 returns-in_default c =
-    rw (values-broken (at_line 2 c.args.v []) c.args.line.now c.values_of-form.ensures c.in_default.is)
-    c.stop_form.ensures
+    rw (values-broken (at_line 2 c.args.v []) c.args.line.now (sym c.values_of.ensures ∙ c.in_default.is)) c.stop_form.ensures
 
 pub returns-in-Refused : goal.returns-in-Refused
 returns-in-Refused c =
     let e =
-    values-refused (at_line 2 c.args.v []) c.args.line.now c.values_of-form.ensures c.in-Given.is c.judge_sizes-judged.ensures
+    values-refused (at_line 2 c.args.v []) c.args.line.now (sym c.values_of.ensures ∙ c.in-Some.is) c.judge_sizes-judged.ensures
     c.in-Refused.is in
-    rw (e, ← c.refusal_number.ensures) c.stop.ensures
+    rw (e, ← c.refusal_number.ensures, ← c.from.ensures) c.stop.ensures
 
 pub returns-in-Done : goal.returns-in-Done
 returns-in-Done c =
     let e =
-    values-given (at_line 2 c.args.v []) c.args.line.now c.values_of-form.ensures c.in-Given.is c.judge_sizes-judged.ensures
+    values-given (at_line 2 c.args.v []) c.args.line.now (sym c.values_of.ensures ∙ c.in-Some.is) c.judge_sizes-judged.ensures
     c.in-Done.is in
-    rw e
-    (record { text_is = nothing_put c.args.buffer.now (omega arith); run_is = refl })
+    rw e (record { text_is = c.nothing.ensures; run_is = c.at_line.ensures })
