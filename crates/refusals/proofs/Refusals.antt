@@ -19,7 +19,6 @@
 --   same-ground, same-erasing              a map that has no ground refuses nothing more
 --   sizes-number                           the code, L and S are refused by 1 to 3
 --   done_none, refused-some                an answer tells its ground
---   handed                                 a refusal that is handed on
 --   refused-first, handed-on, done_next    grounds tested one after the other
 --   numbered-code                          the code of a number
 --   product-most                           L·S is at most 4,096
@@ -407,13 +406,7 @@ pub refused-first : (g h : Option Refusal) (c : Result ⊤ Refusal) {r : Refusal
 refused-first none h c e f = let z : ◌≡◌ {A = ℕ} 0 1 = cc in absurd (omega arith)
 refused-first (some s) h c e f = e
 
--- and it is handed on as it is: what a `?` answers is the refusal of what was judged
-pub handed : (g : Option Refusal) {c : Result ⊤ Refusal} (d : Result ⊤ Refusal) {r : Refusal} → c ≡ completion_of g → c ≡ Err r
-    → IsErrAnd d (λ e. e ≡ r) → d ≡ completion_of g
-handed g (Ok done) e f k = absurd k
-handed g (Err s) e f k = ap Err k ∙ sym f ∙ e
-
--- whatever is tested after that
+-- and it is handed on as it is: what a `?` answers is the refusal of what was judged, whatever is tested after that
 pub handed-on : (g h : Option Refusal) (c d : Result ⊤ Refusal) {r : Refusal} → c ≡ completion_of g → c ≡ Err r → IsErrAnd d (λ e. e ≡ r)
     → d ≡ completion_of (first_of g h)
 handed-on g h c (Ok done) e f k = absurd k
