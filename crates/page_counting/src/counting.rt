@@ -14,11 +14,8 @@ fn row_of(strip: &[u8], cells: u32) -> Row
     ensures { result ≡ row_of cells (level strip.now) }
 {
     let mut counts = [0u32; 4];
-    let mut c: u32 = 0;
-    while c < cells {
-        let l = cells::level(strip, c) as usize;
-        counts[l] = counts[l] + 1;
-        c += 1;
+    for c in 0..cells {
+        counts[cells::level(strip, c) as usize] += 1;
     }
     Row { counts }
 }
@@ -36,11 +33,8 @@ pub fn census(bytes: u32, strips: u32, page: &[u8]) -> Census
             rows,
         };
     };
-    let mut k: usize = 0;
-    while k < strips as usize {
-        let r = row_of(strip(page, bytes as usize, k), codes::STRIP_CELLS * bytes);
-        rows[k] = r;
-        k += 1;
+    for k in 0..strips as usize {
+        rows[k] = row_of(strip(page, bytes as usize, k), codes::STRIP_CELLS * bytes);
     }
     Census {
         answer: judged,

@@ -8,21 +8,21 @@ use Rattle.page_counting.proofs.counting.row_of.Goals as goal
 
 pub loop-c-init : goal.loop-c-init
 unfolding row_of count_of sum_of
-loop-c-init c = (omega arith, refl)
+loop-c-init c = refl
 
 pub overflow_add-counts : goal.overflow_add-counts
 overflow_add-counts c =
     record {
-      fits = rw c.loop-c.invariant.1
-          (omega (arith, row-le c.loop-c.c (level c.args.strip.now) c.level-l.result c.level-l.ensures.1));
+      fits = rw c.loop-c.invariant
+          (omega (arith, row-le c.loop-c.c (level c.args.strip.now) c.level.result c.level.ensures.1));
     }
 
 pub loop-c-preserved : goal.loop-c-preserved
 loop-c-preserved c =
-    (omega arith, rw c.loop-c.invariant.1 (row_next c.loop-c.c (level c.args.strip.now) c.level-l.result (sym c.level-l.ensures.0) c.level-l.ensures.1))
+    rw c.loop-c.invariant (row_next c.loop-c.c (level c.args.strip.now) c.level.result (sym c.level.ensures.0) c.level.ensures.1)
 
 pub returns : goal.returns
 unfolding row_of
 returns c =
     let e : c.loop-c.c ≡ c.args.cells = omega arith in
-    rw (c.loop-c.invariant.1, e)
+    rw (c.loop-c.invariant, e)
