@@ -46,6 +46,7 @@ fn judge_block(bytes: u32, strips: u32, pages: u32, block: usize) -> Completion
 }
 
 // Judges what a put is given, and a get: the code, L and S, then the number of pages and both lengths.
+#[tactic(auto, unfolding(refusals::specs::Refusals::put_ground))]
 pub fn judge_put(
     code: u32,
     bytes: u32,
@@ -73,6 +74,7 @@ pub fn judge_live(pages: u32, live: u32) -> Completion
 }
 
 // Judges what the erase of a block is given: L and S, then the number of pages, the block's length and the temperature.
+#[tactic(auto, unfolding(refusals::specs::Refusals::block_erasing))]
 pub fn judge_block_erase(
     bytes: u32,
     strips: u32,

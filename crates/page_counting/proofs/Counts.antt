@@ -24,8 +24,7 @@ use Rattle.demand.proofs.Jobs.{part-level}
 use Rattle.refusals.specs.Refusals.{shape_ground, completion_of}
 use Rattle.page_counting.specs.Counting.{count_of, row_of, zero_row, row_at, rows_of, census_of}
 use Rattle.refusals.specs.declared.Refusal.{Refusal}
-use Rattle.refusals.specs.declared.Completion.{Completion}
-use Rattle.refusals.specs.declared.Completion.TheVariants.{Refused}
+use Rattle.std.specs.Prelude.{Result, Err, ⊤}
 use Rattle.page_counting.specs.declared.Row.{Row}
 use Rattle.refusals.proofs.Refusals.{refused-some}
 
@@ -108,15 +107,15 @@ rows_more lay L k page r h e =
     (λ i d. ap (λ (b : Bool). cond b (row_of (cell_count lay L) (strip_levels (cell_count lay L) page i)) zero_row) (same_test i k d))
 
 -- THE CENSUS. The judge's answer c beside the rows
-module _ (L S : ℕ) (page : List ℕ) (c : Completion) (e : c ≡ completion_of (shape_ground L S (length page))) where
+module _ (L S : ℕ) (page : List ℕ) (c : Result ⊤ Refusal) (e : c ≡ completion_of (shape_ground L S (length page))) where
   -- with a refusal
-  pub census-refused : {r : Refusal} → c ≡ Refused r → record { answer = c; rows = list_of 64 (λ k. zero_row) } ≡ census_of L S page
+  pub census-refused : {r : Refusal} → c ≡ Err r → record { answer = c; rows = list_of 64 (λ k. zero_row) } ≡ census_of L S page
   unfolding census_of rows_of
   census-refused f = rw (refused-some (shape_ground L S (length page)) (sym e ∙ f))
-      (ap (λ (x : Completion). record { answer = x; rows = list_of 64 (λ k. zero_row) }) f)
+      (ap (λ (x : Result ⊤ Refusal). record { answer = x; rows = list_of 64 (λ k. zero_row) }) f)
 
   -- with none
   pub census-done : (rows : List Row) → shape_ground L S (length page) ≡ none → rows ≡ list_of 64 (row_at one_bit L S page)
       → record { answer = c; rows = rows } ≡ census_of L S page
   unfolding census_of rows_of
-  census-done rows f g = rw f (ap₂ (λ (x : Completion) (y : List Row). record { answer = x; rows = y }) (e ∙ ap completion_of f) g)
+  census-done rows f g = rw f (ap₂ (λ (x : Result ⊤ Refusal) (y : List Row). record { answer = x; rows = y }) (e ∙ ap completion_of f) g)

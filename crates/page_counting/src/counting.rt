@@ -6,7 +6,6 @@ ghost use Rattle.page_counting.specs.Counting.{row_of, census_of};
 use crate::{Census, Row};
 use judges::judge_shape;
 use page_parts::strip;
-use refusals::Completion;
 
 // The row of a strip of this many cells.
 fn row_of(strip: &[u8], cells: u32) -> Row
@@ -26,18 +25,12 @@ pub fn census(bytes: u32, strips: u32, page: &[u8]) -> Census
 {
     let zero = Row { counts: [0; 4] };
     let mut rows = [zero; 64];
-    let judged = judge_shape(bytes, strips, page.len());
-    let Completion::Done = judged else {
-        return Census {
-            answer: judged,
-            rows,
-        };
-    };
+    let answer = judge_shape(bytes, strips, page.len());
+    if answer.is_err() {
+        return Census { answer, rows };
+    }
     for k in 0..strips as usize {
         rows[k] = row_of(strip(page, bytes as usize, k), codes::STRIP_CELLS * bytes);
     }
-    Census {
-        answer: judged,
-        rows,
-    }
+    Census { answer, rows }
 }

@@ -44,6 +44,7 @@ fn empty_unmarked(page: &mut [u8], map: &[u8])
 }
 
 // Makes every byte of the page 0 at a temperature from 50 to 400 tenths of a degree.
+#[tactic(auto, unfolding(refusals::specs::Refusals::erasing_ground))]
 pub fn erase(bytes: u32, strips: u32, page: &mut [u8], tenths: i16) -> Completion
     ensures value { result ≡ completion_of (first_of (shape_ground bytes strips (length page.old)) (erase_ground tenths)) }
     ensures page_after { page.new ≡ kept (first_of (shape_ground bytes strips (length page.old)) (erase_ground tenths))

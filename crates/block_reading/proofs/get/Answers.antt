@@ -1,38 +1,17 @@
 -- Both judges' answers are their grounds'; with neither, the live page is in order for the read.
-use mathlib.Core.Path.{◌≡◌, refl, sym, ◌∙◌}
+use mathlib.Core.Path.{◌≡◌, sym, ◌∙◌}
 use mathlib.Core.Option.{none}
-use Prim.Native.Nat.{◌+◌, ◌≤◌}
 use native.Mathlib.Omega.{arith}
 use lib.ListN.{length}
 use Rattle.refusals.specs.Refusals.{put_ground, live_ground}
-use Rattle.refusals.proofs.Refusals.{done_none, done_next, refused-some, handed, handed-on, sizes-limits}
+use Rattle.refusals.proofs.Refusals.{done_none, sizes-limits}
 use Rattle.block_promises.specs.Block.{live_of}
 use Rattle.block_reading.proofs.Lent.{judged-fits, judged-there, lent-page, page-ends, page-reads}
 use Rattle.block_reading.proofs.get.Goals as goal
 
-pub returns-in_err-judge_put : goal.returns-in_err-judge_put
-returns-in_err-judge_put c =
-    let g = put_ground c.args.code c.args.bytes c.args.strips c.args.pages (length c.args.block.now) (length c.args.data.now) in
-    record {
-      value = handed-on g _ c.judge_put.result _ c.judge_put.ensures c.in_err-judge_put.was c.from_residual.ensures.1;
-      data_after = rw (refused-some g (sym c.judge_put.ensures ∙ c.in_err-judge_put.was)) refl;
-    }
-
 pub live_page-live-requires : goal.live_page-live-requires
 live_page-live-requires c =
     omega (arith, (judged-fits c.judge_put.ensures c.in_ok-judge_put.was).block-is)
-
-pub returns-in_err-judge_live : goal.returns-in_err-judge_live
-returns-in_err-judge_live c =
-    let g = put_ground c.args.code c.args.bytes c.args.strips c.args.pages (length c.args.block.now) (length c.args.data.now) in
-    let h = live_ground c.args.pages (live_of c.args.block.now) in
-    let in_order : g ≡ none = done_none g (sym c.judge_put.ensures ∙ c.in_ok-judge_put.was) in
-    let l = rw c.live_page-live.ensures at c.judge_live.ensures in
-    record {
-      value = done_next g h c.judge_put.ensures c.in_ok-judge_put.was
-          (handed h _ l c.in_err-judge_live.was c.from_residual-in_err-judge_live.ensures.1);
-      data_after = rw (in_order, refused-some h (sym l ∙ c.in_err-judge_live.was)) refl;
-    }
 
 pub page_start-a-requires : goal.page_start-a-requires
 page_start-a-requires c = sizes-limits _ _ _ (judged-fits c.judge_put.ensures c.in_ok-judge_put.was).sizes
@@ -42,13 +21,21 @@ page_size-n-requires c = sizes-limits _ _ _ (judged-fits c.judge_put.ensures c.i
 
 pub overflow_add-a : goal.overflow_add-a
 overflow_add-a c =
-    let ends : c.page_start-a.result + c.page_size-n.result ≤ length c.args.block.now = page-ends (judged-fits c.judge_put.ensures c.in_ok-judge_put.was) (judged-there c.judge_live.ensures c.in_ok-judge_live.was) c.page_start-a.ensures c.page_size-n.ensures in
-    omega (arith, ends)
+    let there = judged-there c.judge_live.ensures c.in_ok-judge_live.was in
+    omega (
+      arith,
+      page-ends (judged-fits c.judge_put.ensures c.in_ok-judge_put.was) there c.page_start-a.ensures
+          c.page_size-n.ensures,
+    )
 
 pub slice_bounds-read-end : goal.slice_bounds-read-end
 slice_bounds-read-end c =
-    let ends : c.page_start-a.result + c.page_size-n.result ≤ length c.args.block.now = page-ends (judged-fits c.judge_put.ensures c.in_ok-judge_put.was) (judged-there c.judge_live.ensures c.in_ok-judge_live.was) c.page_start-a.ensures c.page_size-n.ensures in
-    omega (arith, ends)
+    let there = judged-there c.judge_live.ensures c.in_ok-judge_live.was in
+    omega (
+      arith,
+      page-ends (judged-fits c.judge_put.ensures c.in_ok-judge_put.was) there c.page_start-a.ensures
+          c.page_size-n.ensures,
+    )
 
 pub returns : goal.returns
 returns c =
@@ -59,9 +46,9 @@ returns c =
     let found : h ≡ none = done_none h (sym l ∙ c.in_ok-judge_live.was) in
     let p = lent-page c.args.bytes c.args.strips (live_of c.args.block.now) c.args.block.now (rw c.live_page-live.ensures at c.page_start-a.ensures)
     c.page_size-n.ensures in
-    let e = rw p at c.read.ensures in
     let q = page-reads c.args.block.now (judged-fits c.judge_put.ensures c.in_ok-judge_put.was) (judged-there l c.in_ok-judge_live.was) in
+    let e = rw (p, q) at c.read.ensures in
     record {
-      value = rw (in_order, found) (rw q at e.value);
-      data_after = rw (in_order, found) (rw q at e.data_after);
+      value = rw (in_order, found) e.value;
+      data_after = rw (in_order, found) e.data_after;
     }
