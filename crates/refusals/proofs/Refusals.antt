@@ -20,7 +20,7 @@
 --   sizes-number                           the code, L and S are refused by 1 to 3
 --   done_none, refused-some                an answer tells its ground
 --   refused-first, done_next               grounds tested one after the other
---   handed, handed-on, judged-and          what a `?` answers of them, and the `and` of two
+--   handed-on, judged-and                  what a `?` answers of them, and the `and` of two
 --   numbered-code                          the code of a number
 --   product-most                           L·S is at most 4,096
 use mathlib.Core.Path.{◌≡◌, refl, sym, ◌∙◌, ap}
@@ -408,13 +408,7 @@ pub refused-first : (g h : Option Refusal) (c : Result ⊤ Refusal) {r : Refusal
 refused-first none h c e f = let z : ◌≡◌ {A = ℕ} 0 1 = cc in absurd (omega arith)
 refused-first (some s) h c e f = e
 
--- it is what a `?` answers
-pub handed : (g : Option Refusal) {c : Result ⊤ Refusal} (d : Result ⊤ Refusal) {r : Refusal} → c ≡ completion_of g → c ≡ Err r
-    → IsErrAnd d (λ e. e ≡ r) → d ≡ completion_of g
-handed g (Ok done) e f k = absurd k
-handed g (Err s) e f k = ap Err k ∙ sym f ∙ e
-
--- whatever is tested after it
+-- it is what a `?` answers, whatever is tested after it
 pub handed-on : (g h : Option Refusal) (c d : Result ⊤ Refusal) {r : Refusal} → c ≡ completion_of g → c ≡ Err r → IsErrAnd d (λ e. e ≡ r)
     → d ≡ completion_of (first_of g h)
 handed-on g h c (Ok done) e f k = absurd k
