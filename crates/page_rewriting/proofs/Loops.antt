@@ -1,10 +1,11 @@
 -- One turn of the loops over a page's strips: what is lent, the strip's outcome, and what the total, the digits and the page are after it.
 -- Then what the whole write makes of that.
+--   byte_weights, table-priced    the weights of a call, and their table
 --   turn-shaped, turn-outcome     what a turn lends is in order, and its outcome is that of the strip's write
 --   PlannedTo, planned-more       the plans of the strips before k
 --   Reached, reached-more, ..     the total after k strips
 --   CarriedUpTo, carried-more     the page with the digits of the strips before k carried out
---   done-page, spent-page         the page that a write leaves
+--   done-page, kept-page          the page that a write leaves
 use mathlib.Core.Path.{◌≡◌, refl, sym, ◌∙◌, ap}
 use mathlib.Core.Bool.{true}
 use mathlib.Core.List.{List, ◌++◌}
@@ -12,10 +13,14 @@ use mathlib.Core.Option.{Option, none, some}
 use Prim.Native.Nat.{ℕ, suc, ◌+◌, ◌*◌, ◌-◌, ◌<◌, ◌≤◌}
 use native.Mathlib.Omega.{arith}
 use native.Mathlib.Nat.{not-suc-le-zero, sub-zero}
-use lib.ListN.{length, take, drop, length-append}
+use lib.ListN.{length, get_or, take, drop, length-append}
+use mir.Syntax.{w8}
+use mir.Val.{Fits}
 use lib.Seq.{drop-drop, take_at, drop_at, length-take-le}
+use Rattle.std.specs.Prelude as Std
 use Rattle.cells.specs.Marks.{marks_in}
 use Rattle.cells.specs.Raising.{start_of, start_in, raised_to}
+use Rattle.cells.specs.Climbs.{Weights}
 use Rattle.cells.proofs.Raising.{raised_to-length}
 use Rattle.cells.proofs.Parts.{within}
 use Rattle.codes.specs.Generators.{Generators}
@@ -28,7 +33,6 @@ use Rattle.trellis.specs.Ways.{Shaped}
 use Rattle.carrying.specs.Carrying.{digit_in, carried_to}
 use Rattle.trellis.specs.Outcomes.{solution_outcome}
 use Rattle.trellis.specs.Plans.{write_of, Plans}
-use Rattle.trellis.specs.declared.Outcome.{Outcome}
 use Rattle.trellis.proofs.Ways.{Suits}
 use Rattle.demand.specs.Jobs.{part, Job}
 use Rattle.demand.specs.Computed.{strip_write, page_write, spent_strip}
@@ -37,7 +41,6 @@ use Rattle.page_parts.specs.Shape.{strip_of, Sized, map_part, strip_part}
 use Rattle.page_answers.specs.Totals.{no_total, added, total_from, answer_for}
 use Rattle.page_promises.specs.Writes.{call_answer, call_page, one_bit_job, job_answer, job_page}
 use Rattle.page_rewriting.specs.Plans.{Planned, Carried}
-use Rattle.refusals.specs.declared.Refusal.{Refusal}
 use Rattle.page_answers.specs.declared.Total.{Total}
 use Rattle.page_answers.specs.declared.Answer.{Answer}
 use Rattle.page_answers.specs.declared.Answer.TheVariants as A
@@ -60,6 +63,10 @@ part-fits {lay} {L} {S} Z {k} h = omega (arith, Z.data_is, within L k S h)
 pub lent-limits : {lay : Layout} {L S : ℕ} {page content : List ℕ} → Sized lay L S page content → {k : ℕ} → k < S → (L ≤ 64) × (k < 64)
 lent-limits {L = L} {S = S} Z h = ((one-to-64 L Z.bytes_in).1, omega (arith, (one-to-64 S Z.strips_in).1))
 
+-- THE WEIGHTS that a call is passed are three bytes
+pub byte_weights : (W : List ℕ) → length W ≡ 3 → ((i : ℕ) → Fits w8 (get_or W i 0)) → Weights W
+byte_weights W e f = record { three = e; bytes = λ i. omega (arith, (f i).fits) }
+
 -- THE TABLE of weights that suit a code, none of them free
 pub table-priced : {G : Generators} {W rows : List ℕ} → Suits G W → Dear (steps_of W) → Table W rows → Priced W rows
 table-priced K D T = record { weights = K.weights; dear = D; table = T }
@@ -74,19 +81,19 @@ pub planned-none : {G : Generators} {W : List ℕ} {L S : ℕ} {page map content
     → PlannedTo G W L S page map content digits 0
 planned-none e = record { size = e; so_far = λ j h. absurd (not-suc-le-zero h) }
 
--- TURN k, with the strip x that `strip` gave, and its part m of the map
-module _ {L S : ℕ} {page content : List ℕ} (map : List ℕ) (Z : Sized one_bit L S page content) {k : ℕ} (h : k < S) {x m : List ℕ}
-    (is : x ≡ strip_of L k page) (marked : m ≡ map_part L k map) where
+-- TURN k, with the strip x that `strip` gave, its part m of the map and its part y of the data
+module _ {L S : ℕ} {page content : List ℕ} (map : List ℕ) (Z : Sized one_bit L S page content) {k : ℕ} (h : k < S) {x m y : List ℕ}
+    (is : x ≡ strip_of L k page) (marked : m ≡ map_part L k map) (own : y ≡ part L k content) where
   -- it is strip k
   strip-is : x ≡ strip_part L k page
   strip-is = is ∙ strip-there L S k page Z.bytes_in Z.page_is h
 
   -- its part of the data has L bytes
-  data-length : length (take (L * k + L - L * k) (drop (L * k) content)) ≡ L
-  data-length = lent_length L k content (part-fits Z h)
+  pub data-length : length y ≡ L
+  data-length = ap length own ∙ part_length L S k content Z.data_is h
 
   -- the strip and the part are in order
-  pub turn-shaped : {W rows : List ℕ} → Table W rows → Shaped rows x (take (L * k + L - L * k) (drop (L * k) content))
+  pub turn-shaped : {W rows : List ℕ} → Table W rows → Shaped rows x y
   turn-shaped T = record {
     cut = T.cut;
     size = ap length strip-is ∙ part_length (byte_count one_bit L) S k page Z.page_is h ∙ ap (byte_count one_bit) (sym data-length);
@@ -94,28 +101,27 @@ module _ {L S : ℕ} {page content : List ℕ} (map : List ℕ) (Z : Sized one_b
   }
 
   -- its outcome is that of the strip's write
-  pub turn-outcome : {G : Generators} {W : List ℕ} {o : Outcome} → Suits G W → Dear (steps_of W)
-      → o ≡ solution_outcome (write_of G W x (marks_in m) (take (L * k + L - L * k) (drop (L * k) content)))
+  pub turn-outcome : {G : Generators} {W : List ℕ} {o : Std.Option ℕ} → Suits G W → Dear (steps_of W)
+      → o ≡ solution_outcome (write_of G W x (marks_in m) y)
       → o ≡ solution_outcome (strip_write (one_bit_job (marks_in map) G W L S page content) k)
   turn-outcome {G} {W} K D e =
-      (rw (lent L k content, strip-is, marked) at e)
+      (rw (own, strip-is, marked) at e)
       ∙ ap solution_outcome
-      (write_same G W K D L S (one-to-64 L Z.bytes_in).1 page map content k (ap length (sym (lent L k content)) ∙ data-length))
+      (write_same G W K D L S (one-to-64 L Z.bytes_in).1 page map content k (part_length L S k content Z.data_is h))
 
   -- with its digits the strips before it and it are planned
   pub planned-more : {G : Generators} {W digits ys : List ℕ} → PlannedTo G W L S page map content digits k
-      → (length ys ≡ length (take (L * k + L - L * k) (drop (L * k) digits)))
-      × Plans G W x (marks_in m) (take (L * k + L - L * k) (drop (L * k) content)) ys
+      → (length ys ≡ length (take (L * k + L - L * k) (drop (L * k) digits))) × Plans G W x (marks_in m) y ys
       → PlannedTo G W L S page map content (take (L * k) digits ++ (ys ++ drop (L * k + L - L * k) (drop (L * k) digits))) (k + 1)
   planned-more {G} {W} {digits} {ys} p e =
       let fits : L * k + L ≤ length digits = omega (arith, p.size, within L k S h) in
       let long : length ys ≡ L = e.0 ∙ lent_length L k digits fits in
-      let own : Plans G W (strip_part L k page) (marks_in (map_part L k map)) (part L k content) ys =
-      rw (lent L k content, strip-is, marked) at e.1 in
+      let plans : Plans G W (strip_part L k page) (marks_in (map_part L k map)) (part L k content) ys =
+      rw (own, strip-is, marked) at e.1 in
       record {
         size = stored-length L k digits ys fits long ∙ p.size;
         so_far = part-more L k digits ys (λ j. Plans G W (strip_part L j page) (marks_in (map_part L j map)) (part L j content))
-            fits long own p.so_far;
+            fits long plans p.so_far;
       }
 
 -- THE TOTAL after k strips: with the outcomes of the others it comes to the page's answer
@@ -141,7 +147,7 @@ reached-none {G} {W} {L} {S} {page} map {content} K D Z e =
 
 module _ {J : Job} where
   -- with one more strip
-  pub reached-more : {t u : Total} {k : ℕ} {o : Outcome} → Reached J t k → k < J.strips → o ≡ solution_outcome (strip_write J k)
+  pub reached-more : {t u : Total} {k : ℕ} {o : Std.Option ℕ} → Reached J t k → k < J.strips → o ≡ solution_outcome (strip_write J k)
       → u ≡ added t o → Reached J u (k + 1)
   unfolding total_from
   reached-more {t} {u} {k} {o} r h e f =
@@ -200,26 +206,24 @@ rest_more w k x y before h l e =
 pub carried-nothing : {G : Generators} {L S : ℕ} {before content digits : List ℕ} → CarriedUpTo G L S before content digits before 0
 carried-nothing = record { size = refl; so_far = λ j h. absurd (not-suc-le-zero h); rest = refl }
 
--- with one more strip, where b is the bytes of a strip
-pub carried-more : {G : Generators} {L S b : ℕ} {before content digits page ys : List ℕ} {k : ℕ}
+-- with one more strip, where b is the bytes of a strip, and u and v are its parts of the data and of the digits
+pub carried-more : {G : Generators} {L S b : ℕ} {before content digits page ys u v : List ℕ} {k : ℕ}
     → CarriedUpTo G L S before content digits page k
-    → b ≡ byte_count one_bit L → length before ≡ byte_count one_bit L * S → k < S
+    → b ≡ byte_count one_bit L → length before ≡ byte_count one_bit L * S → k < S → u ≡ part L k content → v ≡ part L k digits
     → ys ≡ raised_to start_of (take (b * k + b - b * k) (drop (b * k) page))
-    (carried_to G (take (b * k + b - b * k) (drop (b * k) page)) (take (L * k + L - L * k) (drop (L * k) content))
-    (digit_in (take (L * k + L - L * k) (drop (L * k) digits))))
+    (carried_to G (take (b * k + b - b * k) (drop (b * k) page)) u (digit_in v))
     → CarriedUpTo G L S before content digits (take (b * k) page ++ (ys ++ drop (b * k + b - b * k) (drop (b * k) page))) (k + 1)
 unfolding part
-carried-more {G} {L} {S} {b} {before} {content} {digits} {page} {ys} {k} p q z h e = rw q (go (rw q at e))
+carried-more {G} {L} {S} {b} {before} {content} {digits} {page} {ys} {u} {v} {k} p q z h f g e = rw q (go (rw (q, f, g) at e))
   where
     n : ℕ
     n = byte_count one_bit L
 
     go : ys ≡ raised_to start_of (take (n * k + n - n * k) (drop (n * k) page))
-        (carried_to G (take (n * k + n - n * k) (drop (n * k) page)) (take (L * k + L - L * k) (drop (L * k) content))
-        (digit_in (take (L * k + L - L * k) (drop (L * k) digits))))
+        (carried_to G (take (n * k + n - n * k) (drop (n * k) page)) (part L k content) (digit_in (part L k digits)))
         → CarriedUpTo G L S before content digits (take (n * k) page ++ (ys ++ drop (n * k + n - n * k) (drop (n * k) page))) (k + 1)
     go e =
-        let own = rw (lent n k page, lent L k content, lent L k digits, p.rest) at e in
+        let own = rw (lent n k page, p.rest) at e in
         let own-length : length ys ≡ n = ap length own ∙ raised_to-length start_of _ _ ∙ part_length n S k before z h in
         let fits : n * k + n ≤ length page = omega (arith, p.size, within n k S h) in
         record {
@@ -271,20 +275,11 @@ module _ {G : Generators} {W : List ℕ} (K : Suits G W) (D : Dear (steps_of W))
           after a q p c
       go none q = absurd (let z : ◌≡◌ {A = ℕ} 0 1 = cc in omega arith)
 
-  -- where it is spent, nothing is changed
-  pub spent-page : {n : ℕ} → r ≡ A.Spent n → before ≡ job_page none (one_bit_job (marks_in map) G W L S before content) start_of
+  -- else nothing is changed
+  pub kept-page : ((cost : ℕ) → r ≡ A.Done cost → ⊥) → before ≡ job_page none (one_bit_job (marks_in map) G W L S before content) start_of
   unfolding job_page job_answer
-  spent-page {n} f = go (page_write J) e
+  kept-page f = go (page_write J) e
     where
       go : (w : Option Solution) → r ≡ call_answer none w (spent_strip J) → before ≡ call_page none w raised before
       go none h = refl
-      go (some a) h = absurd (let z : ◌≡◌ {A = ℕ} 0 1 = cc in omega arith)
-
-  -- and it is not refused
-  pub not-refused : {q : Refusal} → r ≡ A.Refused q → ⊥
-  unfolding job_answer
-  not-refused {q} f = go (page_write J) e
-    where
-      go : (w : Option Solution) → r ≡ call_answer none w (spent_strip J) → ⊥
-      go none h = let z : ◌≡◌ {A = ℕ} 0 1 = cc in omega arith
-      go (some a) h = let z : ◌≡◌ {A = ℕ} 0 1 = cc in omega arith
+      go (some a) h = absurd (f a.cost h)

@@ -10,13 +10,13 @@ use mathlib.Core.Option.{Option, none, some}
 use Prim.Native.Nat.{ℕ, zero, suc, ◌<◌, ◌≤◌, ◌+◌, ◌*◌, ◌%◌, ◌^◌}
 use native.Mathlib.Omega.{arith}
 use native.Mathlib.Nat.{mod-eq_of_lt}
+use Rattle.std.specs.Prelude.{Some, None}
+use Rattle.std.specs.Prelude as Std
 use Rattle.cells.specs.Places.{list_of}
 use Rattle.search.specs.Best.{Solution}
 use Rattle.search.specs.Trellis.{joined, free, all, first-none}
 use Rattle.stages.specs.Stage.{closed}
 use Rattle.trellis.specs.Outcomes.{solution_outcome}
-use Rattle.trellis.specs.declared.Outcome.{Outcome}
-use Rattle.trellis.specs.declared.Outcome.TheVariants as O
 use Rattle.page_answers.specs.Totals.{no_total, with_outcome, unless_spent, added, total_from, spent_or_done, answer_for}
 use Rattle.page_promises.specs.Writes.{call_answer, job_answer}
 use Rattle.page_answers.specs.Answers.{answer_cost}
@@ -27,17 +27,17 @@ use Rattle.page_answers.specs.declared.Answer.{Answer}
 use Rattle.page_answers.specs.declared.Answer.TheVariants as A
 
 -- once spent a total stays
-pub total-spent : (t : Total) (f : ℕ → Outcome) (n : ℕ) → t.spent ≡ true → total_from t f n ≡ t
+pub total-spent : (t : Total) (f : ℕ → Std.Option ℕ) (n : ℕ) → t.spent ≡ true → total_from t f n ≡ t
 unfolding total_from
 total-spent t f zero e = refl
 total-spent t f (suc n) e = let s : added t (f 0) ≡ t = ap (λ (b : Bool). unless_spent b t (with_outcome t (f 0))) e in
     ap (λ (u : Total). total_from u (λ i. f (suc i)) n) s ∙ total-spent t (λ i. f (suc i)) n e
 
 -- outcomes that agree make the same total
-pub total-same : (t : Total) (f g : ℕ → Outcome) (n : ℕ) → ((i : ℕ) → i < n → f i ≡ g i) → total_from t f n ≡ total_from t g n
+pub total-same : (t : Total) (f g : ℕ → Std.Option ℕ) (n : ℕ) → ((i : ℕ) → i < n → f i ≡ g i) → total_from t f n ≡ total_from t g n
 unfolding total_from
 total-same t f g zero e = refl
-total-same t f g (suc n) e = ap (λ (o : Outcome). total_from (added t o) (λ i. f (suc i)) n) (e 0 (omega arith))
+total-same t f g (suc n) e = ap (λ (o : Std.Option ℕ). total_from (added t o) (λ i. f (suc i)) n) (e 0 (omega arith))
     ∙ total-same (added t (g 0)) (λ i. f (suc i)) (λ i. g (suc i)) n (λ i h. e (suc i) (omega arith))
 
 -- a total that has room for n more strips
@@ -65,7 +65,7 @@ module _ (w : ℕ → Option Solution) where
   total-answers (suc n) g t r b = go (w (g 0)) refl (all w (list_of n (λ i. g (suc i)))) (total-answers n (λ i. g (suc i)))
     where
       -- the outcome is added, since the total is not spent
-      adds : (o : Outcome) → added t o ≡ with_outcome t o
+      adds : (o : Std.Option ℕ) → added t o ≡ with_outcome t o
       adds o = ap (λ (s : Bool). unless_spent s t (with_outcome t o)) r.unspent
 
       go : (x : Option Solution) → w (g 0) ≡ x → (q : Option Solution)
@@ -74,13 +74,13 @@ module _ (w : ℕ → Option Solution) where
           → answer_for (total_from (added t (solution_outcome x)) (λ j. solution_outcome (w (g (suc j)))) n)
           ≡ answers_after t (joined x q) (elim x [ none ↦ 0 | some a ↦ suc (first-none w (list_of n (λ i. g (suc i)))) ])
       go none e q f =
-          rw (adds O.Spent, total-spent (with_outcome t O.Spent) (λ j. solution_outcome (w (g (suc j)))) n refl) (ap A.Spent (omega arith))
+          rw (adds None, total-spent (with_outcome t None) (λ j. solution_outcome (w (g (suc j)))) n refl) (ap A.Spent (omega arith))
       go (some a) e q f =
           let c : a.cost < closed = b 0 (omega arith) a e in
           let s : (t.cost + a.cost) % 2 ^ 64 ≡ t.cost + a.cost = mod-eq_of_lt (omega (arith, r.cost-room)) in
           let k : (t.strips + 1) % 2 ^ 32 ≡ t.strips + 1 = mod-eq_of_lt (omega (arith, r.strip-room)) in
           let u : Total = record { cost = t.cost + a.cost; strips = t.strips + 1; spent = false } in
-          let v : added t (O.Done a.cost) ≡ u = adds (O.Done a.cost)
+          let v : added t (Some a.cost) ≡ u = adds (Some a.cost)
           ∙ ap₂ (λ (x y : ℕ). record { cost = x; strips = y; spent = false }) s k in
           let room : Room u n = record {
             unspent = refl;

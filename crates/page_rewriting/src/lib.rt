@@ -17,7 +17,7 @@ ghost use Rattle.page_rewriting.specs.Plans.{Planned, Carried};
 use carrying::carry_strip;
 use codes::Code;
 use page_answers::{Answer, Total};
-use page_parts::{map_part, strip};
+use page_parts::{data_part, map_part, strip};
 use prices::rows_of;
 use trellis::backward::price_strip;
 use trellis::forward::plan_strip;
@@ -39,21 +39,18 @@ pub fn price_strips(
 {
     let rows = rows_of(weights);
     let mut total = Total::new();
-    let mut k: usize = 0;
-    while k < strips {
-        let a = bytes * k;
+    for k in 0..strips {
         let price = price_strip(
             code,
             &rows,
             strip(page, bytes, k),
             map_part(map, bytes, k),
-            &data[a..a + bytes],
+            data_part(data, bytes, k),
         );
         total = total.add(price);
         if total.spent {
             return total.answer();
         }
-        k += 1;
     }
     total.answer()
 }
@@ -81,22 +78,20 @@ fn plan_strips(
 {
     let rows = rows_of(weights);
     let mut total = Total::new();
-    let mut k: usize = 0;
-    while k < strips {
+    for k in 0..strips {
         let a = bytes * k;
         let outcome = plan_strip(
             code,
             &rows,
             strip(page, bytes, k),
             map_part(map, bytes, k),
-            &data[a..a + bytes],
+            data_part(data, bytes, k),
             &mut digits[a..a + bytes],
         );
         total = total.add(outcome);
         if total.spent {
             return total.answer();
         }
-        k += 1;
     }
     total.answer()
 }
@@ -116,17 +111,14 @@ fn carry_strips(
         page.old «data».now digits.now page.new }
 {
     let n = codes::STRIP_BYTES * bytes;
-    let mut k: usize = 0;
-    while k < strips {
+    for k in 0..strips {
         let a = n * k;
-        let b = bytes * k;
         carry_strip(
             code,
             &mut page[a..a + n],
-            &data[b..b + bytes],
-            &digits[b..b + bytes],
+            data_part(data, bytes, k),
+            data_part(digits, bytes, k),
         );
-        k += 1;
     }
 }
 
@@ -160,12 +152,8 @@ pub fn write_strips(
         data,
         &mut digits[0..whole],
     );
-    match answer {
-        Answer::Refused(_) => answer,
-        Answer::Done(_) => {
-            carry_strips(code, bytes, strips, page, data, &digits[0..whole]);
-            answer
-        }
-        Answer::Spent(_) => answer,
+    if let Answer::Done(_) = answer {
+        carry_strips(code, bytes, strips, page, data, &digits[0..whole]);
     }
+    answer
 }

@@ -51,6 +51,7 @@ fn labels_before(code: Code, labels: u32, data: &[u8], q: usize) -> u32
 // What the data of a strip costs, or None where no pattern takes them. It is lent nothing that it may change, and keeps no array with a
 // place for each stage or cell.
 // `decide` has the same loop: it keeps more of each block between two steps of it, and a price is to keep, and to be lent, none of that.
+// What is passed stays apart: a struct of it would have room for more numbers than a price may be passed (tests/pricing.py, rule 3).
 pub fn price_strip(
     code: Code,
     rows: &[u32; 256],

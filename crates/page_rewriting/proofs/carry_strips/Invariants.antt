@@ -1,11 +1,7 @@
 -- The invariant: the strips before k are raised to what their digits want, and from strip k on the page is as it was.
-use Prim.Native.Nat.{◌-◌}
 use Rattle.codes.specs.Codes.{generators_of}
 use Rattle.page_rewriting.proofs.Loops.{CarriedUpTo}
 use Rattle.page_rewriting.proofs.carry_strips.Given as goal
 
 abbrev pub invariant-loop-k : goal.invariant-loop-k
 invariant-loop-k l = CarriedUpTo (generators_of l.code) l.bytes l.strips l.initial.page l.data l.digits l.page l.k
-
-abbrev pub decreases-loop-k : goal.decreases-loop-k
-decreases-loop-k l = l.strips - l.k

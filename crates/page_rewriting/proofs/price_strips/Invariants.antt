@@ -1,7 +1,7 @@
 -- The invariant: with the outcomes of the strips from k on, the total comes to the page's answer. A total that is spent stays, so it may
 -- answer at once.
 use mathlib.Core.List.{List}
-use Prim.Native.Nat.{ℕ, ◌-◌}
+use Prim.Native.Nat.{ℕ}
 use Rattle.cells.specs.Marks.{marks_in}
 use Rattle.codes.specs.Codes.{generators_of}
 use Rattle.prices.specs.Prices.{Priced}
@@ -12,6 +12,3 @@ use Rattle.page_rewriting.proofs.price_strips.Given as goal
 abbrev pub invariant-loop-k : goal.invariant-loop-k
 invariant-loop-k l =
     (W : List ℕ) → Priced W l.rows → Reached (one_bit_job (marks_in l.map) (generators_of l.code) W l.bytes l.strips l.page l.data) l.total l.k
-
-abbrev pub decreases-loop-k : goal.decreases-loop-k
-decreases-loop-k l = l.strips - l.k

@@ -1,18 +1,14 @@
 -- The plans answer for the page. Where they are done, carrying them out leaves the page of the write; else nothing is touched.
 use mathlib.Core.Path.{◌≡◌, ◌∙◌}
 use mathlib.Core.List.{◌++◌}
-use mathlib.Core.Option.{none}
-use Prim.Native.Nat.{◌*◌, ◌-◌}
-use native.Mathlib.Omega.{arith}
+use Prim.Native.Nat.{ℕ, ◌*◌, ◌-◌}
 use lib.ListN.{length, drop, replicate}
 use mir.Syntax.{w8}
 use borrow.Author.Rules.{elem_Fits}
-use Rattle.cells.specs.Marks.{marks_in}
-use Rattle.cells.specs.Raising.{start_of}
 use Rattle.codes.specs.Codes.{generators_of}
 use Rattle.trellis.proofs.Ways.{Suits, suits}
-use Rattle.page_promises.specs.Writes.{one_bit_job, job_answer, job_page}
-use Rattle.page_rewriting.proofs.Loops.{whole-most, front_length, front_fits, front-back, done-page, spent-page, not-refused}
+use Rattle.page_rewriting.proofs.Loops.{byte_weights, whole-most, front_length, front_fits, front-back, done-page, kept-page}
+use Rattle.page_rewriting.proofs.write_strips.Goals.{After-plan_strips-answer}
 use Rattle.page_rewriting.proofs.write_strips.Goals as goal
 
 pub slice_bounds-digits-end : goal.slice_bounds-digits-end
@@ -40,42 +36,22 @@ carry_strips-requires c =
           (front_fits _ ((c.plan_strips-answer.new.digits)) ((drop (c.args.bytes * c.args.strips - 0) (replicate 4096 0))) digits-length);
     }
 
-pub returns-in-Refused : goal.returns-in-Refused
-returns-in-Refused c =
-    let suited : Suits (generators_of c.args.code) c.args.weights = suits c.args.code c.args.weights (record {
-      three = c.well_formed.1.0.1.0.1;
-      bytes = λ i. let h = (elem_Fits w8 w8 c.args.weights _ i c.well_formed.1.0.1.1 tt).fits in omega arith;
-    }) in
-    absurd (not-refused suited c.requires.dear _ c.requires.sized c.plan_strips-answer.ensures.value c.in-Refused.is)
+-- the weights suit the code
+suited : (c : After-plan_strips-answer) → Suits (generators_of c.args.code) c.args.weights
+suited c =
+    let fits = λ (i : ℕ). elem_Fits w8 w8 c.args.weights _ i c.well_formed.1.0.1.1 tt in
+    suits c.args.code c.args.weights (byte_weights _ c.well_formed.1.0.1.0.1 fits)
 
-pub returns-in-Done : goal.returns-in-Done
-returns-in-Done c =
-    let suited : Suits (generators_of c.args.code) c.args.weights = suits c.args.code c.args.weights (record {
-      three = c.well_formed.1.0.1.0.1;
-      bytes = λ i. let h = (elem_Fits w8 w8 c.args.weights _ i c.well_formed.1.0.1.1 tt).fits in omega arith;
-    }) in
-    let digits-length : length ((c.plan_strips-answer.new.digits)) ≡ c.args.bytes * c.args.strips = c.plan_strips-answer.auto.digits ∙ front_length _ _ (whole-most c.requires.sized) in
-    let carried = rw (front-back _ ((c.plan_strips-answer.new.digits)) ((drop (c.args.bytes * c.args.strips - 0) (replicate 4096 0))) digits-length) at c.carry_strips.ensures in
-    record {
-      value = c.plan_strips-answer.ensures.value;
-      page_after = done-page suited c.requires.dear c.args.map.now c.requires.sized c.plan_strips-answer.ensures.value
-          c.in-Done.is
-          c.plan_strips-answer.ensures.planned carried;
-    }
+pub returns-in-Done-clause-page_after : goal.returns-in-Done-clause-page_after
+returns-in-Done-clause-page_after c =
+    let digits-length : length c.plan_strips-answer.new.digits ≡ c.args.bytes * c.args.strips = c.plan_strips-answer.auto.digits ∙ front_length _ _ (whole-most c.requires.sized) in
+    let carried = rw (front-back _ c.plan_strips-answer.new.digits (drop (c.args.bytes * c.args.strips - 0) (replicate 4096 0)) digits-length) at c.carry_strips.ensures in
+    done-page (suited (goal.at.returns-in-Done-clause-page_after c).After-plan_strips-answer) c.requires.dear c.args.map.now c.requires.sized c.plan_strips-answer.ensures.value
+    c.in-Done.is c.plan_strips-answer.ensures.planned carried
 
-pub returns-in-Spent : goal.returns-in-Spent
-returns-in-Spent c =
-    let suited : Suits (generators_of c.args.code) c.args.weights = suits c.args.code c.args.weights (record {
-      three = c.well_formed.1.0.1.0.1;
-      bytes = λ i. let h = (elem_Fits w8 w8 c.args.weights _ i c.well_formed.1.0.1.1 tt).fits in omega arith;
-    }) in
-    let spent-kept : let J = one_bit_job (marks_in c.args.map.now) (generators_of c.args.code) c.args.weights c.args.bytes c.args.strips c.args.page.now c.args.data.now in (c.plan_strips-answer.result ≡ job_answer none J) × (c.args.page.now ≡ job_page none J start_of) = (
-      c.plan_strips-answer.ensures.value,
-      spent-page suited c.requires.dear c.args.map.now c.requires.sized c.plan_strips-answer.ensures.value
-          c.in-Spent.is,
-    ) in
-    let both = spent-kept in
-    record {
-      value = both.0;
-      page_after = both.1;
-    }
+pub returns-in_default : goal.returns-in_default
+returns-in_default c = record {
+  value = c.plan_strips-answer.ensures.value;
+  page_after = kept-page (suited (goal.at.returns-in_default c).After-plan_strips-answer) c.requires.dear c.args.map.now c.requires.sized
+      c.plan_strips-answer.ensures.value c.in_default.not-Done;
+}
