@@ -9,49 +9,38 @@ ghost use Rattle.page_choosing.specs.Picks.{taken};
 
 use page_answers::Answer;
 
-// What is taken so far: nothing, or an offer, its number, its rank and its cost.
+// An offer that is taken: its number, its rank and its cost.
 #[derive(Drop)]
 #[derive(Clone, Copy)]
-pub enum Pick {
-    Nothing,
-    Taken(u32, u32, u32),
+pub struct Pick {
+    pub number: u32,
+    pub rank: u32,
+    pub cost: u32,
 }
 
 // Whether an offer of this rank and cost is better than the one that is taken.
 fn is_better(rank: u32, cost: u32, taken_rank: u32, taken_cost: u32) -> bool
     ensures { result ≡ outdoes rank cost taken_rank taken_cost }
 {
-    if cost < taken_cost {
-        return true;
-    }
-    if cost > taken_cost {
-        return false;
-    }
-    rank < taken_rank
+    cost < taken_cost || cost == taken_cost && rank < taken_rank
 }
 
 // The better of what is taken so far and one more offer.
-fn with_cost(pick: Pick, number: u32, rank: u32, cost: u32) -> Pick
+fn with_cost(pick: Option<Pick>, number: u32, rank: u32, cost: u32) -> Option<Pick>
     ensures { taken result ≡ with_offer (taken pick) number rank (some cost) }
 {
     match pick {
-        Pick::Nothing => Pick::Taken(number, rank, cost),
-        Pick::Taken(_, taken_rank, taken_cost) => {
-            if is_better(rank, cost, taken_rank, taken_cost) {
-                return Pick::Taken(number, rank, cost);
-            }
-            pick
-        }
+        Some(best) if !is_better(rank, cost, best.rank, best.cost) => pick,
+        _ => Some(Pick { number, rank, cost }),
     }
 }
 
 // The better of what is taken so far and what an answer offers: the cheaper, then the lower in rank, then the one that came first.
-pub fn better(pick: Pick, number: u32, rank: u32, answer: Answer) -> Pick
+pub fn better(pick: Option<Pick>, number: u32, rank: u32, answer: Answer) -> Option<Pick>
     ensures { taken result ≡ with_offer (taken pick) number rank (offered answer) }
 {
     match answer {
         Answer::Done(cost) => with_cost(pick, number, rank, cost),
-        Answer::Spent(_) => pick,
-        Answer::Refused(_) => pick,
+        Answer::Spent(_) | Answer::Refused(_) => pick,
     }
 }
