@@ -3,7 +3,6 @@
 --   lent-job        and make the value's plain write
 --   sixteen-bits    a number of 16 bits is at most 65,535
 --   tried           the choice among the first values of the band
---   turn-fits       the value of a turn is at most 65,535
 --   turn-tried      one more value
 --   all-tried       the choice among all of them is the band's
 --   place-fits      and so is the value chosen
@@ -11,7 +10,7 @@ use mathlib.Core.Path.{◌≡◌, refl, ◌∙◌}
 use mathlib.Core.Bool.{Bool}
 use mathlib.Core.List.{List}
 use mathlib.Core.Option.{Option, none, some}
-use Prim.Native.Nat.{ℕ, ◌+◌, ◌<◌, ◌≤◌}
+use Prim.Native.Nat.{ℕ, ◌+◌, ◌≤◌}
 use native.Mathlib.Omega.{arith}
 use lib.ListN.{length}
 use mir.Syntax.{w16}
@@ -33,7 +32,7 @@ use Rattle.page_answers.specs.declared.Answer.{Answer}
 use Rattle.page_promises.specs.Families.{job_offer}
 use Rattle.page_promises.specs.Band.{value_bytes, value_job, away, lowest_value, value_at, value_count, band_choice}
 use Rattle.page_promises.proofs.Promise.{dear-by}
-use Rattle.page_promises.proofs.Band.{tried-fits, chosen-fits}
+use Rattle.page_promises.proofs.Band.{chosen-fits}
 
 module _ (code : ℕ) (page : List ℕ) (w : ℕ) {W content : List ℕ} (weights : W ≡ house) (bytes : content ≡ value_bytes w) where
   -- the page, the weights and the data that are lent are in order
@@ -56,10 +55,6 @@ sixteen-bits f = let h = f.fits in omega arith
 -- THE LOOP over the values. The choice among the first n of them
 abbrev pub tried : (code : ℕ) (page : List ℕ) (v M : ℕ) → ℕ → Option Offer
 tried code page v M n = choose (λ i. away v (value_at v M i)) (λ i. job_offer (value_job code page (value_at v M i))) n
-
--- the value of a turn is at most 65,535
-pub turn-fits : (v M : ℕ) {low count k : ℕ} → v ≤ 65535 → low ≡ lowest_value v M → count ≡ value_count v M → k < count → low + k ≤ 65535
-turn-fits v M {k = k} f l n h = rw l (tried-fits v M f k (rw n at h))
 
 -- one more value, by its distance and what it is priced at
 pub turn-tried : (code : ℕ) (page : List ℕ) (v M k : ℕ) {w distance : ℕ} {price : Answer} {so_far after : Option Offer} → w ≡ value_at v M k

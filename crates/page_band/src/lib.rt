@@ -16,13 +16,12 @@ use judges::{code_of, judge_value};
 use page_answers::{Answer, BandAnswer};
 use page_choosing::{Pick, better};
 use page_rewriting::{price_strips, write_strips};
-use refusals::Completion;
 
 // The data of a value, low byte first.
 fn value_bytes(value: u16) -> [u8; 2]
     ensures { result ≡ value_bytes value }
 {
-    [(value % 256) as u8, (value / 256) as u8]
+    value.to_le_bytes()
 }
 
 // What a value costs; no cell is marked.
@@ -31,9 +30,8 @@ fn price_value(code: u32, page: &[u8], value: u16) -> Answer
     ensures { result ≡ job_answer none (value_job code page.now value) }
 {
     let weights = cells::house_weights();
-    let map = [0u8; 0];
     let data = value_bytes(value);
-    price_strips(code_of(code), weights, 2, 1, page, &map, &data)
+    price_strips(code_of(code), weights, 2, 1, page, &[], &data)
 }
 
 // Writes a value; no cell is marked.
@@ -43,20 +41,15 @@ fn write_value(code: u32, page: &mut [u8], value: u16) -> Answer
     ensures page_after { page.new ≡ job_page none (value_job code page.old value) start_of }
 {
     let weights = cells::house_weights();
-    let map = [0u8; 0];
     let data = value_bytes(value);
-    write_strips(code_of(code), weights, 2, 1, page, &map, &data)
+    write_strips(code_of(code), weights, 2, 1, page, &[], &data)
 }
 
 // The lowest value of the band, which ends at 0.
 fn lowest_value(value: u16, band: u32) -> u32
     ensures { result ≡ lowest_value value band }
 {
-    let given = value as u32;
-    if given < band {
-        return 0;
-    }
-    given - band
+    u32::from(value).saturating_sub(band)
 }
 
 // How many values the band has, which ends at 65,535.
@@ -64,12 +57,8 @@ fn value_count(value: u16, band: u32) -> u32
     requires { band ≤ 8 }
     ensures { result ≡ value_count value band }
 {
-    let low = lowest_value(value, band);
-    let high = value as u32 + band;
-    if high > 65535 {
-        return 65536 - low;
-    }
-    high + 1 - low
+    let high = (u32::from(value) + band).min(65535);
+    high + 1 - lowest_value(value, band)
 }
 
 // The value at a place of the band.
@@ -77,33 +66,20 @@ fn value_at(low: u32, place: u32) -> u16
     requires { low + place ≤ 65535 }
     ensures { result ≡ low + place }
 {
-    ((low + place) % 65536) as u16
-}
-
-// How far a value is from the one given.
-fn distance(given: u16, value: u16) -> u32
-    ensures { result ≡ away given value }
-{
-    if given < value {
-        return (value - given) as u32;
-    }
-    (given - value) as u32
+    (low + place) as u16
 }
 
 // The cheapest value of the band, of equals the nearest, then the lower: its place, its distance and its cost. Each is priced in turn.
-fn cheapest_value(code: u32, page: &[u8], value: u16, band: u32) -> Pick
+fn cheapest_value(code: u32, page: &[u8], value: u16, band: u32) -> Option<Pick>
     requires { value_ground code band (length page.now) ≡ none }
     ensures { taken result ≡ band_choice code page.now value band }
 {
     let low = lowest_value(value, band);
-    let count = value_count(value, band);
-    let mut pick = Pick::Nothing;
-    let mut k: u32 = 0;
-    while k < count {
+    let mut pick = None;
+    for k in 0..value_count(value, band) {
         let tried = value_at(low, k);
         let price = price_value(code, page, tried);
-        pick = better(pick, k, distance(value, tried), price);
-        k += 1;
+        pick = better(pick, k, u32::from(value.abs_diff(tried)), price);
     }
     pick
 }
@@ -115,13 +91,12 @@ fn store_value(code: u32, page: &mut [u8], value: u16, band: u32) -> BandAnswer
     ensures page_after { page.new
         ≡ chosen_page code page.old value band none (band_choice code page.old value band) start_of }
 {
-    let pick = cheapest_value(code, page, value, band);
-    match pick {
-        Pick::Nothing => BandAnswer::Spent,
-        Pick::Taken(place, _, cost) => {
-            let stored = value_at(lowest_value(value, band), place);
+    match cheapest_value(code, page, value, band) {
+        None => BandAnswer::Spent,
+        Some(pick) => {
+            let stored = value_at(lowest_value(value, band), pick.number);
             write_value(code, page, stored);
-            BandAnswer::Done(cost, stored)
+            BandAnswer::Done(pick.cost, stored)
         }
     }
 }
@@ -134,9 +109,8 @@ pub fn write_band(code: u32, page: &mut [u8], value: u16, band: u32) -> BandAnsw
     ensures wrote_band { WroteBand code page.old value band page.new result }
     ensures result_bound { value_of (plain_answer result) ≤ largest_band_cost }
 {
-    let judged = judge_value(code, band, page.len());
-    match judged {
-        Completion::Done => store_value(code, page, value, band),
-        Completion::Refused(r) => BandAnswer::Refused(r),
+    match judge_value(code, band, page.len()) {
+        Ok(()) => store_value(code, page, value, band),
+        Err(refusal) => BandAnswer::Refused(refusal),
     }
 }

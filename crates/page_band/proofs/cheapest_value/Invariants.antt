@@ -1,12 +1,8 @@
 -- The invariant: what is taken so far is the choice among the first k values.
 use mathlib.Core.Path.{◌≡◌}
-use Prim.Native.Nat.{◌-◌, ◌≤◌}
 use Rattle.page_choosing.specs.Picks.{taken}
 use Rattle.page_band.proofs.Values.{tried}
 use Rattle.page_band.proofs.cheapest_value.Given as goal
 
 abbrev pub invariant-loop-k : goal.invariant-loop-k
-invariant-loop-k l = (taken l.pick ≡ tried l.code l.page l.value l.band l.k) × (l.k ≤ l.count)
-
-abbrev pub decreases-loop-k : goal.decreases-loop-k
-decreases-loop-k l = l.count - l.k
+invariant-loop-k l = taken l.pick ≡ tried l.code l.page l.value l.band l.k

@@ -9,14 +9,9 @@ use Rattle.page_promises.proofs.Band.{in-order-band, refused-band, write-band-ke
 use Rattle.page_band.proofs.Values.{sixteen-bits}
 use Rattle.page_band.proofs.write_band.Goals as goal
 
-pub store_value-requires : goal.store_value-requires
-store_value-requires c =
-    let in_order : value_ground c.args.code c.args.band (length c.args.page.now) ≡ none = done_none _ (sym c.judge_value-judged.ensures ∙ c.in-Done.is) in
-    in_order
-
-pub returns-in-Done : goal.returns-in-Done
-returns-in-Done c =
-    let in_order : value_ground c.args.code c.args.band (length c.args.page.now) ≡ none = done_none _ (sym c.judge_value-judged.ensures ∙ c.in-Done.is) in
+pub returns-in-Ok : goal.returns-in-Ok
+returns-in-Ok c =
+    let in_order : value_ground c.args.code c.args.band (length c.args.page.now) ≡ none = done_none _ (sym c.judge_value.ensures ∙ c.in-Ok.is) in
     let z = in-order-band start_of c.args.code c.args.page.now c.args.value c.args.band in_order in
     let e = c.store_value.ensures.value ∙ z.0 in
     let p = c.store_value.ensures.page_after ∙ z.1 in
@@ -28,10 +23,10 @@ returns-in-Done c =
       result_bound = kept.1;
     }
 
-pub returns-in-Refused : goal.returns-in-Refused
-returns-in-Refused c =
+pub returns-in-Err : goal.returns-in-Err
+returns-in-Err c =
     let z = refused-band start_of c.args.code c.args.page.now c.args.value c.args.band
-    (refused-some _ (sym c.judge_value-judged.ensures ∙ c.in-Refused.is)) in
+    (refused-some _ (sym c.judge_value.ensures ∙ c.in-Err.is)) in
     let kept = write-band-kept c.args.code c.args.page.now c.args.value c.args.band (sixteen-bits c.ranges.value) z.0 z.1 in
     record {
       value = z.0;
