@@ -1,42 +1,69 @@
 // Pricing and writing a page, one data or a list of them: a call is judged, and what is in order goes to the loops over strips and datas.
 // The write in a band stands in a room of its own, and is handed on here.
-ghost use Rattle.std.specs.Prelude.{◌≡◌, [], ◌∷◌, ◌≤◌};
+ghost use Rattle.std.specs.Prelude.{◌≡◌, [], ◌∷◌, ◌≤◌, length};
 ghost use Rattle.std.proofs.Math.Option.{none, some};
 ghost use Rattle.cells.specs.Marks.{marks_in};
 ghost use Rattle.cells.specs.Raising.{start_of};
 ghost use Rattle.cells.specs.Climbs.{house};
-ghost use Rattle.refusals.specs.Refusals.{map_given};
+ghost use Rattle.refusals.specs.Refusals.{count_given, map_given, list_ground, completion_of};
 ghost use Rattle.page_answers.specs.Answers.{value_of};
-ghost use Rattle.page_promises.specs.Writes.{marked_by, map_if, map_size, answer_with, page_with, answer_of, page_of, largest_cost};
+ghost use Rattle.page_promises.specs.Writes.{marked_by, map_size, answer_with, page_with, answer_of, page_of, largest_cost};
 ghost use Rattle.page_promises.specs.Writes.{largest_weighted_cost};
 ghost use Rattle.page_promises.specs.Promise.{WroteWith, Wrote};
 ghost use Rattle.page_promises.specs.Lists.{list_answer, list_page, ListBounds, WroteList};
+ghost use Rattle.page.specs.Maps.{map_of};
 
 use judges::{code_of, judge_write};
 use page_answers::{Answer, ListAnswer};
 pub use page_band::write_band;
 use page_lists::{refused_list, write_datas};
 use page_rewriting::{price_strips, write_strips};
-use refusals::{Completion, Count, Map};
+use refusals::Completion;
 
 // The length of a call's map, where it has one.
-fn length_if(mapped: bool, map: &[u8]) -> Map
-    ensures { map_given result ≡ map_size (map_if mapped map.now) }
+fn length_if(map: Option<&[u8]>) -> Option<usize>
+    ensures { map_given result ≡ map_size (map_of map.entry) }
 {
-    if mapped {
-        return Map::Length(map.len());
+    match map {
+        Some(map) => Some(map.len()),
+        None => None,
     }
-    Map::Nothing
 }
 
 // A call's map, where it has one, else an empty one, which marks no cell.
-fn map_if(mapped: bool, map: &[u8]) -> &[u8]
-    ensures { marks_in result.now ≡ marked_by (map_if mapped map.now) }
+fn map_if(map: Option<&[u8]>) -> &[u8]
+    ensures { marks_in result.now ≡ marked_by (map_of map.entry) }
 {
-    if mapped {
-        return map;
+    match map {
+        Some(map) => map,
+        None => &[],
     }
-    &map[0..0]
+}
+
+// Judges a call of one data or of a list of so many, with a map or without one.
+fn judged(
+    code: u32,
+    bytes: u32,
+    strips: u32,
+    weights: [u8; 3],
+    count: Option<u32>,
+    page: &[u8],
+    map: Option<&[u8]>,
+    data: &[u8],
+) -> Completion
+    ensures { result ≡ completion_of (list_ground (count_given count) (map_size (map_of map.entry)) weights
+        code bytes strips (length page.now) (length «data».now)) }
+{
+    judge_write(
+        code,
+        bytes,
+        strips,
+        weights,
+        count,
+        page.len(),
+        length_if(map),
+        data.len(),
+    )
 }
 
 // What a write of the same data would answer, with a map or without one; nothing is changed.
@@ -45,39 +72,28 @@ fn price_if(
     bytes: u32,
     strips: u32,
     weights: [u8; 3],
-    mapped: bool,
     page: &[u8],
-    map: &[u8],
+    map: Option<&[u8]>,
     data: &[u8],
 ) -> Answer
-    ensures value { result ≡ answer_with (map_if mapped map.now) weights code bytes strips
+    ensures value { result ≡ answer_with (map_of map.entry) weights code bytes strips
         page.now «data».now }
-    ensures wrote_with { WroteWith (map_if mapped map.now) weights code bytes strips
+    ensures wrote_with { WroteWith (map_of map.entry) weights code bytes strips
         page.now «data».now
-        (page_with (map_if mapped map.now) weights code bytes strips page.now «data».now start_of) result }
+        (page_with (map_of map.entry) weights code bytes strips page.now «data».now start_of) result }
     ensures result_bound { value_of result ≤ largest_weighted_cost }
 {
-    let judged = judge_write(
-        code,
-        bytes,
-        strips,
-        weights,
-        Count::One,
-        page.len(),
-        length_if(mapped, map),
-        data.len(),
-    );
-    match judged {
-        Completion::Done => price_strips(
+    match judged(code, bytes, strips, weights, None, page, map, data) {
+        Ok(()) => price_strips(
             code_of(code),
             weights,
             bytes as usize,
             strips as usize,
             page,
-            map_if(mapped, map),
+            map_if(map),
             data,
         ),
-        Completion::Refused(r) => Answer::Refused(r),
+        Err(refusal) => Answer::Refused(refusal),
     }
 }
 
@@ -87,40 +103,29 @@ fn write_if(
     bytes: u32,
     strips: u32,
     weights: [u8; 3],
-    mapped: bool,
     page: &mut [u8],
-    map: &[u8],
+    map: Option<&[u8]>,
     data: &[u8],
 ) -> Answer
-    ensures value { result ≡ answer_with (map_if mapped map.now) weights code bytes strips
+    ensures value { result ≡ answer_with (map_of map.entry) weights code bytes strips
         page.old «data».now }
-    ensures page_after { page.new ≡ page_with (map_if mapped map.now) weights code bytes strips
+    ensures page_after { page.new ≡ page_with (map_of map.entry) weights code bytes strips
         page.old «data».now start_of }
-    ensures wrote_with { WroteWith (map_if mapped map.now) weights code bytes strips
+    ensures wrote_with { WroteWith (map_of map.entry) weights code bytes strips
         page.old «data».now page.new result }
     ensures result_bound { value_of result ≤ largest_weighted_cost }
 {
-    let judged = judge_write(
-        code,
-        bytes,
-        strips,
-        weights,
-        Count::One,
-        page.len(),
-        length_if(mapped, map),
-        data.len(),
-    );
-    match judged {
-        Completion::Done => write_strips(
+    match judged(code, bytes, strips, weights, None, page, map, data) {
+        Ok(()) => write_strips(
             code_of(code),
             weights,
             bytes as usize,
             strips as usize,
             page,
-            map_if(mapped, map),
+            map_if(map),
             data,
         ),
-        Completion::Refused(r) => Answer::Refused(r),
+        Err(refusal) => Answer::Refused(refusal),
     }
 }
 
@@ -131,41 +136,30 @@ fn write_list_if(
     strips: u32,
     weights: [u8; 3],
     count: u32,
-    mapped: bool,
     page: &mut [u8],
-    map: &[u8],
+    map: Option<&[u8]>,
     data: &[u8],
 ) -> ListAnswer
-    ensures value { result ≡ list_answer (map_if mapped map.now) weights code bytes strips count
+    ensures value { result ≡ list_answer (map_of map.entry) weights code bytes strips count
         page.old «data».now }
-    ensures page_after { page.new ≡ list_page (map_if mapped map.now) weights code bytes strips count
+    ensures page_after { page.new ≡ list_page (map_of map.entry) weights code bytes strips count
         page.old «data».now }
-    ensures wrote_list { WroteList (map_if mapped map.now) weights code bytes strips count
+    ensures wrote_list { WroteList (map_of map.entry) weights code bytes strips count
         page.old «data».now page.new result }
     ensures list_bounds { ListBounds result }
 {
-    let judged = judge_write(
-        code,
-        bytes,
-        strips,
-        weights,
-        Count::List(count),
-        page.len(),
-        length_if(mapped, map),
-        data.len(),
-    );
-    match judged {
-        Completion::Done => write_datas(
+    match judged(code, bytes, strips, weights, Some(count), page, map, data) {
+        Ok(()) => write_datas(
             code_of(code),
             weights,
             bytes as usize,
             strips as usize,
             count as usize,
             page,
-            map_if(mapped, map),
+            map_if(map),
             data,
         ),
-        Completion::Refused(r) => refused_list(r),
+        Err(refusal) => refused_list(refusal),
     }
 }
 
@@ -187,7 +181,7 @@ pub fn price_mapped(
         (page_with (some map.now) (w1 ∷ w2 ∷ w3 ∷ []) code bytes strips page.now «data».now start_of) result }
     ensures result_bound { value_of result ≤ largest_weighted_cost }
 {
-    price_if(code, bytes, strips, [w1, w2, w3], true, page, map, data)
+    price_if(code, bytes, strips, [w1, w2, w3], page, Some(map), data)
 }
 
 // Writes the data at the least cost in these weights, and raises no cell that the map marks.
@@ -210,7 +204,7 @@ pub fn write_mapped(
         page.new result }
     ensures result_bound { value_of result ≤ largest_weighted_cost }
 {
-    write_if(code, bytes, strips, [w1, w2, w3], true, page, map, data)
+    write_if(code, bytes, strips, [w1, w2, w3], page, Some(map), data)
 }
 
 // What a write of the same data with these weights would answer; nothing is changed.
@@ -229,7 +223,7 @@ pub fn price_weighted(
         (page_of (w1 ∷ w2 ∷ w3 ∷ []) code bytes strips page.now «data».now) result }
     ensures result_bound { value_of result ≤ largest_weighted_cost }
 {
-    price_if(code, bytes, strips, [w1, w2, w3], false, page, data, data)
+    price_if(code, bytes, strips, [w1, w2, w3], page, None, data)
 }
 
 // Writes the data at the least cost in these weights: w1 for the step from level 0 to 1, w2 from 1 to 2, w3 from 2 to 3.
@@ -248,7 +242,7 @@ pub fn write_weighted(
     ensures wrote { Wrote (w1 ∷ w2 ∷ w3 ∷ []) code bytes strips page.old «data».now page.new result }
     ensures result_bound { value_of result ≤ largest_weighted_cost }
 {
-    write_if(code, bytes, strips, [w1, w2, w3], false, page, data, data)
+    write_if(code, bytes, strips, [w1, w2, w3], page, None, data)
 }
 
 // What a write of the same data with the house's weights would answer; nothing is changed.
@@ -258,8 +252,8 @@ pub fn price(code: u32, bytes: u32, strips: u32, page: &[u8], data: &[u8]) -> An
         (page_of house code bytes strips page.now «data».now) result }
     ensures result_bound { value_of result ≤ largest_cost }
 {
-    let w = cells::house_weights();
-    price_weighted(code, bytes, strips, w[0], w[1], w[2], page, data)
+    let [w1, w2, w3] = cells::house_weights();
+    price_weighted(code, bytes, strips, w1, w2, w3, page, data)
 }
 
 // Writes the data at the least cost in the house's weights.
@@ -269,8 +263,8 @@ pub fn write(code: u32, bytes: u32, strips: u32, page: &mut [u8], data: &[u8]) -
     ensures wrote { Wrote house code bytes strips page.old «data».now page.new result }
     ensures result_bound { value_of result ≤ largest_cost }
 {
-    let w = cells::house_weights();
-    write_weighted(code, bytes, strips, w[0], w[1], w[2], page, data)
+    let [w1, w2, w3] = cells::house_weights();
+    write_weighted(code, bytes, strips, w1, w2, w3, page, data)
 }
 
 // Writes the datas one after another, each at the least cost in these weights, and raises no cell that the map marks.
@@ -300,9 +294,8 @@ pub fn write_list_mapped(
         strips,
         [w1, w2, w3],
         count,
-        true,
         page,
-        map,
+        Some(map),
         data,
     )
 }
@@ -326,15 +319,5 @@ pub fn write_list(
         page.new result }
     ensures list_bounds { ListBounds result }
 {
-    write_list_if(
-        code,
-        bytes,
-        strips,
-        [w1, w2, w3],
-        count,
-        false,
-        page,
-        data,
-        data,
-    )
+    write_list_if(code, bytes, strips, [w1, w2, w3], count, page, None, data)
 }

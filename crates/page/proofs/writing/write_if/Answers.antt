@@ -1,43 +1,31 @@
 -- A call that is judged in order answers and leaves the page as its strips do, any other changes nothing; and both keep the promise.
-use mathlib.Core.Path.{◌≡◌, sym, ◌∙◌}
+use mathlib.Core.Path.{◌∙◌}
 use mathlib.Core.Option.{none}
-use native.Mathlib.Omega.{arith}
 use mir.Syntax.{w8}
 use borrow.Author.Rules.{elem_Fits}
-use Rattle.cells.specs.Bytes.{Octets}
-use Rattle.cells.specs.Climbs.{Weights}
-use Rattle.refusals.specs.Refusals.{completion_of}
-use Rattle.refusals.proofs.Refusals.{done_none, refused-some, weighted-in-order}
+use Rattle.refusals.proofs.Refusals.{weighted-in-order}
 use Rattle.page_parts.proofs.Strips.{sized-by}
-use Rattle.cells.specs.Raising.{start_of}
-use Rattle.page_promises.specs.Writes.{map_if, ground_with}
-use Rattle.page_promises.proofs.Promise.{dear-by, in-order-job, refused-call}
+use Rattle.page_promises.proofs.Promise.{dear-by}
 use Rattle.page_promises.proofs.Bounds.{write_kept}
+use Rattle.page.specs.Maps.{map_of}
+use Rattle.page.proofs.Calls.{octets, weighed, in-order, answered, turned-away}
 use Rattle.page.proofs.writing.write_if.Goals as goal
 
 pub write_strips-requires : goal.write_strips-requires
 write_strips-requires c =
-    let judged : c.judge_write-judged.result ≡ completion_of (ground_with (map_if c.args.mapped c.args.map.now) c.args.weights c.args.code c.args.bytes c.args.strips c.args.page.now c.args.data.now) = rw c.length_if.ensures at c.judge_write-judged.ensures in
-    let in_order : ground_with (map_if c.args.mapped c.args.map.now) c.args.weights c.args.code c.args.bytes c.args.strips c.args.page.now c.args.data.now ≡ none = done_none _ (sym judged ∙ c.in-Done.is) in
-    let g = in_order in
+    let g = in-order (map_of c.args.map) c.args.weights c.args.code c.args.bytes c.args.strips c.args.page.now c.args.data.now c.judged.ensures c.in-Ok.is in
     record {
       sized = sized-by _ _ _ _ (weighted-in-order none _ _ _ _ _ _ _ g);
       dear = dear-by none _ _ _ _ _ _ _ g;
     }
 
-pub returns-in-Done : goal.returns-in-Done
-returns-in-Done c =
-    let judged : c.judge_write-judged.result ≡ completion_of (ground_with (map_if c.args.mapped c.args.map.now) c.args.weights c.args.code c.args.bytes c.args.strips c.args.page.now c.args.data.now) = rw c.length_if.ensures at c.judge_write-judged.ensures in
-    let in_order : ground_with (map_if c.args.mapped c.args.map.now) c.args.weights c.args.code c.args.bytes c.args.strips c.args.page.now c.args.data.now ≡ none = done_none _ (sym judged ∙ c.in-Done.is) in
-    let octets : Octets c.args.data.now = record { below = λ q h. omega (arith, c.type_inv.data q) } in
-    let weights : Weights c.args.weights = record {
-      three = c.well_formed.1.1.1.0.1.0.1;
-      bytes = λ i. let h = (elem_Fits w8 w8 c.args.weights _ i c.well_formed.1.1.1.0.1.1 tt).fits in omega arith;
-    } in
-    let z = in-order-job start_of _ _ _ _ _ _ _ in_order c.code_of.ensures c.map_if.ensures in
+pub returns-in-Ok : goal.returns-in-Ok
+returns-in-Ok c =
+    let weights = weighed c.well_formed.1.1.1.0.1.0.1 (λ i. elem_Fits w8 w8 c.args.weights _ i c.well_formed.1.1.1.0.1.1 tt) in
+    let z = answered (map_of c.args.map) c.args.weights c.args.code c.args.bytes c.args.strips c.args.page.now c.args.data.now c.judged.ensures c.in-Ok.is c.code_of.ensures c.map_if.ensures in
     let e = c.write_strips.ensures.value ∙ z.0 in
     let p = c.write_strips.ensures.page_after ∙ z.1 in
-    let rest = write_kept _ _ _ _ _ _ _ weights octets p e in
+    let rest = write_kept _ _ _ _ _ _ _ weights (octets c.type_inv.data) p e in
     record {
       value = e;
       page_after = p;
@@ -45,16 +33,11 @@ returns-in-Done c =
       result_bound = rest.1;
     }
 
-pub returns-in-Refused : goal.returns-in-Refused
-returns-in-Refused c =
-    let judged : c.judge_write-judged.result ≡ completion_of (ground_with (map_if c.args.mapped c.args.map.now) c.args.weights c.args.code c.args.bytes c.args.strips c.args.page.now c.args.data.now) = rw c.length_if.ensures at c.judge_write-judged.ensures in
-    let octets : Octets c.args.data.now = record { below = λ q h. omega (arith, c.type_inv.data q) } in
-    let weights : Weights c.args.weights = record {
-      three = c.well_formed.1.1.1.0.1.0.1;
-      bytes = λ i. let h = (elem_Fits w8 w8 c.args.weights _ i c.well_formed.1.1.1.0.1.1 tt).fits in omega arith;
-    } in
-    let z = refused-call start_of _ _ _ _ _ _ _ (refused-some _ (sym judged ∙ c.in-Refused.is)) in
-    let rest = write_kept _ _ _ _ _ _ _ weights octets z.1 z.0 in
+pub returns-in-Err : goal.returns-in-Err
+returns-in-Err c =
+    let weights = weighed c.well_formed.1.1.1.0.1.0.1 (λ i. elem_Fits w8 w8 c.args.weights _ i c.well_formed.1.1.1.0.1.1 tt) in
+    let z = turned-away (map_of c.args.map) c.args.weights c.args.code c.args.bytes c.args.strips c.args.page.now c.args.data.now c.judged.ensures c.in-Err.is in
+    let rest = write_kept _ _ _ _ _ _ _ weights (octets c.type_inv.data) z.1 z.0 in
     record {
       value = z.0;
       page_after = z.1;

@@ -1,0 +1,2 @@
+-- The map that a call is given.
+pub mod Maps
