@@ -24,6 +24,7 @@ use refusals::Completion;
 fn length_if(map: Option<&[u8]>) -> Option<usize>
     ensures { map_given result ≡ map_size (map_of map.entry) }
 {
+    // no `map` with a closure: a price comes here, and tests/pricing.py follows what it calls, which it cannot into a closure
     match map {
         Some(map) => Some(map.len()),
         None => None,
@@ -34,10 +35,7 @@ fn length_if(map: Option<&[u8]>) -> Option<usize>
 fn map_if(map: Option<&[u8]>) -> &[u8]
     ensures { marks_in result.now ≡ marked_by (map_of map.entry) }
 {
-    match map {
-        Some(map) => map,
-        None => &[],
-    }
+    map.unwrap_or(&[])
 }
 
 // Judges a call of one data or of a list of so many, with a map or without one.

@@ -1,6 +1,7 @@
 -- An empty map marks no cell.
-use Rattle.cells.proofs.Marks.{no-map}
+use mathlib.Core.Path.{refl}
+use Rattle.page.proofs.Calls.{lent-map}
 use Rattle.page.proofs.writing.map_if.Goals as goal
 
-pub returns-in-None : goal.returns-in-None
-returns-in-None c = rw c.in-None.is no-map
+pub returns : goal.returns
+returns c = lent-map c.args.map _ _ c.unwrap_or.ensures refl
