@@ -5,7 +5,7 @@ ghost use Rattle.std.specs.Prelude.{◌≡◌, ◌≤◌};
 ghost use Rattle.page_answers.specs.Answers.{answer_cost};
 ghost use Rattle.turn_rows.specs.Rows.{size_of, values_page, write_row};
 
-use page::{Answer, Completion, answers, writing};
+use page::{Answer, answers, writing};
 use text::Values;
 use text::printing::Printed;
 
@@ -13,10 +13,9 @@ use text::printing::Printed;
 pub fn size(v: Values) -> usize
     ensures { (result ≤ 4096) × (result ≡ size_of v) }
 {
-    let judged = refusals::judge_sizes(v.code, v.bytes, v.strips);
-    match judged {
-        Completion::Done => (v.bytes as usize) * (v.strips as usize),
-        Completion::Refused(_) => 0,
+    match refusals::judge_sizes(v.code, v.bytes, v.strips) {
+        Ok(()) => (v.bytes as usize) * (v.strips as usize),
+        Err(_) => 0,
     }
 }
 

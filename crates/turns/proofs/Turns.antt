@@ -17,8 +17,7 @@ use Rattle.cells.specs.Climbs.{house}
 use Rattle.codes.specs.Layouts.{one_bit, byte_count}
 use Rattle.search.specs.Best.{Solution}
 use Rattle.refusals.specs.declared.Refusal.{Refusal}
-use Rattle.refusals.specs.declared.Completion.{Completion}
-use Rattle.refusals.specs.declared.Completion.TheVariants.{Done, Refused}
+use Rattle.std.specs.Prelude.{Result, Ok, Err, ⊤}
 use Rattle.refusals.specs.Refusals.{sizes_ground, page_ground, datas_ground, lengths_ground, ground, write_ground, refusal_number, text_number}
 use Rattle.refusals.specs.Refusals.{completion_of}
 use Rattle.codes.proofs.Layouts.{one_bit-bytes}
@@ -54,13 +53,13 @@ module _ (p : Progress) (line : List ℕ) where
   unfolding values_turn
   values-broken b = rw (form-broken (values_of line) b)
 
-  module _ {v : Values} {k : Completion} (b : form_of (values_of line) ≡ std.Some v)
+  module _ {v : Values} {k : Result ⊤ Refusal} (b : form_of (values_of line) ≡ std.Some v)
       (j : k ≡ completion_of (sizes_ground v.code v.bytes v.strips)) where
-    pub values-given : k ≡ Done → values_turn p line ≡ goes p [] v p.page
+    pub values-given : k ≡ Ok tt → values_turn p line ≡ goes p [] v p.page
     unfolding values_turn
     values-given d = rw (form-given (values_of line) b, done_none (sizes_ground v.code v.bytes v.strips) (sym j ∙ d))
 
-    pub values-refused : {r : Refusal} → k ≡ Refused r → values_turn p line ≡ halt (refusal_number r) p
+    pub values-refused : {r : Refusal} → k ≡ Err r → values_turn p line ≡ halt (refusal_number r) p
     unfolding values_turn
     values-refused d = rw (form-given (values_of line) b, refused-some (sizes_ground v.code v.bytes v.strips) (sym j ∙ d))
 

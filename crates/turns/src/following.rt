@@ -5,7 +5,6 @@ ghost use Rattle.text.specs.Hex.{decoded_of};
 ghost use Rattle.turns.specs.Turns.{at_line, Told, ToldPage, halt, names_turn, values_turn, data_turn, write_turn};
 
 use crate::{Run, Turn};
-use page::Completion;
 use text::printing::Printed;
 use text::{Values, decoding, parsing};
 
@@ -49,13 +48,12 @@ pub fn values_turn(v: Values, line: &[u8]) -> Turn
     let Some(w) = parsing::values_of(line) else {
         return stop_form(v, 2);
     };
-    let judged = refusals::judge_sizes(w.code, w.bytes, w.strips);
-    match judged {
-        Completion::Refused(r) => stop(v, u64::from(refusals::refusal_number(r)), 2),
-        Completion::Done => Turn {
+    match refusals::judge_sizes(w.code, w.bytes, w.strips) {
+        Ok(()) => Turn {
             run: Run::at_line(3, w),
             printed: Printed::nothing(),
         },
+        Err(refusal) => stop(v, u64::from(refusals::refusal_number(refusal)), 2),
     }
 }
 

@@ -2,12 +2,12 @@
 --   answer_word, completion_word
 --   list_word   that of a list's answer
 --   Fields      the fields of that number
-use Rattle.std.specs.Prelude.{◌≡◌, ℕ, ◌+◌, ◌*◌, ◌/◌, ◌%◌, ◌^◌}
+use Rattle.std.specs.Prelude.{◌≡◌, ℕ, ◌+◌, ◌*◌, ◌/◌, ◌%◌, ◌^◌, Result, ⊤}
 use Rattle.page_answers.specs.Answers.{number_of, value_of, list_number, list_strip}
 use Rattle.refusals.specs.Refusals.{completion_number}
 use Rattle.page_answers.specs.declared.Answer.{Answer}
 use Rattle.page_answers.specs.declared.ListAnswer.{ListAnswer}
-use Rattle.refusals.specs.declared.Completion.{Completion}
+use Rattle.refusals.specs.declared.Refusal.{Refusal}
 
 -- 'To C an answer is one unsigned 64-bit number: 0 or the refusal's number, times 2^32, plus the cost, or plus the strip's number where the
 -- page is spent.'
@@ -15,7 +15,7 @@ unfoldable pub answer_word : Answer → ℕ
 answer_word a = number_of a * 2 ^ 32 + value_of a
 
 -- the same of a call that has no cost
-unfoldable pub completion_word : Completion → ℕ
+unfoldable pub completion_word : Result ⊤ Refusal → ℕ
 completion_word c = completion_number c * 2 ^ 32
 
 -- of a list 'to C the low 32 bits are the summed cost, also when spent', with the refusal's number times 2^32; 'the number written is added

@@ -9,14 +9,14 @@ use Rattle.turn_rows.proofs.size.Goals as goal
 
 pub overflow_mul-result : goal.overflow_mul-result
 overflow_mul-result c =
-    let unrefused : sizes_ground c.args.v.code c.args.v.bytes c.args.v.strips ≡ none = done_none _ (sym c.judge_sizes-judged.ensures ∙ c.in-Done.is) in
+    let unrefused : sizes_ground c.args.v.code c.args.v.bytes c.args.v.strips ≡ none = done_none _ (sym c.judge_sizes.ensures ∙ c.in-Ok.is) in
     omega (arith, in-limits _ unrefused)
 
-pub returns-in-Done : goal.returns-in-Done
-returns-in-Done c =
-    let unrefused : sizes_ground c.args.v.code c.args.v.bytes c.args.v.strips ≡ none = done_none _ (sym c.judge_sizes-judged.ensures ∙ c.in-Done.is) in
+pub returns-in-Ok : goal.returns-in-Ok
+returns-in-Ok c =
+    let unrefused : sizes_ground c.args.v.code c.args.v.bytes c.args.v.strips ≡ none = done_none _ (sym c.judge_sizes.ensures ∙ c.in-Ok.is) in
     (in-limits _ unrefused, sym (size-given _ unrefused))
 
-pub returns-in-Refused : goal.returns-in-Refused
-returns-in-Refused c =
-    (omega arith, sym (size-refused _ (refused-some _ (sym c.judge_sizes-judged.ensures ∙ c.in-Refused.is))))
+pub returns-in-Err : goal.returns-in-Err
+returns-in-Err c =
+    (omega arith, sym (size-refused _ (refused-some _ (sym c.judge_sizes.ensures ∙ c.in-Err.is))))

@@ -9,16 +9,16 @@ pub returns-in_default : goal.returns-in_default
 returns-in_default c =
     rw (values-broken (at_line 2 c.args.v []) c.args.line.now (sym c.values_of.ensures ∙ c.in_default.is)) c.stop_form.ensures
 
-pub returns-in-Refused : goal.returns-in-Refused
-returns-in-Refused c =
+pub returns-in-Err : goal.returns-in-Err
+returns-in-Err c =
     let e =
-    values-refused (at_line 2 c.args.v []) c.args.line.now (sym c.values_of.ensures ∙ c.in-Some.is) c.judge_sizes-judged.ensures
-    c.in-Refused.is in
+    values-refused (at_line 2 c.args.v []) c.args.line.now (sym c.values_of.ensures ∙ c.in-Some.is) c.judge_sizes.ensures
+    c.in-Err.is in
     rw (e, ← c.refusal_number.ensures, ← c.from.ensures) c.stop.ensures
 
-pub returns-in-Done : goal.returns-in-Done
-returns-in-Done c =
+pub returns-in-Ok : goal.returns-in-Ok
+returns-in-Ok c =
     let e =
-    values-given (at_line 2 c.args.v []) c.args.line.now (sym c.values_of.ensures ∙ c.in-Some.is) c.judge_sizes-judged.ensures
-    c.in-Done.is in
+    values-given (at_line 2 c.args.v []) c.args.line.now (sym c.values_of.ensures ∙ c.in-Some.is) c.judge_sizes.ensures
+    c.in-Ok.is in
     rw e (record { text_is = c.nothing.ensures; run_is = c.at_line.ensures })
