@@ -1,4 +1,6 @@
 -- A PUT, as the program makes it.
+--   within-limits, has-directory, number-fits, ends-within   what holds of a put without a ground
+--   not-offered                            an answer that is not done offers nothing
 --   directory-offer, page-offer            the prices of its two writes are their offers
 --   no-directory, both-offered             so what a put to the page costs is told by them
 --   tried_pages, page-tried, pages-tried   the loop over the pages
@@ -7,7 +9,7 @@
 use mathlib.Core.Path.{◌≡◌, refl, sym, ◌∙◌, ap}
 use mathlib.Core.List.{List, [], ◌∷◌, ◌++◌}
 use mathlib.Core.Option.{Option, none, some}
-use Prim.Native.Nat.{ℕ, ◌+◌, ◌*◌, ◌-◌, ◌%◌, ◌<◌, ◌≤◌}
+use Prim.Native.Nat.{ℕ, ◌+◌, ◌*◌, ◌-◌, ◌<◌, ◌≤◌}
 use native.Mathlib.Omega.{arith}
 use native.Mathlib.Nat.{add-sub_cancel_left}
 use lib.ListN.{length, take, drop}
@@ -18,29 +20,54 @@ use Rattle.cells.specs.Raising.{start_of}
 use Rattle.cells.proofs.Parts.{within}
 use Rattle.demand.specs.Offers.{Offer, with_offer, choose}
 use Rattle.demand.proofs.Offers.{choose-more, chosen}
-use Rattle.refusals.specs.Refusals.{directory_code, directory_bytes, directory_strips, directory_size, page_bytes}
+use Rattle.refusals.specs.Refusals.{limits_ground, directory_code, directory_bytes, directory_strips, directory_size, page_bytes}
+use Rattle.refusals.proofs.Refusals.{PutFits, put-in-order, sizes-limits}
 use Rattle.page_answers.specs.Answers.{offered}
 use Rattle.page_answers.specs.declared.Answer.{Answer}
 use Rattle.page_answers.specs.declared.Answer.TheVariants as A
 use Rattle.page_promises.specs.Writes.{job_page, answer_of, page_of}
 use Rattle.page_promises.specs.Families.{job_offer}
 use Rattle.page_promises.proofs.Promise.{page-length}
+use Rattle.block_promises.specs.Block.{ground_of_put}
 use Rattle.block_promises.specs.Block.{directory_of, page_in, with_part, directory_job, page_job, together, put_offer, put_choice, put_block}
 use Rattle.block_promises.proofs.Windows.{with_part-before}
 use Rattle.block_promises.proofs.Parts.{Fit, directory-length, page-length-in}
 use Rattle.block_promises.proofs.Block.{directory-plain, page-plain}
-use Rattle.block_reading.proofs.Lent.{lent-page}
+use Rattle.block_reading.proofs.Lent.{lent-page, page-ends}
+
+-- A PUT without a ground
+module _ (code L S P : ℕ) (block content : List ℕ) (g : ground_of_put code L S P block content ≡ none) where
+  fitting : PutFits code L S P (length block) (length content)
+  fitting = put-in-order code L S P (length block) (length content) g
+
+  -- L and S are within their limits
+  pub within-limits : limits_ground L S ≡ none
+  within-limits = sizes-limits code L S fitting.sizes
+
+  -- it has a directory
+  pub has-directory : directory_size ≤ length block
+  has-directory = omega (arith, fitting.block-is)
+
+  -- the number of a page is a byte
+  pub number-fits : {i : ℕ} → i < P → i < 256
+  number-fits h = omega (arith, fitting.few)
+
+  -- and the page ends within the block
+  pub ends-within : {i a n : ℕ} → i < P → a ≡ directory_size + page_bytes L S * i → n ≡ page_bytes L S → a + n ≤ length block
+  ends-within = page-ends fitting
+
+-- an answer that is not done offers nothing
+pub not-offered : (r : Answer) → ((cost : ℕ) → r ≡ A.Done cost → ⊥) → offered r ≡ none
+not-offered (A.Done cost) n = absurd (n cost refl)
+not-offered (A.Spent strip) n = refl
+not-offered (A.Refused r) n = refl
 
 -- A PUT TO PAGE i
 module _ (code L S P : ℕ) (block content : List ℕ) (F : Fit code L S P block content) (i : ℕ) (inside : i < P) where
-  -- its number is a byte
-  same_number : i % 256 ≡ i
-  same_number = omega (arith, F.fits.few)
-
   -- the directory's price is its offer
-  directory-offer : {r : Answer} → r ≡ answer_of house directory_code directory_bytes directory_strips (directory_of block) (i % 256 ∷ [])
+  directory-offer : {r : Answer} → r ≡ answer_of house directory_code directory_bytes directory_strips (directory_of block) (i ∷ [])
       → offered r ≡ job_offer (directory_job block i)
-  directory-offer e = ap offered ((rw same_number at e) ∙ sym (directory-plain start_of code L S P block content F i inside).0)
+  directory-offer e = ap offered (e ∙ sym (directory-plain start_of code L S P block content F i inside).0)
 
   -- and the page's
   page-offer : {r : Answer} → r ≡ answer_of house code L S (page_in L S i block) content
@@ -48,14 +75,14 @@ module _ (code L S P : ℕ) (block content : List ℕ) (F : Fit code L S P block
   page-offer e = ap offered (e ∙ sym (page-plain start_of code L S P block content F i inside).0)
 
   -- where the directory is spent there is no offer
-  pub no-directory : {r : Answer} → r ≡ answer_of house directory_code directory_bytes directory_strips (directory_of block) (i % 256 ∷ [])
+  pub no-directory : {r : Answer} → r ≡ answer_of house directory_code directory_bytes directory_strips (directory_of block) (i ∷ [])
       → offered r ≡ none → offered r ≡ put_offer code L S P block content i
   unfolding put_offer
   no-directory e n = let z : job_offer (directory_job block i) ≡ none = sym (directory-offer e) ∙ n in rw z n
 
   -- else it is that of both
   pub both-offered : {r p : Answer} {d a n : ℕ} {q : Option ℕ}
-      → r ≡ answer_of house directory_code directory_bytes directory_strips (directory_of block) (i % 256 ∷ []) → r ≡ A.Done d
+      → r ≡ answer_of house directory_code directory_bytes directory_strips (directory_of block) (i ∷ []) → r ≡ A.Done d
       → a ≡ directory_size + page_bytes L S * i → n ≡ page_bytes L S
       → p ≡ answer_of house code L S (take (a + n - a) (drop a block)) content
       → q ≡ together (some d) (offered p) → q ≡ put_offer code L S P block content i
@@ -102,11 +129,11 @@ module _ (code L S P : ℕ) (block content : List ℕ) (F : Fit code L S P block
 
     pub both-written : {page directory : List ℕ} → page ≡ page_of house code L S (take (a + n - a) (drop a block)) content
         → directory
-        ≡ page_of house directory_code directory_bytes directory_strips (directory_of (put_mid a (a + n - a) block page)) (i % 256 ∷ [])
+        ≡ page_of house directory_code directory_bytes directory_strips (directory_of (put_mid a (a + n - a) block page)) (i ∷ [])
         → directory ++ drop 6 (put_mid a (a + n - a) block page) ≡ put_block code L S P block content i start_of
     unfolding put_block page-now directory-now
     both-written e f =
-        let d = (rw (page-stored e, as_before, same_number) at f)
+        let d = (rw (page-stored e, as_before) at f)
         ∙ sym (directory-plain start_of code L S P block content F i inside).1 in
         rw (page-stored e, d, directory-long, s) refl
 

@@ -16,7 +16,6 @@ use block_shape::{judge_put, page_size, page_start};
 use page::writing::{price, write};
 use page_answers::Answer;
 use page_choosing::{Pick, better};
-use refusals::Completion;
 
 // The cost of a page with that of the directory, where the page is done.
 fn with_directory(of_page: Answer, directory: u32) -> Answer
@@ -25,8 +24,7 @@ fn with_directory(of_page: Answer, directory: u32) -> Answer
 {
     match of_page {
         Answer::Done(cost) => Answer::Done(directory + cost),
-        Answer::Spent(_) => of_page,
-        Answer::Refused(_) => of_page,
+        Answer::Spent(_) | Answer::Refused(_) => of_page,
     }
 }
 
@@ -44,31 +42,33 @@ fn price_put(
     requires k_lt_pages { k < pages }
     ensures { offered result ≡ put_offer code bytes strips pages block.now «data».now k }
 {
-    let number = [(k % 256) as u8];
-    let of_directory = price(3, 1, 1, &block[0..codes::STRIP_BYTES], &number);
-    match of_directory {
-        Answer::Done(directory) => {
-            let a = page_start(bytes, strips, k);
-            let n = page_size(bytes, strips);
-            let of_page = price(code, bytes, strips, &block[a..a + n], data);
-            with_directory(of_page, directory)
-        }
-        Answer::Spent(_) => of_directory,
-        Answer::Refused(_) => of_directory,
-    }
+    let number = [k as u8];
+    let of_directory = price(3, 1, 1, &block[..codes::STRIP_BYTES], &number);
+    let Answer::Done(directory) = of_directory else {
+        return of_directory;
+    };
+    let a = page_start(bytes, strips, k);
+    let n = page_size(bytes, strips);
+    let of_page = price(code, bytes, strips, &block[a..a + n], data);
+    with_directory(of_page, directory)
 }
 
 // The page for which a put costs least, the lowest number of equals. Each is tried in turn.
-fn cheapest_page(code: u32, bytes: u32, strips: u32, pages: u32, block: &[u8], data: &[u8]) -> Pick
+fn cheapest_page(
+    code: u32,
+    bytes: u32,
+    strips: u32,
+    pages: u32,
+    block: &[u8],
+    data: &[u8],
+) -> Option<Pick>
     requires { ground_of_put code bytes strips pages block.now «data».now ≡ none }
     ensures { taken result ≡ put_choice code bytes strips pages block.now «data».now }
 {
-    let mut pick = Pick::Nothing;
-    let mut k: u32 = 0;
-    while k < pages {
+    let mut pick = None;
+    for k in 0..pages {
         let offer = price_put(code, bytes, strips, pages, block, data, k);
         pick = better(pick, k, 0, offer);
-        k += 1;
     }
     pick
 }
@@ -82,8 +82,8 @@ fn write_page(code: u32, bytes: u32, strips: u32, pages: u32, block: &mut [u8], 
     let a = page_start(bytes, strips, k);
     let n = page_size(bytes, strips);
     write(code, bytes, strips, &mut block[a..a + n], data);
-    let number = [(k % 256) as u8];
-    write(3, 1, 1, &mut block[0..codes::STRIP_BYTES], &number);
+    let number = [k as u8];
+    write(3, 1, 1, &mut block[..codes::STRIP_BYTES], &number);
 }
 
 // Writes the cheapest page of a block that is in order, and the directory.
@@ -101,12 +101,11 @@ fn put_cheapest(
     ensures block_after { block.new ≡ chosen_block code bytes strips pages block.old «data».now none
         (put_choice code bytes strips pages block.old «data».now) start_of }
 {
-    let pick = cheapest_page(code, bytes, strips, pages, block, data);
-    match pick {
-        Pick::Nothing => Answer::Spent(0),
-        Pick::Taken(k, _, cost) => {
-            write_page(code, bytes, strips, pages, block, data, k);
-            Answer::Done(cost)
+    match cheapest_page(code, bytes, strips, pages, block, data) {
+        None => Answer::Spent(0),
+        Some(pick) => {
+            write_page(code, bytes, strips, pages, block, data, pick.number);
+            Answer::Done(pick.cost)
         }
     }
 }
@@ -119,9 +118,8 @@ pub fn put(code: u32, bytes: u32, strips: u32, pages: u32, block: &mut [u8], dat
     ensures wrote_put { WrotePut code bytes strips pages block.old «data».now block.new result }
     ensures result_bound { value_of result ≤ largest_put_cost }
 {
-    let judged = judge_put(code, bytes, strips, pages, block.len(), data.len());
-    match judged {
-        Completion::Done => put_cheapest(code, bytes, strips, pages, block, data),
-        Completion::Refused(r) => Answer::Refused(r),
+    match judge_put(code, bytes, strips, pages, block.len(), data.len()) {
+        Ok(()) => put_cheapest(code, bytes, strips, pages, block, data),
+        Err(refusal) => Answer::Refused(refusal),
     }
 }
