@@ -9,8 +9,8 @@ pub returns-then-pages-lt2 : goal.returns-then-pages-lt2
 unfolding pages_ground
 returns-then-pages-lt2 c =
     elim c.then-pages-lt2.branch [
-      then-pages-lt2-via-then-pages-lt2 w ↦ simp (lt-leb _ _ w.if-pages-lt2.true)
-    | then-pages-lt2-via-else-pages-lt2+then-pages-gt16 w ↦ simp (le-leb _ _ w.if-pages-lt2.false, lt-leb c.args.pages 16 (omega (arith, w.if-pages-gt16.true)))
+      | then-pages-lt2-via-then-pages-lt2 w ↦ simp (lt-leb _ _ w.if-pages-lt2.true)
+      | then-pages-lt2-via-else-pages-lt2+then-pages-gt16 w ↦ simp (le-leb _ _ w.if-pages-lt2.false, lt-leb c.args.pages 16 (omega (arith, w.if-pages-gt16.true)))
     ]
 
 pub returns : goal.returns
