@@ -39,7 +39,7 @@ BACKWARD = "crates/trellis/src/backward.rt"
 READING = "crates/page_reading/src/lib.rt"
 ROWS = "crates/rows/src/lib.rt"
 PARTS = "crates/page_parts/src/lib.rt"
-STRIP = "code, &rows, strip(page, bytes, k), map_part(map, bytes, k), &data[a..a + bytes]"
+STRIP = "code, &rows, strip(page, bytes, k), map_part(map, bytes, k), data_part(data, bytes, k)"
 KEPT = "let mut kept = [0u8; 64]; kept[0] = 1;"
 
 # Where rt cuts the first line of the prover.
@@ -127,7 +127,7 @@ def named_line(crate, name):
 
 def in_price_strip(line, item=""):
     """price_strip with a line more in front of its loop, and the crate rows with an item more, for the line to use."""
-    return {**before(BACKWARD, "    while q > 0", f"    {line}\n"), **append(ROWS, f"\n{item}\n")}
+    return {**before(BACKWARD, "    for q in (0..data.len()).rev()", f"    {line}\n"), **append(ROWS, f"\n{item}\n")}
 
 
 def each(count, text):
@@ -372,10 +372,10 @@ FAULTS = {
         ("price_planted calls itself", append(WRITING, "\npub fn price_planted(n: u32) {\n    price_planted(n / 2);\n}\n")),
         (
             "price_strip is lent",
-            {**priced_by(f"price_strip({STRIP}, &mut kept)"), **change(BACKWARD, r"(?<=data: &\[u8\])(?=\) -> Outcome)", ", kept: &mut [u8; 64]")},
+            {**priced_by(f"price_strip({STRIP}, &mut kept)"), **change(BACKWARD, r"(?<=data: &\[u8\],)(?=\n\) -> Option)", " kept: &mut [u8; 64],")},
         ),
         ("price_strips makes a &mut of its own [u8; 64]", before(REWRITING, "    let mut total", f"{KEPT} code.read_strip(page, &mut kept[0..1]);\n")),
-        ("price_strip makes a &mut of its own u64", in_price_strip("rows::planted(&mut q);", "pub fn planted(q: &mut usize) {}")),
+        ("price_strip makes a &mut of its own u64", in_price_strip("let mut size = data.len(); rows::planted(&mut size);", "pub fn planted(q: &mut usize) {}")),
         ("price_strip keeps [u8; 512] 1 times, and 0 are named", in_price_strip(KEPT.replace("64", "512"))),
         ("price_strip keeps [u32; 64] 2 times, and 1 are named", in_price_strip(KEPT.replace("u8", "u32"))),
         ("last_labels keeps [u8; 64] 1 times, and 0 are named", before(BACKWARD, "    let mut labels", f"{KEPT}\n")),
@@ -407,9 +407,9 @@ FAULTS = {
         ),
         (
             "price_strip keeps [rows::Bits; 64] 1 times, and 0 are named",
-            in_price_strip(f"let kept = [{BITS_VALUE}; 64]; let bit = kept[q % 64].a0;", BITS),
+            in_price_strip(f"let kept = [{BITS_VALUE}; 64]; let bit = kept[data.len() % 64].a0;", BITS),
         ),
-        ("numbers, and a strip has 64 blocks", in_price_strip(each(64, "let a# = q;"))),
+        ("numbers, and a strip has 64 blocks", in_price_strip(each(64, "let a# = 0u32;"))),
         ("numbers, and a strip has 64 blocks", in_price_strip(each(64, "let a# = [0u32; 4];"))),
         ("cells::bit keeps [u8; 3] 0 times, and 1 are named", change("tests/pricing.py", r'"cells::weight"', '"cells::bit"')),
         ("has no place for a word", change("tests/pricing.py", r'(?<="\[u32; 64\]"\): \(1, )"a state"', '"a word"')),
