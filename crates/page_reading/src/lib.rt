@@ -18,6 +18,7 @@ pub fn read_strips(code: Code, bytes: usize, strips: usize, page: &[u8], data: &
     requires { Sized one_bit bytes strips page.now «data».old }
     ensures { «data».new ≡ read_page (generators_of code) bytes strips page.now }
 {
+    // by bounds and not by `chunks_exact_mut`, of which the prover knows the length alone once the parts are written
     for k in 0..strips {
         let a = bytes * k;
         code.read_strip(strip(page, bytes, k), &mut data[a..a + bytes]);
