@@ -35,6 +35,7 @@ fn judge_pages(pages: u32) -> Completion
 }
 
 // Judges the block's length, where L and S are within their limits: it ends where a page behind its last would begin.
+#[tactic(auto, using(std::proofs::lemmas::Bool::Decides::nat_tests), unfolding(refusals::specs::Refusals::block_ground))]
 fn judge_block(bytes: u32, strips: u32, pages: u32, block: usize) -> Completion
     requires { limits_ground bytes strips ≡ none }
     ensures { result ≡ completion_of (block_ground bytes strips pages block) }
