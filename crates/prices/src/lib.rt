@@ -12,6 +12,7 @@ use stages::stage::{least, pick};
 fn steps_of(weights: [u8; 3]) -> [u32; 8]
     ensures { result ≡ step_list weights }
 {
+    // Not by a pattern, which would keep the weights in an array here: tests/pricing.py names each that a price keeps.
     let a = cells::weight(weights, 0);
     let b = cells::weight(weights, 1);
     let c = cells::weight(weights, 2);
@@ -48,6 +49,7 @@ pub fn rows_of(weights: [u8; 3]) -> [u32; 256]
     let mut rows = [0u32; 256];
     for r in 0..64 {
         let prices = row_prices(steps, r);
+        // Not `copy_from_slice`, which is lent the table by `&mut`: tests/pricing.py leaves that to price_strip's array.
         for j in 0..4 {
             rows[4 * r + j] = prices[j];
         }

@@ -76,6 +76,7 @@ fn run_short(costs: &mut [u32; 64], rows: &[u32; 256], picks: u64)
             least(c + r, d + q),
         );
     }
+    // Not `copy_from_slice`, which would be of one array more: tests/pricing.py names each that a price keeps.
     costs[0] = a;
     costs[1] = b;
     costs[2] = c;

