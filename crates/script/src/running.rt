@@ -29,12 +29,12 @@ fn line_end(bytes: &[u8]) -> usize
 {
     bytes
         .iter()
-        .position(|byte| *byte == 10)
+        .position(|byte| *byte == b'\n')
         .unwrap_or(bytes.len())
 }
 
-// Keeps the bytes up to the end of the line, or all of them where it does not end here. Of a line that is too long for its form only as many
-// are kept as the buffer holds: that many are in no form.
+// Keeps the bytes up to the end of the line, or all of them where it does not end here. Of a line that is too long for its form only as
+// many are kept as the buffer holds: that many are in no form.
 fn keep_part(bytes: &[u8], line: &mut [u8], used: usize) -> Part
     requires { used ≤ length line.old }
     ensures kept_part { KeptPart (take used line.old ++ take result.end bytes.now)

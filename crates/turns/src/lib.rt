@@ -12,7 +12,7 @@ use text::Values;
 use text::printing::Printed;
 
 // Where a run is between two bytes of its input: the values of line 2, the number of the line that is being read, how many of its bytes are
-// kept, and whether the run goes on.
+// kept, and whether the run goes on. (`on` is no `Option`: a run that has stopped keeps its place, as in the definitions.)
 #[derive(Clone, Copy, Drop)]
 pub struct Run {
     pub values: Values,
