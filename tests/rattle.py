@@ -25,7 +25,7 @@ CLOSING = {"(": ")", "{": "}", "<": ">"}
 @dataclasses.dataclass
 class Function:
     where: str  # crates/page/src/shape.rt:39
-    lines: range  # those that it stands on, from the first word of its signature to the last brace
+    lines: range  # those that it stands on, from its attributes to the last brace
     crate: str
     name: str  # page::shape::strip
     public: bool
@@ -113,7 +113,10 @@ def of_crate(crate):
             if item["type"]:
                 owner, until = item["type"], after(text, at - 1)
                 continue
-            first = len(text[: item.start() + 1].splitlines())
+            above = text[: item.start() + 1].splitlines()
+            first = len(above)
+            while first > 1 and above[first - 2].lstrip().startswith("#["):
+                first -= 1
             where = f"{path}:{len(text[:at].splitlines())}"
             try:
                 given, result, clauses, body = head(text, at)

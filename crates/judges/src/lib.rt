@@ -14,6 +14,7 @@ use refusals::{
 };
 
 // Judges L, S and the page's length, in this order.
+#[tactic(auto, unfolding(refusals::specs::Refusals::shape_ground))]
 pub fn judge_shape(bytes: u32, strips: u32, page: usize) -> Completion
     ensures { result ≡ completion_of (shape_ground bytes strips page) }
 {
@@ -22,6 +23,7 @@ pub fn judge_shape(bytes: u32, strips: u32, page: usize) -> Completion
 }
 
 // Judges the lengths of page, map and data, in this order, where L and S are within their limits.
+#[tactic(auto, unfolding(refusals::specs::Refusals::lengths_ground))]
 fn judge_lengths(
     bytes: u32,
     strips: u32,
@@ -33,13 +35,13 @@ fn judge_lengths(
     requires { limits_ground bytes strips ≡ none }
     ensures { result ≡ completion_of (lengths_ground (count_given count) (map_given map) bytes strips page «data») }
 {
-    let of_page = judge_page(bytes, strips, page);
-    let of_map = judge_map(bytes, strips, map);
-    let of_data = judge_data(bytes, strips, count, data);
-    of_page.and(of_map.and(of_data))
+    judge_page(bytes, strips, page)?;
+    judge_map(bytes, strips, map)?;
+    judge_data(bytes, strips, count, data)
 }
 
 // Judges what a read is given: the code, L and S, then both lengths.
+#[tactic(auto, unfolding(refusals::specs::Refusals::ground))]
 pub fn judge_read(code: u32, bytes: u32, strips: u32, page: usize, data: usize) -> Completion
     ensures { result ≡ completion_of (ground code bytes strips page «data») }
 {
@@ -49,6 +51,7 @@ pub fn judge_read(code: u32, bytes: u32, strips: u32, page: usize, data: usize) 
 
 // Judges what a price, a write or a list of writes is given, with a map or without one: the code, L and S, then the weights, the count and
 // the lengths.
+#[tactic(auto, unfolding(refusals::specs::Refusals::list_ground))]
 pub fn judge_write(
     code: u32,
     bytes: u32,
@@ -62,13 +65,13 @@ pub fn judge_write(
     ensures { result ≡ completion_of (list_ground (count_given count) (map_given map) weights code bytes strips page «data») }
 {
     judge_sizes(code, bytes, strips)?;
-    let steps = judge_weights(weights);
-    let counted = judge_count(count);
-    let lengths = judge_lengths(bytes, strips, count, page, map, data);
-    steps.and(counted.and(lengths))
+    judge_weights(weights)?;
+    judge_count(count)?;
+    judge_lengths(bytes, strips, count, page, map, data)
 }
 
-// Judges what a write in a band is given: the code, the band, then the page's length. L and S are 2 and 1, within their limits.
+// Judges what a write in a band is given: the code, the band, then the page's length. L and S are 2 and 1, within their limits, so that
+// each can be judged before the others.
 pub fn judge_value(code: u32, band: u32, page: usize) -> Completion
     ensures { result ≡ completion_of (value_ground code band page) }
 {
@@ -90,6 +93,7 @@ pub fn code_of(code: u32) -> Code
 }
 
 // Judges what an erase is given, with a map or without one: the shape, the map's length, then the temperature.
+#[tactic(auto, unfolding(refusals::specs::Refusals::erasing_ground))]
 pub fn judge_erase(
     bytes: u32,
     strips: u32,
@@ -100,7 +104,6 @@ pub fn judge_erase(
     ensures { result ≡ completion_of (erasing_ground (map_given map) bytes strips page tenths) }
 {
     judge_shape(bytes, strips, page)?;
-    let of_map = judge_map(bytes, strips, map);
-    let of_tenths = judge_tenths(tenths);
-    of_map.and(of_tenths)
+    judge_map(bytes, strips, map)?;
+    judge_tenths(tenths)
 }

@@ -19,8 +19,7 @@
 --   same-ground, same-erasing              a map that has no ground refuses nothing more
 --   sizes-number                           the code, L and S are refused by 1 to 3
 --   done_none, refused-some                an answer tells its ground
---   refused-first, done_next               grounds tested one after the other
---   handed-on, judged-and                  what a `?` answers of them, and the `and` of two
+--   refused-first, judged-and              grounds tested one after the other
 --   numbered-code                          the code of a number
 --   product-most                           L·S is at most 4,096
 use mathlib.Core.Path.{◌≡◌, refl, sym, ◌∙◌, ap}
@@ -407,17 +406,6 @@ pub refused-first : (g h : Option Refusal) (c : Result ⊤ Refusal) {r : Refusal
     → c ≡ completion_of (first_of g h)
 refused-first none h c e f = let z : ◌≡◌ {A = ℕ} 0 1 = cc in absurd (omega arith)
 refused-first (some s) h c e f = e
-
--- it is what a `?` answers, whatever is tested after it
-pub handed-on : (g h : Option Refusal) (c d : Result ⊤ Refusal) {r : Refusal} → c ≡ completion_of g → c ≡ Err r → IsErrAnd d (λ e. e ≡ r)
-    → d ≡ completion_of (first_of g h)
-handed-on g h c (Ok done) e f k = absurd k
-handed-on g h c (Err s) e f k = refused-first g h (Err s) (ap Err k ∙ sym f ∙ e) (ap Err k)
-
--- where the first ground does not apply, what is tested after it decides
-pub done_next : (g h : Option Refusal) {c d : Result ⊤ Refusal} → c ≡ completion_of g → c ≡ Ok tt → d ≡ completion_of h
-    → d ≡ completion_of (first_of g h)
-done_next g h e f k = rw (done_none g (sym e ∙ f)) k
 
 -- of two that were judged, the first where it is refused, else the later one
 pub judged-and : (g h : Option Refusal) {c d : Result ⊤ Refusal} → c ≡ completion_of g → d ≡ completion_of h
