@@ -15,16 +15,11 @@ use rows::{data_window, picks_at};
 use stage_blocks::{keep, run, settle};
 use stages::CLOSED;
 
-// What a number of the search says: the cost, or None where no pattern takes the data. `then_some` says the same, but it calls through a
-// bound, which tests/pricing.py does not follow.
+// What a number of the search says: the cost, or None where no pattern takes the data.
 fn outcome(cost: u32) -> Option<u32>
     ensures { result ≡ decoded_outcome cost }
 {
-    if cost < CLOSED {
-        Some(cost)
-    } else {
-        None
-    }
+    (cost < CLOSED).then_some(cost)
 }
 
 // The last eight labels of the data.
