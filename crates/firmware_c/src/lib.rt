@@ -1,5 +1,5 @@
-// The calls of crate `firmware`, exported for C, each with the clauses of the call that it stands for: a crate is a library for other crates or
-// an archive for C, and no crate is both. The declarations for C are in include/segrunov.h.
+// The calls of crate `firmware`, exported for C, each with the clauses of the call that it stands for: a crate is a library for other
+// crates or an archive for C, and no crate is both. The declarations for C are in include/segrunov.h.
 #![tactic(auto)]
 
 ghost use Rattle.std.specs.Prelude.{◌≡◌, [], ◌∷◌, ◌%◌, ◌≤◌, length, replicate};

@@ -67,8 +67,7 @@ impl Display for Band {
 }
 
 // What a call is given beside the sizes: nothing, so that the weights are the house's; weights; or weights and a map of marked cells.
-#[derive(Drop)]
-#[derive(Clone, Copy)]
+#[derive(Clone, Copy, Drop)]
 enum Given<'a> {
     House,
     Weights([u8; 3]),
@@ -76,8 +75,7 @@ enum Given<'a> {
 }
 
 // The calls of the C interface with this code, this L and S, and what else is given.
-#[derive(Drop)]
-#[derive(Clone, Copy)]
+#[derive(Clone, Copy, Drop)]
 struct Calls<'a> {
     code: u32,
     bytes: u32,

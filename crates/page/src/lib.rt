@@ -1,5 +1,5 @@
-// The calls on a page: read, price, write, erase and census, on numbers and byte slices. Each takes every input, and refuses what is not in
-// order. Most stand in rooms of their own, and are handed on here.
+// The calls on a page: read, price, write, write a list or in a band, erase and census, on numbers and byte slices. Each takes every
+// input, and refuses what is not in order. Most stand in rooms of their own, and are handed on here.
 #![tactic(auto)]
 
 pub mod answers;

@@ -1,5 +1,6 @@
 // Pricing and writing a page, one data or a list of them: a call is judged, and what is in order goes to the loops over strips and datas.
-// The write in a band stands in a room of its own, and is handed on here.
+// The write in a band stands in a room of its own, and is handed on here. Numbers and slices are what C hands over: so the public calls
+// take these, and no struct.
 ghost use Rattle.std.specs.Prelude.{◌≡◌, [], ◌∷◌, ◌≤◌, length};
 ghost use Rattle.std.proofs.Math.Option.{none, some};
 ghost use Rattle.cells.specs.Marks.{marks_in};

@@ -8,17 +8,16 @@ ghost use Rattle.page_answers.specs.Totals.{no_total, added, answer_for};
 use refusals::{Refusal, refusal_number};
 
 // The answer of a write, and of a price: done with the cost, spent with the strip's number, or refused.
-#[derive(Drop)]
-#[derive(Clone, Copy)]
+#[derive(Clone, Copy, Drop)]
 pub enum Answer {
     Done(u32),
     Spent(u32),
     Refused(Refusal),
 }
 
-// How a list of writes ended: every data is written, the page is spent for the next one, with the strip's number, or it is refused.
-#[derive(Drop)]
-#[derive(Clone, Copy)]
+// How a list of writes ended: every data is written, the page is spent for the next one, with the strip's number, or it is refused. Three
+// cases, as those of an answer: a Result would put two of them into one.
+#[derive(Clone, Copy, Drop)]
 pub enum End {
     Done,
     Spent(u32),
@@ -26,8 +25,7 @@ pub enum End {
 }
 
 // The answer of a list of writes: how many of its datas are written, what they cost together, and how it ended.
-#[derive(Drop)]
-#[derive(Clone, Copy)]
+#[derive(Clone, Copy, Drop)]
 pub struct ListAnswer {
     pub written: u32,
     pub cost: u32,
@@ -35,17 +33,15 @@ pub struct ListAnswer {
 }
 
 // The answer of a write in a band: done with the cost and the value stored, spent, or refused.
-#[derive(Drop)]
-#[derive(Clone, Copy)]
+#[derive(Clone, Copy, Drop)]
 pub enum BandAnswer {
     Done(u32, u16),
     Spent,
     Refused(Refusal),
 }
 
-// The running total of a page: the cost and the number of the strips so far, and whether one was spent.
-#[derive(Drop)]
-#[derive(Clone, Copy)]
+// The running total of a page: the cost and the number of the strips so far, and whether one was spent, which leaves both as they are.
+#[derive(Clone, Copy, Drop)]
 pub struct Total {
     pub cost: u64,
     pub strips: u32,

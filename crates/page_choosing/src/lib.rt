@@ -10,8 +10,7 @@ ghost use Rattle.page_choosing.specs.Picks.{taken};
 use page_answers::Answer;
 
 // An offer that is taken: its number, its rank and its cost.
-#[derive(Drop)]
-#[derive(Clone, Copy)]
+#[derive(Clone, Copy, Drop)]
 pub struct Pick {
     pub number: u32,
     pub rank: u32,

@@ -9,8 +9,7 @@ ghost use Rattle.refusals.specs.Refusals.{count_given, map_given, band_ground, c
 ghost use Rattle.refusals.specs.Refusals.{erase_ground, first_of, refusal_number, completion_of, completion_number};
 
 // Why a call is refused, in the order of the tests; the paper's numbers are 1, 12, 2, 3, 13, 9, 10, 4, 11, 5, 8 and 14.
-#[derive(Drop)]
-#[derive(Clone, Copy)]
+#[derive(Clone, Copy, Drop)]
 pub enum Refusal {
     CodeUnknown,
     BandOutside,

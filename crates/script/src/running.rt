@@ -8,7 +8,7 @@ use text::Values;
 use text::printing::Printed;
 use turns::{Run, Turn, following, line_turn};
 
-// The bytes of a line so far, and how many bytes were looked at.
+// How many bytes of a line are kept, and how many of those that were handed over belong to it.
 #[derive(Clone, Copy, Drop)]
 struct Part {
     used: usize,

@@ -1,4 +1,4 @@
-// One stage of the search of 64 states: one function that a reader can hold in the head, in the shape that the vector unit likes.
+// One stage of the search of 64 states: small functions in the shape that the vector unit likes.
 ghost use Rattle.std.specs.Prelude.{◌≡◌, ◌+◌, ◌^◌, ◌<◌, ◌≤◌, min, get_or};
 ghost use Rattle.cells.specs.Places.{Untouched};
 ghost use Rattle.stages.specs.Stage.{pick, StageRequires, HalfRequires, Staged};

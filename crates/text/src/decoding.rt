@@ -11,7 +11,7 @@ fn is_hex(c: u8) -> bool
     matches!(c, b'0'..=b'9' | b'a'..=b'f')
 }
 
-// Whether each byte is one.
+// Whether each byte is such a digit.
 fn all_hex(line: &[u8]) -> bool
     ensures { result ≡ all_hex line.now }
 {

@@ -19,7 +19,7 @@ pub fn size(v: Values) -> usize
     }
 }
 
-// The cost of an answer: 0 with any refusal.
+// The cost of an answer: 0 where it is refused or spent.
 fn answer_cost(a: Answer) -> u64
     ensures { result ≡ answer_cost a }
 {

@@ -42,7 +42,7 @@ pub struct Turn {
     pub printed: Printed,
 }
 
-// A whole line: the first data line is line 4.
+// A whole line: the first data line is line 4. A match on the number, since that is what picks the turn.
 pub fn line_turn(number: u64, values: Values, line: &[u8], page: &mut [u8], data: &mut [u8]) -> Turn
     requires { LineRequires (at_line number values (take (page_size number values) page.old)) page.old «data».old }
     ensures told { Told (line_turn (at_line number values (take (page_size number values) page.old)) line.now)

@@ -1,26 +1,31 @@
--- `put_bits` meets its contract: six stores, one after the other.
-use mathlib.Core.Path.{◌≡◌, refl, sym, ◌∙◌, ap}
-use mathlib.Core.List.{List}
-use Prim.Native.Nat.{ℕ, suc, ◌+◌, ◌*◌}
+-- `put_bits` meets its contract: six bytes copied are six stores, one after the other.
+use mathlib.Core.Path.{◌≡◌, refl, ap}
+use mathlib.Core.List.{List, [], ◌∷◌}
+use Prim.Native.Nat.{ℕ, zero, suc, ◌+◌, ◌*◌, ◌/◌, ◌-◌, ◌≤◌}
 use native.Mathlib.Omega.{arith}
-use lib.ListN.{set}
-use Rattle.prices.proofs.Stores.{stored}
-use Rattle.carrying.specs.Carrying.{byte_in}
-use Rattle.carrying.proofs.Carried.{with-stored}
+use lib.ListN.{length, set}
+use borrow.Rule.Slice.PartMut.{put_mid}
+use Rattle.carrying.specs.Carrying.{byte_in, with_bits}
 use Rattle.carrying.proofs.put_bits.Goals as goal
 
-pub loop-k-init : goal.loop-k-init
-unfolding stored
-loop-k-init c = refl
-
-pub loop-k-preserved : goal.loop-k-preserved
-unfolding stored byte_in
-loop-k-preserved c =
-    let s : suc c.loop-k.k ≡ c.loop-k.k + 1 = omega arith in
-    ap (λ (l : List ℕ). set l (6 * c.args.q + c.loop-k.k) (byte_in c.args.bits c.loop-k.k)) c.loop-k.invariant
-    ∙ ap (stored c.args.strip.now (6 * c.args.q) (byte_in c.args.bits)) s
+-- six numbers in the place of six
+six-stored : (p : ℕ) (l : List ℕ) (a b c d e f : ℕ) → p + 6 ≤ length l
+    → put_mid p 6 l (a ∷ b ∷ c ∷ d ∷ e ∷ f ∷ []) ≡ set (set (set (set (set (set l p a) (p + 1) b) (p + 2) c) (p + 3) d) (p + 4) e) (p + 5) f
+six-stored zero (u ∷ v ∷ w ∷ x ∷ y ∷ z ∷ l) a b c d e f h = refl
+six-stored (suc p) (x ∷ l) a b c d e f h =
+    let s : (k : ℕ) → suc p + k ≡ suc (p + k) = λ k. omega arith in
+    rw (s 1, s 2, s 3, s 4, s 5) (ap (λ (k : List ℕ). x ∷ k) (six-stored p l a b c d e f (omega arith)))
+six-stored zero [] a b c d e f h = absurd (let z : ⊥ = omega arith in z)
+six-stored zero (u ∷ []) a b c d e f h = absurd (let z : ⊥ = omega arith in z)
+six-stored zero (u ∷ v ∷ []) a b c d e f h = absurd (let z : ⊥ = omega arith in z)
+six-stored zero (u ∷ v ∷ w ∷ []) a b c d e f h = absurd (let z : ⊥ = omega arith in z)
+six-stored zero (u ∷ v ∷ w ∷ x ∷ []) a b c d e f h = absurd (let z : ⊥ = omega arith in z)
+six-stored zero (u ∷ v ∷ w ∷ x ∷ y ∷ []) a b c d e f h = absurd (let z : ⊥ = omega arith in z)
+six-stored (suc p) [] a b c d e f h = absurd (let z : ⊥ = omega arith in z)
 
 pub returns : goal.returns
+unfolding with_bits byte_in
 returns c =
-    let n : c.loop-k.k ≡ 6 = omega arith in
-    rw n at c.loop-k.invariant ∙ sym (with-stored c.args.strip.now c.args.q c.args.bits)
+    let n : 6 * c.args.q + 6 - 6 * c.args.q ≡ 6 = omega arith in
+    let e : c.args.bits / 1 ≡ c.args.bits = omega arith in
+    rw (c.copy_from_slice.ensures.after, c.to_le_bytes.ensures, n, e) (six-stored (6 * c.args.q) c.args.strip.now _ _ _ _ _ _ c.requires.0)
