@@ -1,7 +1,6 @@
 -- The answer of a price or a write, and the page after it, on every input.
 --   job_answer, job_page    the answer of a job and the page after it, by the ground of a refusal
 --   marked_by, map_size     the cells that a call's map marks, and its length
---   map_if                  the map of a call that has one, or none
 --   ground_with, job_with   the ground on which a call is refused, and its job
 --   answer_with             the answer of a write with a map, or without one
 --   page_with               the page after it, by any order of the raises
@@ -9,7 +8,7 @@
 --   page_by, page_of        the page after it, by any order of the raises, and by this release's
 --   largest_cost            one write costs at most this with the house's weights
 --   largest_weighted_cost   and this with any
-use Rattle.std.specs.Prelude.{Bool, true, false, List, ℕ, length}
+use Rattle.std.specs.Prelude.{Bool, List, ℕ, length}
 use Rattle.std.proofs.Math.Option.{Option, none, some}
 use Rattle.cells.specs.Marks.{marks_in}
 use Rattle.cells.specs.Raising.{start_of, start_in, raised_to}
@@ -65,11 +64,6 @@ module _ (g : Option Refusal) (J : Job) where
 abbrev pub marked_by : Option (List ℕ) → ℕ → Bool
 marked_by none = unmarked
 marked_by (some map) = marks_in map
-
--- the map of a call that has one, or none
-abbrev pub map_if : Bool → List ℕ → Option (List ℕ)
-map_if true map = some map
-map_if false map = none
 
 -- the length of a call's map
 abbrev pub map_size : Option (List ℕ) → Option ℕ
