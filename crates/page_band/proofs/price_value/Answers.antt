@@ -3,7 +3,7 @@ use mathlib.Core.Path.{◌∙◌, ap}
 use mathlib.Core.Option.{none}
 use Rattle.cells.proofs.Marks.{no-map}
 use Rattle.page_promises.specs.Writes.{job_answer}
-use Rattle.page_band.proofs.Values.{lent-in-order, lent-job}
+use Rattle.page_band.proofs.Values.{house-weighed, lent-in-order, lent-job}
 use Rattle.page_band.proofs.price_value.Goals as goal
 
 pub invariant_of-job : goal.invariant_of-job
@@ -28,4 +28,4 @@ pub returns : goal.returns
 returns c =
     c.price_strips.ensures
     ∙ ap (job_answer none) (lent-job c.args.code c.args.page.now c.args.value c.house_weights-weights.ensures c.value_bytes-data.ensures
-    c.code_of-job.ensures no-map)
+    c.code_of.ensures no-map)

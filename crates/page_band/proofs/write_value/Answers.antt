@@ -5,7 +5,7 @@ use Rattle.cells.specs.Raising.{start_of}
 use Rattle.cells.proofs.Marks.{no-map}
 use Rattle.demand.specs.Jobs.{Job}
 use Rattle.page_promises.specs.Writes.{job_answer, job_page}
-use Rattle.page_band.proofs.Values.{lent-in-order, lent-job}
+use Rattle.page_band.proofs.Values.{house-weighed, lent-in-order, lent-job}
 use Rattle.page_band.proofs.write_value.Goals as goal
 
 pub invariant_of-job : goal.invariant_of-job
@@ -29,7 +29,7 @@ write_strips-requires c =
 pub returns : goal.returns
 returns c =
     let j = lent-job c.args.code c.args.page.now c.args.value c.house_weights-weights.ensures c.value_bytes-data.ensures
-    c.code_of-job.ensures no-map in
+    c.code_of.ensures no-map in
     record {
       value = c.write_strips.ensures.value ∙ ap (job_answer none) j;
       page_after = c.write_strips.ensures.page_after ∙ ap (λ (J : Job). job_page none J start_of) j;

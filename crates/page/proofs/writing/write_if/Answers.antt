@@ -31,7 +31,7 @@ write_strips-requires c =
 pub returns-in-Ok : goal.returns-in-Ok
 returns-in-Ok c =
     let weights = weighed c.well_formed.1.1.1.0.1.0.1 (λ i. elem_Fits w8 w8 c.args.weights _ i c.well_formed.1.1.1.0.1.1 tt) in
-    let z = answered (map_of c.args.map) c.args.weights c.args.code c.args.bytes c.args.strips c.args.page.now c.args.data.now c.judged.ensures c.in-Ok.is c.code_of-job.ensures c.map_if-job.ensures in
+    let z = answered (map_of c.args.map) c.args.weights c.args.code c.args.bytes c.args.strips c.args.page.now c.args.data.now c.judged.ensures c.in-Ok.is c.code_of.ensures c.map_if.ensures in
     let e = c.write_strips.ensures.value ∙ z.0 in
     let p = c.write_strips.ensures.page_after ∙ z.1 in
     let rest = write_kept _ _ _ _ _ _ _ weights (octets c.type_inv.data) p e in
