@@ -18,7 +18,7 @@ use judges::{code_of, judge_write};
 use page_answers::{Answer, ListAnswer};
 pub use page_band::write_band;
 use page_lists::{refused_list, write_datas};
-use page_rewriting::{price_strips, write_strips};
+use page_rewriting::Job;
 use refusals::Completion;
 
 // The length of a call's map, where it has one.
@@ -84,15 +84,17 @@ fn price_if(
     ensures result_bound { value_of result ≤ largest_weighted_cost }
 {
     match judged(code, bytes, strips, weights, None, page, map, data) {
-        Ok(()) => price_strips(
-            code_of(code),
-            weights,
-            bytes as usize,
-            strips as usize,
-            page,
-            map_if(map),
-            data,
-        ),
+        Ok(()) => {
+            let job = Job {
+                code: code_of(code),
+                weights,
+                bytes: bytes as usize,
+                strips: strips as usize,
+                map: map_if(map),
+                data,
+            };
+            job.price_strips(page)
+        }
         Err(refusal) => Answer::Refused(refusal),
     }
 }
@@ -116,15 +118,17 @@ fn write_if(
     ensures result_bound { value_of result ≤ largest_weighted_cost }
 {
     match judged(code, bytes, strips, weights, None, page, map, data) {
-        Ok(()) => write_strips(
-            code_of(code),
-            weights,
-            bytes as usize,
-            strips as usize,
-            page,
-            map_if(map),
-            data,
-        ),
+        Ok(()) => {
+            let job = Job {
+                code: code_of(code),
+                weights,
+                bytes: bytes as usize,
+                strips: strips as usize,
+                map: map_if(map),
+                data,
+            };
+            job.write_strips(page)
+        }
         Err(refusal) => Answer::Refused(refusal),
     }
 }

@@ -1,4 +1,5 @@
 -- THE VALUES OF A BAND, as the program tries them.
+--   house-weighed   the house's weights are three bytes
 --   lent-in-order   the page, the weights and the data that are lent are in order
 --   lent-job        and make the value's plain write
 --   sixteen-bits    a number of 16 bits is at most 65,535
@@ -15,7 +16,7 @@ use native.Mathlib.Omega.{arith}
 use lib.ListN.{length}
 use mir.Syntax.{w16}
 use mir.Val.{Fits}
-use Rattle.cells.specs.Climbs.{house}
+use Rattle.cells.specs.Climbs.{house, Weights}
 use Rattle.codes.specs.Generators.{Generators}
 use Rattle.codes.specs.Layouts.{one_bit}
 use Rattle.search.specs.Strip.{Dear, steps_of}
@@ -32,7 +33,12 @@ use Rattle.page_answers.specs.declared.Answer.{Answer}
 use Rattle.page_promises.specs.Families.{job_offer}
 use Rattle.page_promises.specs.Band.{value_bytes, value_job, away, lowest_value, value_at, value_count, band_choice}
 use Rattle.page_promises.proofs.Promise.{dear-by}
+use Rattle.page_promises.proofs.Bounds.{three-weights}
 use Rattle.page_promises.proofs.Band.{chosen-fits}
+
+-- the house's weights are three bytes
+pub house-weighed : Weights house
+house-weighed = three-weights 16 20 28 (omega arith) (omega arith) (omega arith)
 
 module _ (code : ℕ) (page : List ℕ) (w : ℕ) {W content : List ℕ} (weights : W ≡ house) (bytes : content ≡ value_bytes w) where
   -- the page, the weights and the data that are lent are in order

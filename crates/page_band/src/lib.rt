@@ -15,7 +15,7 @@ ghost use Rattle.page_promises.specs.Band.{band_answer, band_page, WroteBand, la
 use judges::{code_of, judge_value};
 use page_answers::{Answer, BandAnswer};
 use page_choosing::{Pick, better};
-use page_rewriting::{price_strips, write_strips};
+use page_rewriting::Job;
 
 // The data of a value, low byte first.
 fn value_bytes(value: u16) -> [u8; 2]
@@ -31,7 +31,15 @@ fn price_value(code: u32, page: &[u8], value: u16) -> Answer
 {
     let weights = cells::house_weights();
     let data = value_bytes(value);
-    price_strips(code_of(code), weights, 2, 1, page, &[], &data)
+    let job = Job {
+        code: code_of(code),
+        weights,
+        bytes: 2,
+        strips: 1,
+        map: &[],
+        data: &data,
+    };
+    job.price_strips(page)
 }
 
 // Writes a value; no cell is marked.
@@ -42,7 +50,15 @@ fn write_value(code: u32, page: &mut [u8], value: u16) -> Answer
 {
     let weights = cells::house_weights();
     let data = value_bytes(value);
-    write_strips(code_of(code), weights, 2, 1, page, &[], &data)
+    let job = Job {
+        code: code_of(code),
+        weights,
+        bytes: 2,
+        strips: 1,
+        map: &[],
+        data: &data,
+    };
+    job.write_strips(page)
 }
 
 // The lowest value of the band, which ends at 0.

@@ -13,7 +13,7 @@ ghost use Rattle.page_promises.specs.Lists.{with_write, has_ended, none_written,
 use codes::Code;
 use page_answers::{Answer, End, ListAnswer};
 use page_parts::data_part;
-use page_rewriting::write_strips;
+use page_rewriting::Job;
 use refusals::Refusal;
 
 // The answer of a list with one more single write.
@@ -66,7 +66,8 @@ pub fn refused_list(refusal: Refusal) -> ListAnswer
     }
 }
 
-// Writes one data after another, and stops before the first for which the page is spent.
+// Writes one data after another, and stops before the first for which the page is spent. Its parts come singly, and not as a job: the data of
+// a job are one page's, and a list has more.
 pub fn write_datas(
     code: Code,
     weights: [u8; 3],
@@ -89,7 +90,15 @@ pub fn write_datas(
     let mut so_far = none_written();
     for k in 0..count {
         let one = data_part(data, whole, k);
-        let answer = write_strips(code, weights, bytes, strips, page, map, one);
+        let job = Job {
+            code,
+            weights,
+            bytes,
+            strips,
+            map,
+            data: one,
+        };
+        let answer = job.write_strips(page);
         so_far = with_write(so_far, answer);
         if has_ended(so_far.end) {
             return so_far;

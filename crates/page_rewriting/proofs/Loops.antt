@@ -1,6 +1,7 @@
 -- One turn of the loops over a page's strips: what is lent, the strip's outcome, and what the total, the digits and the page are after it.
 -- Then what the whole write makes of that.
---   byte_weights, table-priced    the weights of a call, and their table
+--   job-sized                     a job and a page of its length are in order
+--   table-priced                  the table of a call's weights
 --   turn-shaped, turn-outcome     what a turn lends is in order, and its outcome is that of the strip's write
 --   PlannedTo, planned-more       the plans of the strips before k
 --   Reached, reached-more, ..     the total after k strips
@@ -41,6 +42,7 @@ use Rattle.page_parts.specs.Shape.{strip_of, Sized, map_part, strip_part}
 use Rattle.page_answers.specs.Totals.{no_total, added, total_from, answer_for}
 use Rattle.page_promises.specs.Writes.{call_answer, call_page, one_bit_job, job_answer, job_page}
 use Rattle.page_rewriting.specs.Plans.{Planned, Carried}
+use Rattle.page_rewriting.specs.declared.Job.{Job as Rewriting}
 use Rattle.page_answers.specs.declared.Total.{Total}
 use Rattle.page_answers.specs.declared.Answer.{Answer}
 use Rattle.page_answers.specs.declared.Answer.TheVariants as A
@@ -49,6 +51,11 @@ use Rattle.refusals.proofs.Refusals.{one-to-64, product-most}
 use Rattle.page_rewriting.proofs.Totals.{page-answers, total-spent, total-same}
 use Rattle.page_rewriting.proofs.Plans.{write_same, carried-page}
 use Rattle.page_promises.proofs.Plans.{strip-below}
+
+-- A JOB and a page of its length are in order
+pub job-sized : (J : Rewriting) {page : List ℕ} → length page ≡ byte_count one_bit J.bytes * J.strips
+    → Sized one_bit J.bytes J.strips page J.«data».now
+job-sized J e = record { bytes_in = J.bytes_in; strips_in = J.strips_in; page_is = e; data_is = J.data_is }
 
 -- LENT PARTS. In a turn the strip ends within the page
 pub strip-fits : {lay : Layout} {L S : ℕ} {page content : List ℕ} → Sized lay L S page content → {k : ℕ} → k < S
@@ -62,10 +69,6 @@ part-fits {lay} {L} {S} Z {k} h = omega (arith, Z.data_is, within L k S h)
 -- L and the strip's number are within their limits
 pub lent-limits : {lay : Layout} {L S : ℕ} {page content : List ℕ} → Sized lay L S page content → {k : ℕ} → k < S → (L ≤ 64) × (k < 64)
 lent-limits {L = L} {S = S} Z h = ((one-to-64 L Z.bytes_in).1, omega (arith, (one-to-64 S Z.strips_in).1))
-
--- THE WEIGHTS that a call is passed are three bytes
-pub byte_weights : (W : List ℕ) → length W ≡ 3 → ((i : ℕ) → Fits w8 (get_or W i 0)) → Weights W
-byte_weights W e f = record { three = e; bytes = λ i. omega (arith, (f i).fits) }
 
 -- THE TABLE of weights that suit a code, none of them free
 pub table-priced : {G : Generators} {W rows : List ℕ} → Suits G W → Dear (steps_of W) → Table W rows → Priced W rows

@@ -2,16 +2,16 @@
 // one.
 #![tactic(auto)]
 
-ghost use Rattle.std.specs.Prelude.{◌≡◌, ◌*◌, length};
+ghost use Rattle.std.specs.Prelude.{◌≡◌, ◌*◌, true, length};
 ghost use Rattle.std.proofs.Math.Option.{none};
+ghost use Rattle.cells.specs.Climbs.{Weights};
 ghost use Rattle.cells.specs.Places.{Free};
-ghost use Rattle.cells.specs.Marks.{marks_in};
 ghost use Rattle.cells.specs.Raising.{start_of};
 ghost use Rattle.codes.specs.Codes.{generators_of};
-ghost use Rattle.codes.specs.Layouts.{one_bit};
+ghost use Rattle.codes.specs.Layouts.{one_bit, byte_count};
 ghost use Rattle.search.specs.Strip.{Dear, steps_of};
-ghost use Rattle.page_parts.specs.Shape.{Sized};
-ghost use Rattle.page_promises.specs.Writes.{one_bit_job, job_answer, job_page};
+ghost use Rattle.refusals.specs.Refusals.{one_to_64};
+ghost use Rattle.page_promises.specs.Writes.{job_answer, job_page};
 ghost use Rattle.page_rewriting.specs.Plans.{Planned, Carried};
 
 use carrying::carry_strip;
@@ -22,138 +22,111 @@ use prices::rows_of;
 use trellis::backward::price_strip;
 use trellis::forward::plan_strip;
 
-// What the data of the whole page costs.
-pub fn price_strips(
-    code: Code,
-    weights: [u8; 3],
-    bytes: usize,
-    strips: usize,
-    page: &[u8],
-    map: &[u8],
-    data: &[u8],
-) -> Answer
-    requires sized { Sized one_bit bytes strips page.now «data».now }
-    requires dear { Dear (steps_of weights) }
-    ensures { result ≡ job_answer none (one_bit_job (marks_in map.now) (generators_of code) weights bytes strips page.now
-        «data».now) }
-{
-    let rows = rows_of(weights);
-    let mut total = Total::new();
-    for k in 0..strips {
-        let price = price_strip(
-            code,
-            &rows,
-            strip(page, bytes, k),
-            map_part(map, bytes, k),
-            data_part(data, bytes, k),
-        );
-        total = total.add(price);
-        if total.spent {
-            return total.answer();
+// One data for a page of so many strips, of L bytes of data each, and how it is to be written: by which code, at which weights and around
+// which marked cells. All of it is in order: what a job still asks of a page is its length.
+#[derive(Drop)]
+pub struct Job<'a> {
+    pub code: Code,
+    pub weights: [u8; 3],
+    pub bytes: usize,
+    pub strips: usize,
+    pub map: &'a [u8],
+    pub data: &'a [u8],
+    pub ghost weighed: { Weights weights },
+    pub ghost dear: { Dear (steps_of weights) },
+    pub ghost bytes_in: { one_to_64 bytes ≡ true },
+    pub ghost strips_in: { one_to_64 strips ≡ true },
+    pub ghost data_is: { length «data».now ≡ bytes * strips },
+}
+
+impl Job<'_> {
+    ghost use Rattle.page_rewriting.specs.Jobs.{job_on};
+
+    // What the data of the whole page costs.
+    pub fn price_strips(&self, page: &[u8]) -> Answer
+        requires page_is { length page.now ≡ byte_count one_bit self.now.bytes * self.now.strips }
+        ensures { result ≡ job_answer none (job_on self.now page.now) }
+    {
+        let rows = rows_of(self.weights);
+        let mut total = Total::new();
+        for k in 0..self.strips {
+            let marked = map_part(self.map, self.bytes, k);
+            let price = price_strip(
+                self.code,
+                &rows,
+                strip(page, self.bytes, k),
+                marked,
+                data_part(self.data, self.bytes, k),
+            );
+            total = total.add(price);
+            if total.spent {
+                return total.answer();
+            }
+        }
+        total.answer()
+    }
+
+    // What the data of the whole page costs, and the digits of the cheapest way: a bit a stage, each strip's in its own part. Of a page that
+    // is spent they are free.
+    fn plan_strips(&self, page: &[u8], digits: &mut [u8]) -> Answer
+        requires page_is { length page.now ≡ byte_count one_bit self.now.bytes * self.now.strips }
+        requires digits_len { length digits.old ≡ self.now.bytes * self.now.strips }
+        ensures value { result ≡ job_answer none (job_on self.now page.now) }
+        ensures planned { Planned (generators_of self.now.code) self.now.weights self.now.bytes self.now.strips
+            page.now self.now.map.now self.now.«data».now digits.new }
+        ensures free { Free digits.old digits.new }
+    {
+        let rows = rows_of(self.weights);
+        let mut total = Total::new();
+        for k in 0..self.strips {
+            let a = self.bytes * k;
+            let outcome = plan_strip(
+                self.code,
+                &rows,
+                strip(page, self.bytes, k),
+                map_part(self.map, self.bytes, k),
+                data_part(self.data, self.bytes, k),
+                &mut digits[a..a + self.bytes],
+            );
+            total = total.add(outcome);
+            if total.spent {
+                return total.answer();
+            }
+        }
+        total.answer()
+    }
+
+    // Carries the digits out, strip by strip.
+    fn carry_strips(&self, page: &mut [u8], digits: &[u8])
+        requires page_is { length page.old ≡ byte_count one_bit self.now.bytes * self.now.strips }
+        requires digits_len { length digits.now ≡ self.now.bytes * self.now.strips }
+        ensures { Carried (generators_of self.now.code) self.now.bytes self.now.strips
+            page.old self.now.«data».now digits.now page.new }
+    {
+        let n = codes::STRIP_BYTES * self.bytes;
+        for k in 0..self.strips {
+            let a = n * k;
+            carry_strip(
+                self.code,
+                &mut page[a..a + n],
+                data_part(self.data, self.bytes, k),
+                data_part(digits, self.bytes, k),
+            );
         }
     }
-    total.answer()
-}
 
-// What the data of the whole page costs, and the digits of the cheapest way: a bit a stage, each strip's in its own part. Of a page that is
-// spent they are free.
-fn plan_strips(
-    code: Code,
-    weights: [u8; 3],
-    bytes: usize,
-    strips: usize,
-    page: &[u8],
-    map: &[u8],
-    data: &[u8],
-    digits: &mut [u8],
-) -> Answer
-    requires sized { Sized one_bit bytes strips page.now «data».now }
-    requires dear { Dear (steps_of weights) }
-    requires digits_len { length digits.old ≡ bytes * strips }
-    ensures value { result ≡ job_answer none (one_bit_job (marks_in map.now) (generators_of code) weights bytes strips page.now
-        «data».now) }
-    ensures planned { Planned (generators_of code) weights bytes strips
-        page.now map.now «data».now digits.new }
-    ensures free { Free digits.old digits.new }
-{
-    let rows = rows_of(weights);
-    let mut total = Total::new();
-    for k in 0..strips {
-        let a = bytes * k;
-        let outcome = plan_strip(
-            code,
-            &rows,
-            strip(page, bytes, k),
-            map_part(map, bytes, k),
-            data_part(data, bytes, k),
-            &mut digits[a..a + bytes],
-        );
-        total = total.add(outcome);
-        if total.spent {
-            return total.answer();
+    // Plans every strip, and carries the plans out only where each has one.
+    pub fn write_strips(&self, page: &mut [u8]) -> Answer
+        requires page_is { length page.old ≡ byte_count one_bit self.now.bytes * self.now.strips }
+        ensures value { result ≡ job_answer none (job_on self.now page.old) }
+        ensures page_after { page.new ≡ job_page none (job_on self.now page.old) start_of }
+    {
+        let mut digits = [0u8; 4096];
+        let whole = self.bytes * self.strips;
+        let answer = self.plan_strips(page, &mut digits[0..whole]);
+        if let Answer::Done(_) = answer {
+            self.carry_strips(page, &digits[0..whole]);
         }
+        answer
     }
-    total.answer()
-}
-
-// Carries the digits out, strip by strip.
-fn carry_strips(
-    code: Code,
-    bytes: usize,
-    strips: usize,
-    page: &mut [u8],
-    data: &[u8],
-    digits: &[u8],
-)
-    requires sized { Sized one_bit bytes strips page.old «data».now }
-    requires digits_len { length digits.now ≡ bytes * strips }
-    ensures { Carried (generators_of code) bytes strips
-        page.old «data».now digits.now page.new }
-{
-    let n = codes::STRIP_BYTES * bytes;
-    for k in 0..strips {
-        let a = n * k;
-        carry_strip(
-            code,
-            &mut page[a..a + n],
-            data_part(data, bytes, k),
-            data_part(digits, bytes, k),
-        );
-    }
-}
-
-// Plans every strip, and carries the plans out only where each has one.
-pub fn write_strips(
-    code: Code,
-    weights: [u8; 3],
-    bytes: usize,
-    strips: usize,
-    page: &mut [u8],
-    map: &[u8],
-    data: &[u8],
-) -> Answer
-    requires sized { Sized one_bit bytes strips page.old «data».now }
-    requires dear { Dear (steps_of weights) }
-    ensures value { result ≡ job_answer none (one_bit_job (marks_in map.now) (generators_of code) weights bytes strips page.old
-        «data».now) }
-    ensures page_after { page.new
-        ≡ job_page none (one_bit_job (marks_in map.now) (generators_of code) weights bytes strips
-        page.old «data».now) start_of }
-{
-    let mut digits = [0u8; 4096];
-    let whole = bytes * strips;
-    let answer = plan_strips(
-        code,
-        weights,
-        bytes,
-        strips,
-        page,
-        map,
-        data,
-        &mut digits[0..whole],
-    );
-    if let Answer::Done(_) = answer {
-        carry_strips(code, bytes, strips, page, data, &digits[0..whole]);
-    }
-    answer
 }

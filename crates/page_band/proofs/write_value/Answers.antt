@@ -5,17 +5,26 @@ use Rattle.cells.specs.Raising.{start_of}
 use Rattle.cells.proofs.Marks.{no-map}
 use Rattle.demand.specs.Jobs.{Job}
 use Rattle.page_promises.specs.Writes.{job_answer, job_page}
-use Rattle.page_band.proofs.Values.{lent-in-order, lent-job}
+use Rattle.page_band.proofs.Values.{house-weighed, lent-in-order, lent-job}
 use Rattle.page_band.proofs.write_value.Goals as goal
+
+pub invariant_of-job : goal.invariant_of-job
+invariant_of-job c =
+    let both = lent-in-order c.args.code c.args.page.now c.args.value c.house_weights-weights.ensures c.value_bytes-data.ensures
+    c.requires in
+    record {
+      weighed = rw c.house_weights-weights.ensures house-weighed;
+      dear = both.1;
+      bytes_in = both.0.bytes_in;
+      strips_in = both.0.strips_in;
+      data_is = both.0.data_is;
+    }
 
 pub write_strips-requires : goal.write_strips-requires
 write_strips-requires c =
     let both = lent-in-order c.args.code c.args.page.now c.args.value c.house_weights-weights.ensures c.value_bytes-data.ensures
     c.requires in
-    record {
-      sized = both.0;
-      dear = both.1;
-    }
+    record { page_is = both.0.page_is }
 
 pub returns : goal.returns
 returns c =

@@ -11,13 +11,22 @@ use Rattle.page.specs.Maps.{map_of}
 use Rattle.page.proofs.Calls.{octets, weighed, in-order, answered, turned-away}
 use Rattle.page.proofs.writing.write_if.Goals as goal
 
+pub invariant_of-job : goal.invariant_of-job
+invariant_of-job c =
+    let g = in-order (map_of c.args.map) c.args.weights c.args.code c.args.bytes c.args.strips c.args.page.now c.args.data.now c.judged.ensures c.in-Ok.is in
+    let Z = sized-by _ _ c.args.page.now c.args.data.now (weighted-in-order none _ _ _ _ _ _ _ g) in
+    record {
+      weighed = weighed c.well_formed.1.1.1.0.1.0.1 (λ i. elem_Fits w8 w8 c.args.weights _ i c.well_formed.1.1.1.0.1.1 tt);
+      dear = dear-by none _ _ _ _ _ _ _ g;
+      bytes_in = Z.bytes_in;
+      strips_in = Z.strips_in;
+      data_is = Z.data_is;
+    }
+
 pub write_strips-requires : goal.write_strips-requires
 write_strips-requires c =
     let g = in-order (map_of c.args.map) c.args.weights c.args.code c.args.bytes c.args.strips c.args.page.now c.args.data.now c.judged.ensures c.in-Ok.is in
-    record {
-      sized = sized-by _ _ _ _ (weighted-in-order none _ _ _ _ _ _ _ g);
-      dear = dear-by none _ _ _ _ _ _ _ g;
-    }
+    record { page_is = (weighted-in-order none _ _ _ _ _ _ _ g).page_is }
 
 pub returns-in-Ok : goal.returns-in-Ok
 returns-in-Ok c =

@@ -2,14 +2,14 @@
 -- the strips' plans.
 use mathlib.Core.List.{List}
 use Prim.Native.Nat.{ℕ}
-use Rattle.cells.specs.Marks.{marks_in}
 use Rattle.codes.specs.Codes.{generators_of}
 use Rattle.prices.specs.Prices.{Priced}
-use Rattle.page_promises.specs.Writes.{one_bit_job}
+use Rattle.page_rewriting.specs.Jobs.{job_on}
 use Rattle.page_rewriting.proofs.Loops.{PlannedTo, Reached}
-use Rattle.page_rewriting.proofs.plan_strips.Given as goal
+use Rattle.page_rewriting.proofs.Job.plan_strips.Given as goal
 
 abbrev pub invariant-loop-k : goal.invariant-loop-k
 invariant-loop-k l =
-    ((W : List ℕ) → Priced W l.rows → Reached (one_bit_job (marks_in l.map) (generators_of l.code) W l.bytes l.strips l.page l.data) l.total l.k)
-    × ((W : List ℕ) → Priced W l.rows → PlannedTo (generators_of l.code) W l.bytes l.strips l.page l.map l.data l.digits l.k)
+    let J = l.self in
+    ((W : List ℕ) → Priced W l.rows → Reached (record (job_on J l.page) { weights = W }) l.total l.k)
+    × ((W : List ℕ) → Priced W l.rows → PlannedTo (generators_of J.code) W J.bytes J.strips l.page J.map.now J.«data».now l.digits l.k)
