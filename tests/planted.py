@@ -39,7 +39,7 @@ BACKWARD = "crates/trellis/src/backward.rt"
 READING = "crates/page_reading/src/lib.rt"
 ROWS = "crates/rows/src/lib.rt"
 PARTS = "crates/page_parts/src/lib.rt"
-STRIP = "code, &rows, strip(page, bytes, k), map_part(map, bytes, k), data_part(data, bytes, k)"
+STRIP = "self.code, &rows, strip(page, self.bytes, k), marked, data_part(self.data, self.bytes, k)"
 KEPT = "let mut kept = [0u8; 64]; kept[0] = 1;"
 
 # Where rt cuts the first line of the prover.
@@ -374,12 +374,12 @@ FAULTS = {
             "price_strip is lent",
             {**priced_by(f"price_strip({STRIP}, &mut kept)"), **change(BACKWARD, r"(?<=data: &\[u8\],)(?=\n\) -> Option)", " kept: &mut [u8; 64],")},
         ),
-        ("price_strips makes a &mut of its own [u8; 64]", before(REWRITING, "    let mut total", f"{KEPT} code.read_strip(page, &mut kept[0..1]);\n")),
+        ("price_strips makes a &mut of its own [u8; 64]", before(REWRITING, "        let mut total", f"{KEPT} self.code.read_strip(page, &mut kept[0..1]);\n")),
         ("price_strip makes a &mut of its own u64", in_price_strip("let mut size = data.len(); rows::planted(&mut size);", "pub fn planted(q: &mut usize) {}")),
         ("price_strip keeps [u8; 512] 1 times, and 0 are named", in_price_strip(KEPT.replace("64", "512"))),
         ("price_strip keeps [u32; 64] 2 times, and 1 are named", in_price_strip(KEPT.replace("u8", "u32"))),
         ("last_labels keeps [u8; 64] 1 times, and 0 are named", before(BACKWARD, "    let mut labels", f"{KEPT}\n")),
-        ("plan_strip keeps [u8; 4096] 1 times, and 0 are named", priced_by(f"plan_strip({STRIP}, &mut kept[0..bytes])")),
+        ("plan_strip keeps [u8; 4096] 1 times, and 0 are named", priced_by(f"plan_strip({STRIP}, &mut kept[0..self.bytes])")),
         (
             "census keeps [page_counting::Row; 64] 1 times, and 0 are named",
             append(WRITING, "\npub fn price_planted(page: &[u8]) -> crate::Census {\n    crate::counting::census(1, 1, page)\n}\n"),
