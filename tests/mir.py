@@ -26,10 +26,10 @@ from repository import ROOT, read
 # The number of its variant, which a value of an enum has beside the fields.
 VARIANT = ["tyInt", "8"]
 
-# What of a source is left away: contracts, and what only these and the proofs name. Neither is of the form.
+# What of a source is left away: contracts, models, ghost fields, and what only these and the proofs name. None of them is of the form.
 NO_CODE = re.compile(r"""//[^\n]*|(?<!\w)b"(?:\\.|[^"\\])*"|(?<!\w)b'(?:\\.|[^'\\])'""")
-CLAUSE = re.compile(r"\b(?:requires|ensures)\b\s*[\w-]*\s*(?=\{)")
-GHOST = re.compile(r"^(?:ghost use [^;]*;|#!\[tactic\b[^\n]*)", re.M)
+CLAUSE = re.compile(r"\b(?:(?:requires|ensures)\b\s*[\w-]*|(?:pub\s+)?ghost\s+\w+\s*:|impl\s+Model\s+for\s+\w+)\s*(?=\{)")
+GHOST = re.compile(r"^[ ]*(?:ghost use [^;]*;|#!?\[tactic\b[^\n]*)", re.M)
 
 
 @dataclasses.dataclass
@@ -495,6 +495,7 @@ def without_contracts(source):
         while depth or at == clause.end():
             depth += (masked[at] == "{") - (masked[at] == "}")
             at += 1
+        at += masked[at : at + 1] == ","  # behind a ghost field
         cut.append((clause.start(), at))
     for start, end in sorted(cut, reverse=True):
         source = source[:start] + re.sub(r"[^\n]", " ", source[start:end]) + source[end:]
