@@ -29,7 +29,6 @@ fn with_directory(of_page: Answer, directory: u32) -> Answer
 }
 
 // What a put to page k would cost: the page and the directory, where both take it.
-// The numbers of a put stay parameters: tests/pricing.py takes a struct of more than four numbers for an array that a price keeps.
 fn price_put(
     code: u32,
     bytes: u32,

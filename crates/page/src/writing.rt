@@ -40,7 +40,7 @@ fn map_if(map: Option<&[u8]>) -> &[u8]
 }
 
 // Judges a call of one data or of a list of so many, with a map or without one.
-// The numbers of a call stay parameters: tests/pricing.py takes a struct of more than four numbers for an array that a price keeps.
+// The numbers of a call stay parameters until they are judged: only what is in order makes a job.
 fn judged(
     code: u32,
     bytes: u32,
