@@ -14,14 +14,11 @@ use mathlib.Core.Option.{Option, none, some}
 use Prim.Native.Nat.{ℕ, suc, ◌+◌, ◌*◌, ◌-◌, ◌<◌, ◌≤◌}
 use native.Mathlib.Omega.{arith}
 use native.Mathlib.Nat.{not-suc-le-zero, sub-zero}
-use lib.ListN.{length, get_or, take, drop, length-append}
-use mir.Syntax.{w8}
-use mir.Val.{Fits}
+use lib.ListN.{length, take, drop, length-append}
 use lib.Seq.{drop-drop, take_at, drop_at, length-take-le}
 use Rattle.std.specs.Prelude as Std
 use Rattle.cells.specs.Marks.{marks_in}
 use Rattle.cells.specs.Raising.{start_of, start_in, raised_to}
-use Rattle.cells.specs.Climbs.{Weights}
 use Rattle.cells.proofs.Raising.{raised_to-length}
 use Rattle.cells.proofs.Parts.{within}
 use Rattle.codes.specs.Generators.{Generators}

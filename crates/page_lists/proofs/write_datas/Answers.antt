@@ -76,7 +76,7 @@ pub returns-then-has_ended : goal.returns-then-has_ended
 returns-then-has_ended c =
     let w = written (goal.at.returns-then-has_ended c).After-write_strips-answer in
     let e = turn-ended c.requires.listed c.loop-k-test.true c.loop-k.auto.page (generators_of c.args.code) c.args.weights c.args.map.now
-        c.loop-k.invariant.0 c.loop-k.invariant.1 w.0 w.1 c.with_write-so_far.ensures (sym c.has_ended.ensures ∙ c.if-has_ended.true) in
+    c.loop-k.invariant.0 c.loop-k.invariant.1 w.0 w.1 c.with_write-so_far.ensures (sym c.has_ended.ensures ∙ c.if-has_ended.true) in
     rw e record {
       value = refl;
       page_after = refl;

@@ -1,7 +1,7 @@
 -- The plans answer for the page. Where they are done, carrying them out leaves the page of the write; else nothing is touched.
 use mathlib.Core.Path.{◌≡◌, ◌∙◌}
 use mathlib.Core.List.{◌++◌}
-use Prim.Native.Nat.{ℕ, ◌*◌, ◌-◌}
+use Prim.Native.Nat.{◌*◌, ◌-◌}
 use lib.ListN.{length, drop, replicate}
 use Rattle.codes.specs.Codes.{generators_of}
 use Rattle.trellis.proofs.Ways.{Suits, suits}
