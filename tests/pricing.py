@@ -27,7 +27,7 @@ PLACES = {
     "a state": 64,
     "a byte of a value": 2,  # in a band
     "the number of a page": 1,  # in a block
-    "a number of a job": 8,  # the code, three weights, L, S, a map and the data
+    "a number of a job": 10,  # its code, three weights, L and S, a map and a data, each slice two
 }
 
 # The numbers of an answer, the largest that a price has: a cost, a strip, a refusal, and which of the three it is.
@@ -43,8 +43,10 @@ KEPT = {
     ("codes::Code::generators", "[codes::CodeRow; 2]"): (2, "a code"),  # the table stands in each arm
     ("refusals::free_step", "[u8; 3]"): (1, "a step"),
     ("page::writing::price", "[u8; 3]"): (1, "a step"),
+    ("page::writing::price_if", "[u8; 3]"): (1, "a step"),  # of the job
     ("page::writing::price_if", "page_rewriting::Job"): (1, "a number of a job"),
     ("page_band::price_value", "[u8; 2]"): (1, "a byte of a value"),
+    ("page_band::price_value", "[u8; 3]"): (1, "a step"),  # of the job
     ("page_band::price_value", "page_rewriting::Job"): (1, "a number of a job"),
     ("page_rewriting::Job::price_strips", "[u32; 256]"): (1, "a word of a row"),
     ("prices::row_prices", "[u32; 8]"): (1, "a kind of cell"),
