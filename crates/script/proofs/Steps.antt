@@ -103,6 +103,7 @@ module _ (r : Run) (bytes line page content : List ℕ) (k : Ready r line page c
       let s = position_of r line page in
       Stepped s bytes (record { run = r; printed = text; taken = length bytes }) s
   stopped-step n e = record {
+    near = rw n (omega arith);
     taken_most = omega arith;
     taken_some = λ h. h;
     takes = rw n (stopped-takes (position_of r line page) (take (length bytes) bytes) e);
@@ -128,6 +129,7 @@ module _ (r : Run) (bytes line page content : List ℕ) (k : Ready r line page c
         × Ready next after page content
     part_step n e = (
       record {
+        near = rw n (omega arith);
         taken_most = l.inside;
         taken_some = λ h. omega arith;
         takes = rw (n, on, part-kept) (part-takes (position_of r line page).progress (take r.used line) (take end bytes) unended);
@@ -160,6 +162,7 @@ module _ (r : Run) (bytes line page content : List ℕ) (k : Ready r line page c
       pub line_step : Stepped (position_of r line page) bytes (record { run = t.run; printed = t.printed; taken = end + 1 })
           (position_of t.run after leaf)
       line_step = record {
+        near = told.near;
         taken_most = let i = l.inside in omega arith;
         taken_some = λ h. omega arith;
         takes = rw (ended_by, reached, told.text_is, on, part-kept)

@@ -52,8 +52,9 @@ pub record KeptPart (part before : List ℕ) (used : ℕ) (line : List ℕ) : Ty
   pub part_is : take used line ≡ take (length before) part
   pub others : drop used line ≡ drop used before
 
--- some of the bytes are taken, and the text is all that they print
+-- some of the bytes are taken, and the text, of at most 96 bytes, is all that they print
 pub record Stepped (s : Position) (bytes : List ℕ) (r : Step) (t : Position) : Type 0 where
+  pub near : length r.printed ≤ 96
   pub taken_most : r.taken ≤ length bytes
   pub taken_some : 0 < length bytes → 0 < r.taken
   pub takes : Takes s (take r.taken bytes) r.printed t

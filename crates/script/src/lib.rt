@@ -7,7 +7,7 @@ use text::printing::Printed;
 pub use turns::Run;
 
 // What bytes of the input do: where the run is then, the text that is printed, and how many of the bytes are taken.
-#[derive(Drop)]
+#[derive(Clone, Copy, Drop)]
 pub struct Step {
     pub run: Run,
     pub printed: Printed,

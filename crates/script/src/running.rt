@@ -82,7 +82,8 @@ pub fn take_bytes(run: Run, bytes: &[u8], line: &mut [u8], page: &mut [u8], data
 
 // The end of the input: a line that is missing or not ended is at fault.
 pub fn take_end(run: Run) -> Printed
-    ensures { (line page : List ℕ) → run.used ≤ length line
+    ensures upper_bound { length result ≤ 96 }
+    ensures by_index { (line page : List ℕ) → run.used ≤ length line
         → result ≡ prints_from (position_of run line page) [] }
 {
     let whole = run.used == 0 && run.number > 3;

@@ -9,28 +9,42 @@ use std::marker::Model;
 const ROOM: usize = 96;
 
 // A text, at the end of its bytes: it starts at `at`, and is made from its last byte on.
-#[derive(Drop)]
+#[derive(Clone, Copy, Drop)]
 pub struct Printed {
     bytes: [u8; ROOM],
     at: usize,
 }
 
-// What a contract sees of it is the text.
+// What a contract sees of it is the text. The bytes in front of it are zeros, so that a text says what the fields are: a copy needs that.
 impl Model for Printed {
-    ghost use Rattle.std.specs.Prelude.{List, ℕ, ◌≤◌, drop};
+    ghost use Rattle.std.specs.Prelude.{List, ℕ, ◌≡◌, ◌+◌, ◌-◌, ◌++◌, length, drop, replicate};
+    ghost use Rattle.std.proofs.Common.{ap, sym, ◌∙◌};
+    ghost use Rattle.std.proofs.Math.Nat.{add-sub_cancel};
     ghost use Rattle.text.specs.declared.printing.TheConstants.{ROOM};
 
     ghost Value = { List ℕ };
 
     ghost view = { λ p. drop p.at p.bytes };
 
-    ghost invariant = { λ p. p.at ≤ ROOM };
+    ghost invariant = { λ p. (p.at + length (drop p.at p.bytes) ≡ ROOM)
+        × (p.bytes ≡ replicate p.at 0 ++ drop p.at p.bytes) };
+
+    ghost inverse = { λ text. record {
+      bytes = replicate (ROOM - length text) 0 ++ text;
+      at = ROOM - length text;
+    } };
+
+    ghost inverse_ok = { λ p h i.
+        let text = drop p.at p.bytes in
+        let at_is = ap (λ n. n - length text) (sym h.0) ∙ add-sub_cancel p.at (length text) in
+        record { bytes = (ap (λ n. replicate n 0 ++ text) at_is ∙ sym h.1) i; at = at_is i } };
 }
 
 impl Printed {
     // No text.
     pub fn nothing() -> Printed
-        ensures { result ≡ [] }
+        ensures text_is { result ≡ [] }
+        ensures near { length result ≤ 96 }
     {
         Printed {
             bytes: [0; ROOM],
@@ -90,7 +104,8 @@ impl Printed {
 
     // The row of a write: its number from 1, 0 or 7, the cost, the sum of the levels after it.
     pub fn row(number: u64, answer: u64, cost: u64, levels: u64) -> Printed
-        ensures { result ≡ row_text number answer cost levels }
+        ensures text_is { result ≡ row_text number answer cost levels }
+        ensures near { length result ≤ 96 }
     {
         let mut printed = Printed::nothing();
         printed.put_field(levels, b'\n');
@@ -102,7 +117,8 @@ impl Printed {
 
     // What is printed once line 3 is judged.
     pub fn head() -> Printed
-        ensures { result ≡ head_text }
+        ensures text_is { result ≡ head_text }
+        ensures near { length result ≤ 96 }
     {
         let mut printed = Printed::nothing();
         printed.put_text(b"write answer cost levels\n");
@@ -111,7 +127,8 @@ impl Printed {
 
     // What is printed at a fault: the refusal and the line, with their names.
     pub fn fault(refusal: u64, line: u64) -> Printed
-        ensures { result ≡ fault_text refusal line }
+        ensures text_is { result ≡ fault_text refusal line }
+        ensures near { length result ≤ 96 }
     {
         let mut printed = Printed::nothing();
         printed.put_field(line, b'\n');
@@ -122,7 +139,8 @@ impl Printed {
 
     // The three values, as line 2 has them.
     pub fn values(v: Values) -> Printed
-        ensures { result ≡ values_text v }
+        ensures text_is { result ≡ values_text v }
+        ensures near { length result ≤ 96 }
     {
         let mut printed = Printed::nothing();
         printed.put_decimal(u64::from(v.strips));

@@ -1,7 +1,7 @@
 // A write of the run program, and its row.
 #![tactic(auto)]
 
-ghost use Rattle.std.specs.Prelude.{◌≡◌, ◌≤◌};
+ghost use Rattle.std.specs.Prelude.{◌≡◌, ◌≤◌, length};
 ghost use Rattle.page_answers.specs.Answers.{answer_cost};
 ghost use Rattle.turn_rows.specs.Rows.{size_of, values_page, write_row};
 
@@ -33,6 +33,7 @@ fn answer_cost(a: Answer) -> u64
 // Writes the data to the page, and gives the row.
 pub fn write_row(number: u64, v: Values, page: &mut [u8], data: &[u8]) -> Printed
     ensures row { result ≡ write_row number v page.old «data».now }
+    ensures near { length result ≤ 96 }
     ensures page_after { page.new ≡ values_page v page.old «data».now }
 {
     let answer = writing::write(v.code, v.bytes, v.strips, page, data);

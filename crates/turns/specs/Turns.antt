@@ -5,7 +5,7 @@
 --   line_turn        THE TURN of a line, by its number
 --   run_after        where the run is after a turn, as the program has it
 --   Told, ToldPage   a function's answer tells of a turn, and its page too
-use Rattle.std.specs.Prelude.{◌≡◌, Bool, true, false, cond, ◌&&◌, List, [], ℕ, ◌+◌, ◌-◌, ltb, leb, eqb, replicate}
+use Rattle.std.specs.Prelude.{◌≡◌, Bool, true, false, cond, ◌&&◌, List, [], ℕ, ◌+◌, ◌-◌, ◌≤◌, length, ltb, leb, eqb, replicate}
 use Rattle.std.proofs.Math.Option.{Option, none, some}
 use Rattle.codes.specs.Layouts.{one_bit, byte_count}
 use Rattle.refusals.specs.declared.Refusal.{Refusal}
@@ -78,9 +78,10 @@ line_turn p line =
 abbrev pub run_after : Turned → Run
 run_after t = record { values = t.after.values; number = t.after.number; used = 0; on = t.on }
 
--- the turn's text is printed, and the run is where the turn leaves it
+-- the turn's text is printed, of at most 96 bytes, and the run is where the turn leaves it
 pub record Shown (text : List ℕ) (run : Run) (r : Turn) : Type 0 where
   pub text_is : r.printed ≡ text
+  pub near : length r.printed ≤ 96
   pub run_is : r.run ≡ run
 
 abbrev pub Told : Turned → Turn → Type 0

@@ -36,7 +36,7 @@ impl Run {
 }
 
 // What a whole line does: where the run is then, and the text that is printed.
-#[derive(Drop)]
+#[derive(Clone, Copy, Drop)]
 pub struct Turn {
     pub run: Run,
     pub printed: Printed,

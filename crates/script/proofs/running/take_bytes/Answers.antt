@@ -6,12 +6,12 @@ use Rattle.script.proofs.running.take_bytes.Goals as goal
 
 pub returns-then-not-run-clause-stepped : goal.returns-then-not-run-clause-stepped
 returns-then-not-run-clause-stepped c =
-    stopped-step c.args.run c.args.bytes.now c.args.line.now c.args.page.now c.args.data.now c.requires c.nothing.ensures (not-true _ c.if-not-run.true)
+    stopped-step c.args.run c.args.bytes.now c.args.line.now c.args.page.now c.args.data.now c.requires c.nothing.ensures.text_is (not-true _ c.if-not-run.true)
 
 pub returns-then-end-bytes : goal.returns-then-end-bytes
 returns-then-end-bytes c =
     let both = part_step c.args.run c.args.bytes.now c.args.line.now c.args.page.now c.args.data.now c.requires
-    (not-false _ c.if-not-run.false) c.keep_part-used.ensures.kept_part c.keep_part-used.ensures.line_end c.nothing-then-end-bytes.ensures
+    (not-false _ c.if-not-run.false) c.keep_part-used.ensures.kept_part c.keep_part-used.ensures.line_end c.nothing-then-end-bytes.ensures.text_is
     c.if-end-bytes.true in
     record {
       stepped = both.0;

@@ -6,8 +6,8 @@ use Rattle.script.proofs.running.take_end.Goals as goal
 use Rattle.script.proofs.running.take_end.Goals.{then-not-run-via-then-not-run, then-not-run-via-else-not-run+then-whole}
 use Rattle.script.proofs.running.take_end.Goals.{then-run-eq0, else-run-eq0}
 
-pub returns-then-not-run : goal.returns-then-not-run
-returns-then-not-run c = λ line page h. c.nothing.ensures ∙ sym (elim c.then-not-run.branch [
+pub returns-then-not-run-clause-by_index : goal.returns-then-not-run-clause-by_index
+returns-then-not-run-clause-by_index c = λ line page h. c.nothing.ensures.text_is ∙ sym (elim c.then-not-run.branch [
   | then-not-run-via-then-not-run w ↦ end-stopped c.args.run line page (not-true _ w.if-not-run.true)
   | then-not-run-via-else-not-run+then-whole w ↦ elim c.if-run-eq0.branch [
     | then-run-eq0 t ↦
@@ -16,8 +16,8 @@ returns-then-not-run c = λ line page h. c.nothing.ensures ∙ sym (elim c.then-
   ]
 ])
 
-pub returns : goal.returns
-returns c = λ line page h. c.stop_form.ensures.text_is ∙ sym (elim c.if-run-eq0.branch [
+pub returns-clause-by_index : goal.returns-clause-by_index
+returns-clause-by_index c = λ line page h. c.stop_form.ensures.text_is ∙ sym (elim c.if-run-eq0.branch [
   | then-run-eq0 t ↦
       end-missing c.args.run line page (not-false _ c.if-not-run.false) t.if-run-eq0.true (ltb-false 3 c.args.run.number (sym t.whole-is ∙ c.if-whole.false))
   | else-run-eq0 t ↦ end-open c.args.run line page (not-false _ c.if-not-run.false) h t.if-run-eq0.false

@@ -15,7 +15,7 @@ returns c =
     let e : c.if-five_digits.in_form ≡ five_digits v && same_list line (values_text v) =
     elim c.if-five_digits.branch [
       | then-five_digits w ↦
-          w.in_form-is ∙ w.eq-in_form.ensures ∙ same_list-pointwise line w.text.result.now ∙ ap (same_list line) (w.text.ensures ∙ w.values.ensures)
+          w.in_form-is ∙ w.eq-in_form.ensures ∙ same_list-pointwise line w.text.result.now ∙ ap (same_list line) (w.text.ensures ∙ w.values.ensures.text_is)
           ∙ sym (ap (λ (t : Bool). t && same_list line (values_text v)) (sym c.five_digits.ensures ∙ w.if-five_digits.true))
       | else-five_digits w ↦
           w.in_form-is ∙ w.if-five_digits.false

@@ -13,4 +13,4 @@ pub returns : goal.returns
 unfolding data_turn
 returns c =
     let e = sym c.is_data.ensures ∙ c.if-not-is_data.false in
-    rw e (record { text_is = c.head.ensures; run_is = c.at_line.ensures })
+    rw e (record { text_is = c.head.ensures.text_is; near = c.head.ensures.near; run_is = c.at_line.ensures })

@@ -13,4 +13,4 @@ pub returns : goal.returns
 unfolding names_turn
 returns c =
     let e = sym c.is_names.ensures ∙ c.if-not-is_names.false in
-    rw e (record { text_is = c.nothing.ensures; run_is = c.at_line.ensures })
+    rw e (record { text_is = c.nothing.ensures.text_is; near = c.nothing.ensures.near; run_is = c.at_line.ensures })

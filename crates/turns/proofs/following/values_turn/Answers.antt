@@ -21,4 +21,4 @@ returns-in-Ok c =
     let e =
     values-given (at_line 2 c.args.v []) c.args.line.now (sym c.values_of.ensures ∙ c.in-Some.is) c.judge_sizes.ensures
     c.in-Ok.is in
-    rw e (record { text_is = c.nothing.ensures; run_is = c.at_line.ensures })
+    rw e (record { text_is = c.nothing.ensures.text_is; near = c.nothing.ensures.near; run_is = c.at_line.ensures })
