@@ -6,7 +6,7 @@
 --   PlannedTo, planned-more       the plans of the strips before k
 --   Reached, reached-more, ..     the total after k strips
 --   CarriedUpTo, carried-more     the page with the digits of the strips before k carried out
---   done-page, kept-page          the page that a write leaves
+--   done-page, kept-page, spent-page, not-refused   the page that a write leaves, and that it is not refused
 use mathlib.Core.Path.{◌≡◌, refl, sym, ◌∙◌, ap}
 use mathlib.Core.Bool.{true}
 use mathlib.Core.List.{List, ◌++◌}
@@ -40,6 +40,7 @@ use Rattle.page_answers.specs.Totals.{no_total, added, total_from, answer_for}
 use Rattle.page_promises.specs.Writes.{call_answer, call_page, one_bit_job, job_answer, job_page}
 use Rattle.page_rewriting.specs.Plans.{Planned, Carried}
 use Rattle.page_rewriting.specs.declared.Job.{Job as Rewriting}
+use Rattle.refusals.specs.declared.Refusal.{Refusal}
 use Rattle.page_answers.specs.declared.Total.{Total}
 use Rattle.page_answers.specs.declared.Answer.{Answer}
 use Rattle.page_answers.specs.declared.Answer.TheVariants as A
@@ -283,3 +284,16 @@ module _ {G : Generators} {W : List ℕ} (K : Suits G W) (D : Dear (steps_of W))
       go : (w : Option Solution) → r ≡ call_answer none w (spent_strip J) → before ≡ call_page none w raised before
       go none h = refl
       go (some a) h = absurd (f a.cost h)
+
+  -- so where it is spent
+  pub spent-page : {n : ℕ} → r ≡ A.Spent n → before ≡ job_page none (one_bit_job (marks_in map) G W L S before content) start_of
+  spent-page f = kept-page (λ cost d. let z : ◌≡◌ {A = Answer} (A.Spent _) (A.Done cost) = sym f ∙ d in absurd (let y : ⊥ = cc in y))
+
+  -- and it is not refused
+  pub not-refused : {q : Refusal} → r ≡ A.Refused q → ⊥
+  unfolding job_answer
+  not-refused {q} f = go (page_write J) e
+    where
+      go : (w : Option Solution) → r ≡ call_answer none w (spent_strip J) → ⊥
+      go none h = let z : ◌≡◌ {A = ℕ} 0 1 = cc in omega arith
+      go (some a) h = let z : ◌≡◌ {A = ℕ} 0 1 = cc in omega arith
