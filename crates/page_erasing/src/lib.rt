@@ -13,7 +13,10 @@ use refusals::Completion;
 pub fn clear(page: &mut [u8])
     ensures { page.new ≡ replicate (length page.old) 0 }
 {
-    page.fill(0);
+    // not by `fill`, which keeps more on the stack of an erase
+    for byte in page {
+        *byte = 0;
+    }
 }
 
 // Byte number `third` of three bytes, whose eight cells are marked by the bits of `marked`: the bits of the marked cells, and zeros for the
