@@ -4,17 +4,23 @@ what is behind such a part (docs/DECISIONS.md), so that a store beside it would 
 whose result holds a `&mut`.
 
 1. It stores through no reference. An array of its own, which is stored in through one, is not needed to find a place.
-2. It lends what may be changed to such functions alone.
+2. It lends what may be changed to such functions alone. Where a function takes a type as a parameter, what it is handed may be changed by it, also
+   through a closure that is handed over beside.
 """
 import mir
 from repository import finish
+
+
+def may_change(types, kind):
+    """Whether a function can change what it is handed as this type: it holds a `&mut`, or a type that the caller names, which can hold one."""
+    return kind[0] == "tyParam" or types.mutable(kind) or any(may_change(types, part) for part in types.parts(kind))
 
 
 def faults(f, functions, types, finders):
     if f.stores:
         yield f"{f.name} stores through a reference, and hands out a &mut (rule 1)"
     for called in (functions[name] for name in sorted(f.calls - finders)):
-        if called.unknown or any(map(types.mutable, called.locals[1 : called.parameters + 1])):
+        if called.unknown or any(may_change(types, kind) for kind in called.locals[1 : called.parameters + 1]):
             yield f"{f.name} lends {called.name} what it may change, and hands out a &mut (rule 2)"
 
 

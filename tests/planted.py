@@ -420,6 +420,7 @@ FAULTS = {
         ("page_parts::strip_mut stores through a reference", in_strip_mut("let mut i = 0; while i < page.len() { page[i] = 0; i += 1; }")),
         ("page_parts::strip_mut lends page_parts::planted", in_strip_mut("planted(page);", f"fn planted(page: &mut [u8]) {{ {STORE} }}")),
         ("page_parts::strip_mut lends cells::raise", in_strip_mut("cells::raise(page, 0);")),
+        ("page_parts::strip_mut lends core::iter", in_strip_mut("page.iter_mut().for_each(|byte| *byte = 0);")),
         (
             "page_parts::planted stores through a reference",
             in_strip_mut("let page = planted(page);", f"fn planted(page: &mut [u8]) -> &mut [u8] {{ {STORE} page }}"),
