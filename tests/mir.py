@@ -41,6 +41,7 @@ class Function:
     calls: set  # the names of what it calls
     stores: set  # the locals through which it stores: not the local itself is assigned, but what it leads to
     leads: list  # for each local where it can lead: ("own", n) to the local n itself, ("lent", n) where the parameter n leads
+    bound: bool = False  # whether it calls a method of a bound, which is none of `calls`
     unknown: str = ""  # why it is not understood
 
 
@@ -242,7 +243,9 @@ class Kept:
                 case _:
                     raise NotUnderstood(f"{name} has a statement that is not understood: {part}")
         locals_ = [(self.kind(local["ty"]), local["home"] == "MemorySlot") for local in said["locals"]]
-        return function(name, said["params"], locals_, calls, stored)
+        made = function(name, said["params"], locals_, calls, stored)
+        made.bound = any(isinstance(part, dict) and "Method" in part.get("Call", [{}])[0] for part in said["body"])
+        return made
 
     def read(self, path):
         """The functions of a library, and the types with a name."""
@@ -261,7 +264,7 @@ class Kept:
             try:
                 functions[name], types = self.function(name, said), dict(map(self.named, said["types"]))
             except NotUnderstood as why:
-                functions[name], types = Function(name, 0, [], set(), set(), set(), [], str(why)), {}
+                functions[name], types = Function(name, 0, [], set(), set(), set(), [], unknown=str(why)), {}
             named.update(types)
         for name in wanted - functions.keys():
             if name.endswith("::*"):

@@ -5,7 +5,7 @@ whose result holds a `&mut`.
 
 1. It stores through no reference. An array of its own, which is stored in through one, is not needed to find a place.
 2. It lends what may be changed to such functions alone. Where a function takes a type as a parameter, what it is handed may be changed by it, also
-   through a closure that is handed over beside.
+   by a closure that is handed over beside. A method of a bound is no such function.
 """
 import mir
 from repository import finish
@@ -19,6 +19,8 @@ def may_change(types, kind):
 def faults(f, functions, types, finders):
     if f.stores:
         yield f"{f.name} stores through a reference, and hands out a &mut (rule 1)"
+    if f.bound:
+        yield f"{f.name} calls a method of a bound, and hands out a &mut (rule 2)"
     for called in (functions[name] for name in sorted(f.calls - finders)):
         if called.unknown or any(may_change(types, kind) for kind in called.locals[1 : called.parameters + 1]):
             yield f"{f.name} lends {called.name} what it may change, and hands out a &mut (rule 2)"

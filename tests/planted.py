@@ -422,6 +422,13 @@ FAULTS = {
         ("page_parts::strip_mut lends cells::raise", in_strip_mut("cells::raise(page, 0);")),
         ("page_parts::strip_mut lends core::iter", in_strip_mut("page.iter_mut().for_each(|byte| *byte = 0);")),
         (
+            "has a call that is not understood",
+            in_strip_mut(
+                "let page = planted(page, |part: &mut [u8]| part[0] = 0);",
+                "fn planted<F: FnMut(&mut [u8])>(page: &mut [u8], mut f: F) -> &mut [u8] { f(page); page }",
+            ),
+        ),
+        (
             "page_parts::planted stores through a reference",
             in_strip_mut("let page = planted(page);", f"fn planted(page: &mut [u8]) -> &mut [u8] {{ {STORE} page }}"),
         ),
