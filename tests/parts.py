@@ -12,7 +12,7 @@ from repository import finish
 
 
 def may_change(types, kind):
-    """Whether a function can change what it is handed as this type: it holds a `&mut`, or a type that the caller names, which can hold one."""
+    """Whether a function can change what it is handed as this type: it holds a `&mut`, or a type of the caller's, which can hold one."""
     return kind[0] == "tyParam" or types.mutable(kind) or any(may_change(types, part) for part in types.parts(kind))
 
 

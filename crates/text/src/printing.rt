@@ -15,7 +15,8 @@ pub struct Printed {
     at: usize,
 }
 
-// What a contract sees of it is the text. The bytes in front of it are zeros, so that a text says what the fields are: a copy needs that.
+// What a contract sees of it is the text. The bytes in front of it are zeros, so that the text says what the fields are,
+// which a type needs to be `Copy`.
 impl Model for Printed {
     ghost use Rattle.std.specs.Prelude.{List, ℕ, ◌≡◌, ◌+◌, ◌-◌, ◌++◌, length, drop, replicate};
     ghost use Rattle.std.proofs.Common.{ap, sym, ◌∙◌};
